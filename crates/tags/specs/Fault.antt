@@ -1,0 +1,22 @@
+-- The numbers of the refusals.
+use Rattle.std.specs.Prelude.{ℕ}
+use Rattle.tags.specs.declared.fault.Fault.{Fault}
+use Rattle.tags.specs.declared.fault.Fault.TheVariants.{Memory, Short, BadTag, BadLength, BadVersion, TooLong, NoInvokeId, Unbound, NoRoute, TableFull, Expired, Forged, NoSuch, Wire, BadSite}
+
+-- the number that a refusal is printed with
+abbrev pub number_of : Fault → ℕ
+number_of Memory = 1
+number_of Short = 2
+number_of BadTag = 3
+number_of BadLength = 4
+number_of BadVersion = 5
+number_of TooLong = 6
+number_of NoInvokeId = 7
+number_of Unbound = 8
+number_of NoRoute = 9
+number_of TableFull = 10
+number_of Expired = 11
+number_of Forged = 12
+number_of NoSuch = 13
+number_of Wire = 14
+number_of BadSite = 15
