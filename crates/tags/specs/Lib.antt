@@ -1,1 +1,4 @@
 pub mod Fault
+pub mod Tag
+pub mod TagReading
+pub mod Number

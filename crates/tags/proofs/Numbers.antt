@@ -1,0 +1,63 @@
+-- Numbers in two and four octets, read and written again.
+use Rattle.std.proofs.Common.{◌≡◌, ℕ, zero, suc, ◌-◌, ◌+◌, ◌^◌, ◌<◌, ◌≤◌, List, [], ◌∷◌, ◌++◌, length, get_or, drop, refl, arith, inl, inr}
+use Rattle.std.proofs.lemmas.List.{get_or-drop}
+use Rattle.std.specs.Prelude.{FitsSigned}
+use Rattle.std.specs.Int.{w32}
+use Rattle.std.proofs.Math.Nat.{pow-le-pow_right}
+use Rattle.std.proofs.lemmas.Bool.{cases_lt, lt-ltb, le-ltb}
+use Rattle.std.proofs.lemmas.Int.{ints}
+use Rattle.byteorder.specs.Numbers.{big_from-lt}
+use Rattle.byteorder.specs.Endian.{big_number, big_bytes, twos_complement}
+
+abbrev pub IsBytes : List ℕ → Type 0
+IsBytes bytes = (i : ℕ) → get_or bytes i 0 < 256
+
+pub IsBytes-rest : (b : ℕ) (bytes : List ℕ) → IsBytes (b ∷ bytes) → IsBytes bytes
+IsBytes-rest b bytes h i = h (suc i)
+
+pub IsBytes-drop : (n : ℕ) (bytes : List ℕ) → IsBytes bytes → IsBytes (drop n bytes)
+IsBytes-drop n bytes h i = rw get_or-drop (h (n + i))
+
+cell : (a b : ℕ) (xs ys : List ℕ) → a ≡ b → xs ≡ ys → a ∷ xs ≡ b ∷ ys
+cell a b xs ys e f = cc
+
+pub two_again : (bytes : List ℕ) → 2 ≤ length bytes → IsBytes bytes → bytes ≡ big_bytes 2 (big_number 2 bytes) ++ drop 2 bytes
+two_again [] le fits = absurd (omega arith)
+two_again (a ∷ []) le fits = absurd (omega arith)
+two_again (a ∷ b ∷ rest) le fits =
+    cell a _ _ _ (omega (arith, fits 0, fits 1)) (cell b _ _ _ (omega (arith, fits 0, fits 1)) refl)
+
+pub four_again : (bytes : List ℕ) → 4 ≤ length bytes → IsBytes bytes → bytes ≡ big_bytes 4 (big_number 4 bytes) ++ drop 4 bytes
+four_again [] le fits = absurd (omega arith)
+four_again (a ∷ []) le fits = absurd (omega arith)
+four_again (a ∷ b ∷ []) le fits = absurd (omega arith)
+four_again (a ∷ b ∷ c ∷ []) le fits = absurd (omega arith)
+four_again (a ∷ b ∷ c ∷ d ∷ rest) le fits =
+    cell a _ _ _ (omega (arith, fits 0, fits 1, fits 2, fits 3)) (cell b _ _ _ (omega (arith, fits 0, fits 1, fits 2, fits 3)) (cell c _ _ _ (omega (arith, fits 0, fits 1, fits 2, fits 3)) (cell d _ _ _ (omega (arith, fits 0, fits 1, fits 2, fits 3)) refl)))
+
+-- the last octets of a number
+pub last_octets : (k n : ℕ) → k ≤ 4 → drop (4 - k) (big_bytes 4 n) ≡ big_bytes k n
+last_octets zero n le = refl
+last_octets (suc zero) n le = refl
+last_octets (suc (suc zero)) n le = refl
+last_octets (suc (suc (suc zero))) n le = refl
+last_octets (suc (suc (suc (suc zero)))) n le = refl
+last_octets (suc (suc (suc (suc (suc k))))) n le = absurd (omega arith)
+
+pub number_below : (n : ℕ) (octets : List ℕ) → n ≤ 4 → IsBytes octets → big_number n octets < 2 ^ 32
+number_below n octets le fits =
+    let a = big_from-lt 0 n octets fits in
+    let b = pow-le-pow_right {n = 256} (omega arith) {i = n} {j = 4} le in
+    omega (arith, a, b)
+
+pub signed_fits : (n u : ℕ) → 0 < n → n ≤ 4 → u < 256 ^ n → FitsSigned w32 (twos_complement n u)
+signed_fits zero u some few lt = absurd (omega arith)
+signed_fits (suc zero) u some few lt =
+    elim (cases_lt u 128) [ inl low ↦ rw (lt-ltb u 128 low) (omega (arith, ints)) | inr high ↦ rw (le-ltb u 128 high) (omega (arith, ints)) ]
+signed_fits (suc (suc zero)) u some few lt =
+    elim (cases_lt u 32768) [ inl low ↦ rw (lt-ltb u 32768 low) (omega (arith, ints)) | inr high ↦ rw (le-ltb u 32768 high) (omega (arith, ints)) ]
+signed_fits (suc (suc (suc zero))) u some few lt =
+    elim (cases_lt u (2 ^ 23)) [ inl low ↦ rw (lt-ltb u (2 ^ 23) low) (omega (arith, ints)) | inr high ↦ rw (le-ltb u (2 ^ 23) high) (omega (arith, ints)) ]
+signed_fits (suc (suc (suc (suc zero)))) u some few lt =
+    elim (cases_lt u (2 ^ 31)) [ inl low ↦ rw (lt-ltb u (2 ^ 31) low) (omega (arith, ints)) | inr high ↦ rw (le-ltb u (2 ^ 31) high) (omega (arith, ints)) ]
+signed_fits (suc (suc (suc (suc (suc n))))) u some few lt = absurd (omega arith)

@@ -1,0 +1,67 @@
+//! The values that tags carry (20.2).
+
+ghost use Rattle.std.specs.Prelude.{◌≡◌, IfOk};
+
+use crate::items::Octets;
+use crate::object_id::ObjectId;
+use std::alloc::{AllocError, Allocator};
+
+/// A value: one of the primitive types of clause 20.2, or a context-tagged element as its octets.
+#[derive(Drop)]
+#[derive_where(PartialEq, Eq, Debug)]
+pub enum Value<A: Allocator> {
+    /// Null (20.2.2).
+    Null,
+    /// Boolean (20.2.3).
+    Bool(bool),
+    /// Unsigned Integer (20.2.4).
+    Unsigned(u32),
+    /// Signed Integer (20.2.5).
+    Signed(i32),
+    /// Character String: the number of its character set, 0 for UTF-8, and its octets (20.2.9).
+    Text { set: u8, octets: Octets<A> },
+    /// Bit String: the number of unused bits in the last octet, 0 to 7, and its octets (20.2.10).
+    Bits { unused: u8, octets: Octets<A> },
+    /// Enumerated (20.2.11).
+    Enum(u32),
+    /// Object Identifier (20.2.14).
+    Object(ObjectId),
+    /// Any other application tag: its number, 4 to 6, 10, 11 or 13 to 254, and its contents,
+    /// which are not looked into.
+    Other { tag: u8, octets: Octets<A> },
+    /// One context-tagged element as it stands: a primitive, or all from an opening tag to the
+    /// closing tag that balances it.
+    Built(Octets<A>),
+}
+
+impl<A: Allocator + Copy> Value<A> {
+    /// An equal value, in memory of the same allocator.
+    ///
+    /// # Errors
+    /// Want of memory.
+    pub fn copy(&self) -> Result<Self, AllocError>
+        ensures { IfOk result (λ copy. copy ≡ self.now) }
+    {
+        Ok(match self {
+            Value::Null => Value::Null,
+            Value::Bool(value) => Value::Bool(*value),
+            Value::Unsigned(number) => Value::Unsigned(*number),
+            Value::Signed(number) => Value::Signed(*number),
+            Value::Text { set, octets } => Value::Text {
+                set: *set,
+                octets: octets.copy()?,
+            },
+            Value::Bits { unused, octets } => Value::Bits {
+                unused: *unused,
+                octets: octets.copy()?,
+            },
+            Value::Enum(number) => Value::Enum(*number),
+            Value::Object(object) => Value::Object(*object),
+            Value::Other { tag, octets } => Value::Other {
+                tag: *tag,
+                octets: octets.copy()?,
+            },
+            Value::Built(octets) => Value::Built(octets.copy()?),
+        })
+    }
+}
