@@ -1,8 +1,7 @@
 //! Lists that contracts see as the list of their elements, whatever memory holds them.
 
-ghost use Rattle.std.specs.Prelude.{◌≡◌, ◌∷◌, ◌++◌, ◌↔◌, [], List, OnOk, OnErr, IfOk, IfErr, IsTrue, length};
+ghost use Rattle.std.specs.Prelude.{◌≡◌, ◌∷◌, ◌++◌, ◌↔◌, [], List, OnOk, OnErr, IfOk, IsTrue, length};
 
-use crate::fault::Fault;
 use std::alloc::{AllocError, Allocator};
 use std::fmt;
 use std::marker::Model;
@@ -69,12 +68,11 @@ impl<T, A: Allocator> Items<T, A> {
     }
 
     /// Puts an element at the end. An `Err` leaves the list as it was.
-    pub fn push(&mut self, item: T) -> Result<(), Fault>
+    pub fn push(&mut self, item: T) -> Result<(), AllocError>
     where
         T: Drop,
-        ensures ok { OnOk result (self.new ≡ self.old ++ item ∷ []) }
-        ensures memory { IfErr result (λ fault. fault ≡ Fault.Memory) }
-        ensures err { OnErr result (self.new ≡ self.old) }
+        ensures pushed { OnOk result (self.new ≡ self.old ++ item ∷ []) }
+        ensures unchanged { OnErr result (self.new ≡ self.old) }
     {
         self.held.push(item)?;
         Ok(())

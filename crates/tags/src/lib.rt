@@ -1,4 +1,14 @@
-//! Tagged values.
+//! Tagged values (ANSI/ASHRAE 135, clause 20.2), and what all crates above share: the refusals
+//! and the lists that contracts see as lists.
+//!
+//! To the layers above it promises: what is read is spelled so, what is written is the shortest
+//! spelling, and a refusal comes only for its stated cause and changes nothing.
+//!
+//! - `fault`: the fifteen refusals.
+//! - `items`: lists and lists of octets over an allocator.
+//! - `tag`, `reader`: tags, and reading them from left to right.
+//! - `number`, `object_id`: numbers and object identifiers as contents octets.
+//! - `value`, `writer`: values, and writing them and tags.
 #![tactic(auto)]
 
 mod fault;
@@ -8,6 +18,7 @@ mod object_id;
 mod reader;
 mod tag;
 mod value;
+mod writer;
 
 pub use fault::Fault;
 pub use items::{Items, Octets};
@@ -16,3 +27,4 @@ pub use object_id::ObjectId;
 pub use reader::Reader;
 pub use tag::{Class, Content, Tag};
 pub use value::Value;
+pub use writer::{write_object, write_tag, write_unsigned, write_value};

@@ -1,0 +1,278 @@
+//! Writing tags and values at the end of a buffer, in their shortest form (20.2).
+
+ghost use Rattle.std.specs.Prelude.{◌≡◌, ◌<◌, ◌≤◌, ◌^◌, ◌++◌, ◌∷◌, OnOk, OnErr, IfErr, length};
+ghost use Rattle.byteorder.specs.Endian.{big_bytes};
+ghost use Rattle.tags.specs.Tag.{initial_octets, plain_content, HasContents};
+ghost use Rattle.tags.specs.Number.{unsigned_octets, signed_octets, object_octets, IsSoundObject};
+ghost use Rattle.tags.specs.Value.{IsSound};
+ghost use Rattle.tags.specs.Canonical.{shortest, tag_front, tagged, canonical_tag, IsSoundTag, canonical, Extends};
+
+use crate::fault::Fault;
+use crate::number::{signed_width_of, width_of};
+use crate::object_id::ObjectId;
+use crate::tag::{Class, Content, Tag};
+use crate::value::Value;
+use std::alloc::{AllocError, Allocator};
+
+/// Appends the shortest octets of a value (20.2).
+///
+/// # Errors
+/// `Memory` alone. The buffer is then as it was.
+pub fn write_value<A: Allocator, B: Allocator>(
+    value: &Value<A>,
+    out: &mut Vec<u8, B>,
+) -> Result<(), Fault>
+    requires { IsSound value.now }
+    ensures written { OnOk result (out.new.items ≡ out.old.items ++ canonical value.now) }
+    ensures memory { IfErr result (λ fault. fault ≡ Fault.Memory) }
+    ensures unchanged { OnErr result (out.new.items ≡ out.old.items) }
+{
+    let start = out.len();
+    if put_value(value, out).is_err() {
+        out.truncate(start);
+        return Err(Fault::Memory);
+    }
+    Ok(())
+}
+
+/// Appends the shortest octets of a tag with its contents (20.2.1).
+///
+/// # Errors
+/// `Memory` alone. The buffer is then as it was.
+pub fn write_tag<B: Allocator>(tag: &Tag<'_>, out: &mut Vec<u8, B>) -> Result<(), Fault>
+    requires { IsSoundTag tag.now.class tag.now.number (plain_content tag.now.content) }
+    ensures written { OnOk result (out.new.items ≡ out.old.items ++ canonical_tag tag.now.class tag.now.number (plain_content tag.now.content)) }
+    ensures memory { IfErr result (λ fault. fault ≡ Fault.Memory) }
+    ensures unchanged { OnErr result (out.new.items ≡ out.old.items) }
+{
+    let start = out.len();
+    if put_tag(tag, out).is_err() {
+        out.truncate(start);
+        return Err(Fault::Memory);
+    }
+    Ok(())
+}
+
+/// Appends a number under a tag of this class and number (20.2.4, 20.2.11, 20.2.15).
+///
+/// # Errors
+/// `Memory` alone. The buffer is then as it was.
+pub fn write_unsigned<B: Allocator>(
+    class: Class,
+    number: u8,
+    n: u32,
+    out: &mut Vec<u8, B>,
+) -> Result<(), Fault>
+    requires may { HasContents class number }
+    requires number_fits { number < 255 }
+    ensures written { OnOk result (out.new.items ≡ out.old.items ++ tagged class number (unsigned_octets n)) }
+    ensures memory { IfErr result (λ fault. fault ≡ Fault.Memory) }
+    ensures unchanged { OnErr result (out.new.items ≡ out.old.items) }
+{
+    let start = out.len();
+    if put_unsigned(class, number, n, out).is_err() {
+        out.truncate(start);
+        return Err(Fault::Memory);
+    }
+    Ok(())
+}
+
+/// Appends an object identifier under a tag of this class and number (20.2.14, 20.2.15).
+///
+/// # Errors
+/// `Memory` alone. The buffer is then as it was.
+pub fn write_object<B: Allocator>(
+    class: Class,
+    number: u8,
+    object: ObjectId,
+    out: &mut Vec<u8, B>,
+) -> Result<(), Fault>
+    requires may { HasContents class number }
+    requires number_fits { number < 255 }
+    requires sound { IsSoundObject object.object_type object.instance }
+    ensures written { OnOk result (out.new.items ≡ out.old.items ++ tagged class number (object_octets object.object_type object.instance)) }
+    ensures memory { IfErr result (λ fault. fault ≡ Fault.Memory) }
+    ensures unchanged { OnErr result (out.new.items ≡ out.old.items) }
+{
+    let start = out.len();
+    if put_object(class, number, object, out).is_err() {
+        out.truncate(start);
+        return Err(Fault::Memory);
+    }
+    Ok(())
+}
+
+fn put_value<A: Allocator, B: Allocator>(
+    value: &Value<A>,
+    out: &mut Vec<u8, B>,
+) -> Result<(), AllocError>
+    requires { IsSound value.now }
+    ensures put { OnOk result (out.new.items ≡ out.old.items ++ canonical value.now) }
+    ensures err { OnErr result (Extends out.old.items out.new.items) }
+{
+    let class = Class::Application;
+    match value {
+        Value::Null => out.push(0)?,
+        Value::Bool(value) => out.push(if *value { 17 } else { 16 })?,
+        Value::Unsigned(number) => put_unsigned(class, 2, *number, out)?,
+        Value::Signed(number) => put_signed(*number, out)?,
+        Value::Text { set, octets } => put_behind(7, *set, octets.as_slice(), out)?,
+        Value::Bits { unused, octets } => put_behind(8, *unused, octets.as_slice(), out)?,
+        Value::Enum(number) => put_unsigned(class, 9, *number, out)?,
+        Value::Object(object) => put_object(class, 12, *object, out)?,
+        Value::Other { tag, octets } => put_tagged(class, *tag, octets.as_slice(), out)?,
+        Value::Built(octets) => out.extend_from_slice(octets.as_slice())?,
+    }
+    Ok(())
+}
+
+fn put_tag<B: Allocator>(tag: &Tag<'_>, out: &mut Vec<u8, B>) -> Result<(), AllocError>
+    requires { IsSoundTag tag.now.class tag.now.number (plain_content tag.now.content) }
+    ensures put { OnOk result (out.new.items ≡ out.old.items ++ canonical_tag tag.now.class tag.now.number (plain_content tag.now.content)) }
+    ensures err { OnErr result (Extends out.old.items out.new.items) }
+{
+    match tag.content {
+        Content::Null => out.push(0)?,
+        Content::Boolean(value) => out.push(if value { 17 } else { 16 })?,
+        Content::Octets(octets) => put_tagged(tag.class, tag.number, octets, out)?,
+        Content::Opening => put_initial(Class::Context, tag.number, 6, out)?,
+        Content::Closing => put_initial(Class::Context, tag.number, 7, out)?,
+    }
+    Ok(())
+}
+
+fn put_initial<B: Allocator>(
+    class: Class,
+    number: u8,
+    low: u8,
+    out: &mut Vec<u8, B>,
+) -> Result<(), AllocError>
+    requires { low < 8 }
+    ensures put { OnOk result (out.new.items ≡ out.old.items ++ initial_octets class number low) }
+    ensures err { OnErr result (Extends out.old.items out.new.items) }
+{
+    let bit = match class {
+        Class::Application => 0,
+        Class::Context => 8,
+    };
+    if number < 15 {
+        out.push(16 * number + bit + low)?;
+    } else {
+        out.push(16 * 15 + bit + low)?;
+        out.push(number)?;
+    }
+    Ok(())
+}
+
+#[tactic(auto, unfolding(crate::specs::Canonical::shortest))]
+fn put_front<B: Allocator>(
+    class: Class,
+    number: u8,
+    len: usize,
+    out: &mut Vec<u8, B>,
+) -> Result<(), AllocError>
+    requires { len < 2 ^ 32 }
+    ensures put { OnOk result (out.new.items ≡ out.old.items ++ tag_front class number len) }
+    ensures err { OnErr result (Extends out.old.items out.new.items) }
+{
+    if len < 5 {
+        return put_initial(class, number, len as u8, out);
+    }
+    put_initial(class, number, 5, out)?;
+    if len < 254 {
+        out.push(len as u8)?;
+    } else if len < 65536 {
+        out.push(254)?;
+        out.extend_from_slice(&(len as u16).to_be_bytes())?;
+    } else {
+        out.push(255)?;
+        out.extend_from_slice(&(len as u32).to_be_bytes())?;
+    }
+    Ok(())
+}
+
+fn put_tagged<B: Allocator>(
+    class: Class,
+    number: u8,
+    octets: &[u8],
+    out: &mut Vec<u8, B>,
+) -> Result<(), AllocError>
+    requires { length octets.now < 2 ^ 32 }
+    ensures put { OnOk result (out.new.items ≡ out.old.items ++ tagged class number octets.now) }
+    ensures err { OnErr result (Extends out.old.items out.new.items) }
+{
+    put_front(class, number, octets.len(), out)?;
+    out.extend_from_slice(octets)
+}
+
+/// One octet and then these, as the contents of an application tag.
+fn put_behind<B: Allocator>(
+    number: u8,
+    first: u8,
+    octets: &[u8],
+    out: &mut Vec<u8, B>,
+) -> Result<(), AllocError>
+    requires { length octets.now < 2 ^ 31 }
+    ensures put { OnOk result (out.new.items ≡ out.old.items ++ tagged Class.Application number (first ∷ octets.now)) }
+    ensures err { OnErr result (Extends out.old.items out.new.items) }
+{
+    put_front(Class::Application, number, octets.len() + 1, out)?;
+    out.push(first)?;
+    out.extend_from_slice(octets)
+}
+
+/// The last octets of a number, as contents.
+#[tactic(auto, using(crate::proofs::Numbers::last_octets))]
+fn put_last<B: Allocator>(
+    class: Class,
+    number: u8,
+    n: u32,
+    count: usize,
+    out: &mut Vec<u8, B>,
+) -> Result<(), AllocError>
+    requires { count ≤ 4 }
+    ensures put { OnOk result (out.new.items ≡ out.old.items ++ tagged class number (big_bytes count n)) }
+    ensures err { OnErr result (Extends out.old.items out.new.items) }
+{
+    let octets = n.to_be_bytes();
+    let (_, last) = octets.split_at(4 - count);
+    put_tagged(class, number, last, out)
+}
+
+fn put_unsigned<B: Allocator>(
+    class: Class,
+    number: u8,
+    n: u32,
+    out: &mut Vec<u8, B>,
+) -> Result<(), AllocError>
+    ensures put { OnOk result (out.new.items ≡ out.old.items ++ tagged class number (unsigned_octets n)) }
+    ensures err { OnErr result (Extends out.old.items out.new.items) }
+{
+    put_last(class, number, n, width_of(n), out)
+}
+
+fn put_signed<B: Allocator>(number: i32, out: &mut Vec<u8, B>) -> Result<(), AllocError>
+    ensures put { OnOk result (out.new.items ≡ out.old.items ++ tagged Class.Application 3 (signed_octets number)) }
+    ensures err { OnErr result (Extends out.old.items out.new.items) }
+{
+    put_last(
+        Class::Application,
+        3,
+        number.cast_unsigned(),
+        signed_width_of(number),
+        out,
+    )
+}
+
+fn put_object<B: Allocator>(
+    class: Class,
+    number: u8,
+    object: ObjectId,
+    out: &mut Vec<u8, B>,
+) -> Result<(), AllocError>
+    requires { IsSoundObject object.object_type object.instance }
+    ensures put { OnOk result (out.new.items ≡ out.old.items ++ tagged class number (object_octets object.object_type object.instance)) }
+    ensures err { OnErr result (Extends out.old.items out.new.items) }
+{
+    put_tagged(class, number, &object.to_contents(), out)
+}
