@@ -66,3 +66,9 @@ read_properties (Some properties) property index = read_value_of (value_of prope
 -- what the device answers: the first rule that holds (15.5.2)
 abbrev pub reply : {A : Type 0} → PlainTable A → Request → Reply A
 reply t (Read object property index) = read_properties (properties_of t object) property index
+
+-- what this product's objects answer so far: one Enumerated, 0 or 1, or an error
+abbrev pub IsSoundReply : {A : Type 0} → Reply A → Type 0
+IsSoundReply (Values (value.Enum n ∷ [])) = n < 2
+IsSoundReply (Values vs) = ⊥
+IsSoundReply (Error c e) = Unit {0}

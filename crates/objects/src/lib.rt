@@ -17,3 +17,5 @@ pub use object::{BinaryPresentValue, BinaryValue, ObjectType, Property};
 pub use plain_data::{ErrorClass, ErrorCode, Reply, Request};
 pub use table::Table;
 
+#[cfg(test)]
+mod tests;

@@ -26,7 +26,7 @@ impl<A: Allocator> Model for Table<A> {
 impl<A: Allocator + Copy> Table<A> {
     ghost use Rattle.std.specs.Prelude.{◌≡◌, ◌⊎◌, OnOk, IfOk, IfErr, option_map};
     ghost use Rattle.objects.specs.Site.{IsSite, IsFaultySite};
-    ghost use Rattle.objects.specs.Machine.{opening_table, opening_properties, properties_of, reply};
+    ghost use Rattle.objects.specs.Machine.{opening_table, opening_properties, properties_of, reply, IsSoundReply};
 
     /// The table of these objects, as it opens.
     ///
@@ -48,7 +48,8 @@ impl<A: Allocator + Copy> Table<A> {
     /// # Errors
     /// Want of memory.
     pub fn reply(&self, request: &Request) -> Result<Reply<A>, AllocError>
-        ensures { IfOk result (λ answer. answer ≡ reply self.now request.now) }
+        ensures machine { IfOk result (λ answer. answer ≡ reply self.now request.now) }
+        ensures sound { IfOk result IsSoundReply }
     {
         let Request::Read {
             object,
