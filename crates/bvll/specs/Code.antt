@@ -1,0 +1,20 @@
+-- The codes of a result.
+use Rattle.std.specs.Prelude.{ℕ, ◌≢◌}
+use Rattle.bvll.specs.declared.code.ResultCode.{ResultCode}
+use Rattle.bvll.specs.declared.code.ResultCode.TheVariants.{Success, WriteBroadcastDistributionTableNak, ReadBroadcastDistributionTableNak, RegisterForeignDeviceNak, ReadForeignDeviceTableNak, DeleteForeignDeviceTableEntryNak, DistributeBroadcastToNetworkNak, Other}
+
+-- the two octets of a code, as a number (J.2.1)
+abbrev pub code_number : ResultCode → ℕ
+code_number Success = 0x00
+code_number WriteBroadcastDistributionTableNak = 0x10
+code_number ReadBroadcastDistributionTableNak = 0x20
+code_number RegisterForeignDeviceNak = 0x30
+code_number ReadForeignDeviceTableNak = 0x40
+code_number DeleteForeignDeviceTableEntryNak = 0x50
+code_number DistributeBroadcastToNetworkNak = 0x60
+code_number (Other n) = n
+
+-- a code that has a name goes by it
+abbrev pub IsNamed : ResultCode → Type 0
+IsNamed (Other n) = (n ≢ 0x00) × (n ≢ 0x10) × (n ≢ 0x20) × (n ≢ 0x30) × (n ≢ 0x40) × (n ≢ 0x50) × (n ≢ 0x60)
+IsNamed _ = Unit {0}

@@ -1,0 +1,9 @@
+pub mod Function
+pub mod Code
+pub mod Octets
+pub mod Address
+pub mod Entry
+pub mod EntryLaws
+pub mod Table
+pub mod Datagram
+pub mod Refusal

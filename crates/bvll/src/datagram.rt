@@ -1,0 +1,161 @@
+//! Datagrams, read and written.
+
+use crate::address::Address;
+use crate::code::ResultCode;
+use crate::entry::{DistributionEntry, ForeignDevice};
+use crate::function::Function;
+use crate::table::Table;
+use byteorder::{BigEndian, ByteOrder};
+use tags::Fault;
+
+/// The first octet of each datagram: BACnet/IP (J.2).
+pub const BACNET_IP: u8 = 0x81;
+
+/// A datagram of the virtual link layer (J.2). An NPDU is the named slice of the datagram.
+#[derive(Clone, Copy, Debug)]
+pub enum Bvll<'a> {
+    Result(ResultCode),
+    WriteBroadcastDistributionTable(Table<'a, DistributionEntry>),
+    ReadBroadcastDistributionTable,
+    ReadBroadcastDistributionTableAck(Table<'a, DistributionEntry>),
+    /// The origin is the station that broadcast the NPDU.
+    ForwardedNpdu { origin: Address, npdu: &'a [u8] },
+    RegisterForeignDevice { seconds_to_live: u16 },
+    ReadForeignDeviceTable,
+    ReadForeignDeviceTableAck(Table<'a, ForeignDevice>),
+    DeleteForeignDeviceTableEntry(Address),
+    DistributeBroadcastToNetwork(&'a [u8]),
+    OriginalUnicastNpdu(&'a [u8]),
+    OriginalBroadcastNpdu(&'a [u8]),
+}
+
+impl<'a> Bvll<'a> {
+    ghost use Rattle.std.specs.Prelude.{◌≡◌, ◌≢◌, ◌<◌, ◌^◌, ◌++◌, ◌∷◌, [], length, IfOk, IfErr, OnOk, OnErr};
+    ghost use Rattle.byteorder.specs.Endian.{big_bytes};
+    ghost use Rattle.bvll.specs.Address.{TakesAddress, IsAddress, address_octets};
+    ghost use Rattle.bvll.specs.Datagram.{header, datagram_of, Spells, NoDatagram};
+    ghost use Rattle.bvll.specs.Refusal.{HasContents, IsLength, Refuses};
+
+    /// The datagram that the octets spell, all of them. Takes no memory.
+    ///
+    /// # Errors
+    ///
+    /// `BadVersion` for another first octet than 81, `BadTag` for an unknown function, `Short`
+    /// where the header is cut, `BadLength` where the length is not that of the datagram, or is
+    /// wrong for the function; the first of these that holds.
+    pub fn read(octets: &'a [u8]) -> Result<Bvll<'a>, Fault>
+        ensures read { IfOk result (λ b. Spells octets.entry.now (datagram_of b)) }
+        ensures refused { OnErr result (NoDatagram octets.entry.now) }
+        ensures fault { IfErr result (λ e. Refuses e octets.entry.now) }
+    {
+        let (function, whole, contents) = Bvll::header_from(octets)?;
+        if usize::from(whole) != octets.len() {
+            return Err(Fault::BadLength);
+        }
+        Bvll::from_contents(function, contents)
+    }
+
+    fn header_from(octets: &'a [u8]) -> Result<(Function, u16, &'a [u8]), Fault>
+        ensures read { IfOk result (λ x. octets.entry.now ≡ header x.0 x.1 ++ x.2.now) }
+        ensures fault { IfErr result (λ e. Refuses e octets.entry.now) }
+    {
+        let [first, ..] = octets else {
+            return Err(Fault::Short);
+        };
+        if *first != BACNET_IP {
+            return Err(Fault::BadVersion);
+        }
+        let [_, number, ..] = octets else {
+            return Err(Fault::Short);
+        };
+        let function = Function::try_from(*number)?;
+        let [_, _, high, low, contents @ ..] = octets else {
+            return Err(Fault::Short);
+        };
+        Ok((function, BigEndian::read_u16(&[*high, *low]), contents))
+    }
+
+    fn from_contents(function: Function, contents: &'a [u8]) -> Result<Bvll<'a>, Fault>
+        ensures read { IfOk result (λ b. HasContents function contents.entry.now (datagram_of b)) }
+        ensures refused { IfErr result (λ e. (e ≡ Fault.BadLength) × (IsLength function (length contents.entry.now) → ⊥)) }
+    {
+        Ok(match function {
+            Function::Result => Bvll::Result(ResultCode::from(Bvll::number_from(contents)?)),
+            Function::WriteBroadcastDistributionTable => {
+                Bvll::WriteBroadcastDistributionTable(Table::read(contents)?)
+            }
+            Function::ReadBroadcastDistributionTable => {
+                Bvll::nothing_from(contents)?;
+                Bvll::ReadBroadcastDistributionTable
+            }
+            Function::ReadBroadcastDistributionTableAck => {
+                Bvll::ReadBroadcastDistributionTableAck(Table::read(contents)?)
+            }
+            Function::ForwardedNpdu => {
+                let (origin, npdu) = Bvll::address_from(contents)?;
+                Bvll::ForwardedNpdu { origin, npdu }
+            }
+            Function::RegisterForeignDevice => Bvll::RegisterForeignDevice {
+                seconds_to_live: Bvll::number_from(contents)?,
+            },
+            Function::ReadForeignDeviceTable => {
+                Bvll::nothing_from(contents)?;
+                Bvll::ReadForeignDeviceTable
+            }
+            Function::ReadForeignDeviceTableAck => {
+                Bvll::ReadForeignDeviceTableAck(Table::read(contents)?)
+            }
+            Function::DeleteForeignDeviceTableEntry => {
+                Bvll::DeleteForeignDeviceTableEntry(Bvll::only_address_from(contents)?)
+            }
+            Function::DistributeBroadcastToNetwork => Bvll::DistributeBroadcastToNetwork(contents),
+            Function::OriginalUnicastNpdu => Bvll::OriginalUnicastNpdu(contents),
+            Function::OriginalBroadcastNpdu => Bvll::OriginalBroadcastNpdu(contents),
+        })
+    }
+
+    fn nothing_from(contents: &[u8]) -> Result<(), Fault>
+        ensures read { OnOk result (contents.now ≡ []) }
+        ensures refused { IfErr result (λ e. (e ≡ Fault.BadLength) × (length contents.now ≢ 0)) }
+    {
+        if !contents.is_empty() {
+            return Err(Fault::BadLength);
+        }
+        Ok(())
+    }
+
+    fn number_from(contents: &[u8]) -> Result<u16, Fault>
+        ensures read { IfOk result (λ n. (n < 2 ^ 16) × (contents.now ≡ big_bytes 2 n)) }
+        ensures refused { IfErr result (λ e. (e ≡ Fault.BadLength) × (length contents.now ≢ 2)) }
+    {
+        match contents {
+            [high, low] => Ok(BigEndian::read_u16(&[*high, *low])),
+            _ => Err(Fault::BadLength),
+        }
+    }
+
+    fn address_from(contents: &'a [u8]) -> Result<(Address, &'a [u8]), Fault>
+        ensures read { IfOk result (λ x. TakesAddress contents.entry.now x.0 x.1.now) }
+        ensures refused { IfErr result (λ e. (e ≡ Fault.BadLength) × (length contents.entry.now < 6)) }
+    {
+        match contents {
+            [a, b, c, d, high, low, rest @ ..] => Ok((
+                Address {
+                    ip: [*a, *b, *c, *d],
+                    port: BigEndian::read_u16(&[*high, *low]),
+                },
+                rest,
+            )),
+            _ => Err(Fault::BadLength),
+        }
+    }
+
+    fn only_address_from(contents: &'a [u8]) -> Result<Address, Fault>
+        ensures read { IfOk result (λ a. TakesAddress contents.entry.now a []) }
+        ensures refused { IfErr result (λ e. (e ≡ Fault.BadLength) × (length contents.entry.now ≢ 6)) }
+    {
+        let (address, rest) = Bvll::address_from(contents)?;
+        Bvll::nothing_from(rest)?;
+        Ok(address)
+    }
+}

@@ -1,0 +1,73 @@
+//! Tables, whose entries lie in a datagram or in a list of the caller's.
+
+ghost use Rattle.std.specs.Prelude.{◌≡◌, ◌≢◌, ◌↔◌, ◌%◌, [], length, IfOk, IfErr, IsTrue, slice_get};
+
+use crate::entry::Entry;
+use tags::Fault;
+
+/// The entries of a table: in a datagram that was read, or in a list that is to be written.
+#[derive(Clone, Copy, Debug)]
+pub enum Table<'a, E> {
+    /// Ten octets for each entry. What is left over belongs to none.
+    Octets(&'a [u8]),
+    Entries(&'a [E]),
+}
+
+impl<'a, E: Entry> Table<'a, E> {
+    ghost use Rattle.bvll.specs.Table.{entries_at, entries_of, SpellsTable};
+
+    /// The table that the octets spell, all of them. Takes no memory.
+    ///
+    /// # Errors
+    ///
+    /// `BadLength` for octets that are not whole entries.
+    #[tactic(auto, using(crate::proofs::Tables::table_rules))]
+    pub fn read(octets: &'a [u8]) -> Result<Table<'a, E>, Fault>
+        ensures read { IfOk result (λ t. SpellsTable E.octets_of E.IsEntry octets.entry.now (entries_of E.entry_at t)) }
+        ensures refused { IfErr result (λ e. (e ≡ Fault.BadLength) × (length octets.entry.now % 10 ≢ 0)) }
+    {
+        if octets.len() % 10 != 0 {
+            return Err(Fault::BadLength);
+        }
+        Ok(Table::Octets(octets))
+    }
+
+    /// The number of entries.
+    #[tactic(auto, using(crate::proofs::Tables::table_rules))]
+    pub fn len(&self) -> usize
+        ensures { result ≡ length (entries_of E.entry_at self.now) }
+    {
+        match self {
+            Table::Octets(octets) => octets.len() / 10,
+            Table::Entries(entries) => entries.len(),
+        }
+    }
+
+    /// Whether there is no entry.
+    pub fn is_empty(&self) -> bool
+        ensures { IsTrue result ↔ (entries_of E.entry_at self.now ≡ []) }
+    {
+        self.len() == 0
+    }
+
+    /// The entry at an index from 0, in the order of the datagram.
+    pub fn get(&self, index: usize) -> Option<E>
+        ensures { result ≡ slice_get (entries_of E.entry_at self.now) index }
+    {
+        match self {
+            Table::Octets(octets) => Table::row(octets, index),
+            Table::Entries(entries) => entries.get(index).copied(),
+        }
+    }
+
+    #[tactic(auto, using(crate::proofs::Tables::table_rules))]
+    fn row(octets: &[u8], index: usize) -> Option<E>
+        ensures { result ≡ slice_get (entries_at E.entry_at octets.now) index }
+    {
+        if octets.len() / 10 <= index {
+            return None;
+        }
+        let (_, rest) = octets.split_at(10 * index);
+        Some(E::from_octets(rest))
+    }
+}
