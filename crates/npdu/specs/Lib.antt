@@ -1,0 +1,4 @@
+pub mod Dnet
+pub mod Mac
+pub mod Message
+pub mod Priority

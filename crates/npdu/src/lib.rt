@@ -1,0 +1,21 @@
+//! The header of the network layer's messages (ANSI/ASHRAE 135, clause 6.2).
+//!
+//! `View::read` gives the header that octets spell as slices of them, and refuses all others with the cause;
+//! `write` appends the canonical octets of a header. A `Parcel` is such a message on its way over one network.
+//! To the layer above it promises: what is read is the one header that the octets spell, each field being its
+//! own slice; what is written is spelled by the octets appended, and read again to the same fields.
+//! Modules: `mac` (link addresses and stations), `parcel`, `priority`, `message` (types of network messages),
+//! `view` (a header and its fields), `address`, `routing` and `header` (reading and writing them).
+#![tactic(auto)]
+
+mod mac;
+mod message;
+mod parcel;
+mod priority;
+mod view;
+
+pub use mac::{Mac, Station, Target};
+pub use message::{Message, RejectReason};
+pub use parcel::Parcel;
+pub use priority::Priority;
+pub use view::{Destination, Dnet, Source, View};

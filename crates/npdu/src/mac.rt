@@ -1,0 +1,53 @@
+//! Link addresses, and the stations and targets that they name.
+
+ghost use Rattle.std.specs.Prelude.{◌≡◌, ◌≢◌, IfSome, IfNone, length};
+ghost use Rattle.npdu.specs.Mac.{mac_octets};
+
+/// The address of a station on its own network: one octet on MS/TP, six on BACnet/IP (Table 6-2).
+#[derive(Clone, Copy, Debug, PartialEq, Eq)]
+pub enum Mac {
+    /// The address of an MS/TP node.
+    One(u8),
+    /// Four octets of an IP address and two of its port.
+    Six([u8; 6]),
+}
+
+impl Mac {
+    /// The address whose octets these are: one octet or six, and no other count.
+    pub fn from_octets(octets: &[u8]) -> Option<Mac>
+        ensures octets { IfSome result (λ mac. mac_octets mac ≡ octets.now) }
+        ensures other { IfNone result ((length octets.now ≢ 1) × (length octets.now ≢ 6)) }
+    {
+        match octets {
+            [a] => Some(Mac::One(*a)),
+            [a, b, c, d, e, f] => Some(Mac::Six([*a, *b, *c, *d, *e, *f])),
+            _ => None,
+        }
+    }
+
+    /// The octets of the address, as they stand in DADR and SADR: one or six.
+    pub fn as_octets(&self) -> &[u8]
+        ensures { result.now ≡ mac_octets self.now }
+    {
+        match self {
+            Mac::One(octet) => std::slice::from_ref(octet),
+            Mac::Six(octets) => octets.as_slice(),
+        }
+    }
+}
+
+/// A station of the internetwork: its network's number, 1..=65534, and its address there.
+#[derive(Clone, Copy, Debug, PartialEq, Eq)]
+pub struct Station {
+    pub net: u16,
+    pub mac: Mac,
+}
+
+/// Whom a message on one network is for.
+#[derive(Clone, Copy, Debug, PartialEq, Eq)]
+pub enum Target {
+    /// The station of this address.
+    One(Mac),
+    /// All stations of the network.
+    All,
+}

@@ -1,0 +1,70 @@
+//! The types of network messages.
+
+ghost use Rattle.std.specs.Prelude.{◌≡◌, ◌≢◌, MatchResult};
+ghost use Rattle.npdu.specs.Message.{message_type, reason_number};
+ghost use Rattle.tags.specs.declared.fault.Fault.TheVariants.{NoSuch};
+
+use tags::Fault;
+
+/// The type of a network message (6.2.4).
+#[derive(Clone, Copy, Debug, PartialEq, Eq)]
+pub enum Message {
+    /// Type 0: who has a route to a network, or to any.
+    WhoIsRouterToNetwork,
+    /// Type 1: the networks that are reached through the sender.
+    IAmRouterToNetwork,
+    /// Type 3: a message was not passed on, for a `RejectReason`.
+    RejectMessageToNetwork,
+    /// Another type of the standard's range, 2 or 4..=127.
+    Other(u8),
+    /// A vendor's own type, 128..=255, and the vendor's identifier.
+    Proprietary { kind: u8, vendor: u16 },
+}
+
+impl From<Message> for u8 {
+    ghost from_gives = { λ message n. n ≡ message_type message };
+
+    fn from(message: Message) -> u8 {
+        match message {
+            Message::WhoIsRouterToNetwork => 0,
+            Message::IAmRouterToNetwork => 1,
+            Message::RejectMessageToNetwork => 3,
+            Message::Other(kind) => kind,
+            Message::Proprietary { kind, vendor: _ } => kind,
+        }
+    }
+}
+
+/// Why a router did not pass a message on (6.4.4).
+#[derive(Clone, Copy, Debug, PartialEq, Eq)]
+pub enum RejectReason {
+    /// No route to the network is known.
+    NoRoute = 1,
+    /// The type of the network message is not known.
+    UnknownMessageType = 3,
+    /// The message is too long for the next network.
+    TooLong = 4,
+}
+
+impl From<RejectReason> for u8 {
+    ghost from_gives = { λ reason n. n ≡ reason_number reason };
+
+    fn from(reason: RejectReason) -> u8 {
+        reason as u8
+    }
+}
+
+impl TryFrom<u8> for RejectReason {
+    type Error = Fault;
+
+    ghost try_from_gives = { λ n r. MatchResult r (λ reason. reason_number reason ≡ n) (λ fault. (fault ≡ NoSuch) × (n ≢ 1) × (n ≢ 3) × (n ≢ 4)) };
+
+    fn try_from(number: u8) -> Result<RejectReason, Fault> {
+        match number {
+            1 => Ok(RejectReason::NoRoute),
+            3 => Ok(RejectReason::UnknownMessageType),
+            4 => Ok(RejectReason::TooLong),
+            _ => Err(Fault::NoSuch),
+        }
+    }
+}

@@ -1,0 +1,76 @@
+//! A network header, by slices of its octets.
+
+ghost use Rattle.std.specs.Prelude.{◌≡◌, ◌≢◌};
+ghost use Rattle.npdu.specs.Dnet.{dnet_number};
+ghost use Rattle.npdu.specs.declared.view.Dnet.TheVariants.{Network};
+
+use crate::message::Message;
+use crate::priority::Priority;
+
+/// The network that a message goes to (DNET, 6.2.2).
+#[derive(Clone, Copy, Debug, PartialEq, Eq)]
+pub enum Dnet {
+    /// The network of this number, 1..=65534.
+    Network(u16),
+    /// Every network: the global broadcast, whatever address stands behind it.
+    Global,
+}
+
+impl From<Dnet> for u16 {
+    ghost from_gives = { λ net n. n ≡ dnet_number net };
+
+    fn from(net: Dnet) -> u16 {
+        match net {
+            Dnet::Network(number) => number,
+            Dnet::Global => 0xFFFF,
+        }
+    }
+}
+
+impl From<u16> for Dnet {
+    ghost from_gives = { λ n net. (dnet_number net ≡ n) × (net ≢ Network 65535) };
+
+    fn from(number: u16) -> Dnet {
+        match number {
+            0xFFFF => Dnet::Global,
+            _ => Dnet::Network(number),
+        }
+    }
+}
+
+/// Where a message goes (6.2.2).
+#[derive(Clone, Copy, Debug, PartialEq, Eq)]
+pub struct Destination<'a> {
+    /// DNET.
+    pub net: Dnet,
+    /// DADR, 0..=255 octets: without any the message is for all stations of the network.
+    pub mac: &'a [u8],
+    /// The hop count, 0..=255: how many networks it may still cross.
+    pub hops: u8,
+}
+
+/// Where a message comes from, where that is not the network that it is heard on (6.2.2).
+#[derive(Clone, Copy, Debug, PartialEq, Eq)]
+pub struct Source<'a> {
+    /// SNET, 1..=65534.
+    pub net: u16,
+    /// SADR, 1..=255 octets.
+    pub mac: &'a [u8],
+}
+
+/// A whole network header and what stands behind it (6.2), each address and the body a slice of its octets.
+#[derive(Clone, Copy, Debug, PartialEq, Eq)]
+pub struct View<'a> {
+    /// Whether the sender waits for a reply (control bit 2).
+    pub expects_reply: bool,
+    /// Control bits 1 and 0.
+    pub priority: Priority,
+    /// DNET, DADR and hop count; without it the message is for the network that it is heard on.
+    pub destination: Option<Destination<'a>>,
+    /// SNET and SADR; without it the message comes from the station that sent it on this network.
+    pub source: Option<Source<'a>>,
+    /// The message type where the body is a network message's data; without it the body is an APDU.
+    pub message: Option<Message>,
+    /// The octets behind the header.
+    pub body: &'a [u8],
+}
