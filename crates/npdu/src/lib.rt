@@ -8,6 +8,8 @@
 //! `view` (a header and its fields), `address`, `routing` and `header` (reading and writing them).
 #![tactic(auto)]
 
+mod fields;
+mod header;
 mod mac;
 mod message;
 mod parcel;

@@ -1,8 +1,7 @@
 //! A network header, by slices of its octets.
 
-ghost use Rattle.std.specs.Prelude.{◌≡◌, ◌≢◌};
-ghost use Rattle.npdu.specs.Dnet.{dnet_number};
-ghost use Rattle.npdu.specs.declared.view.Dnet.TheVariants.{Network};
+ghost use Rattle.std.specs.Prelude.{◌≡◌, ◌<◌};
+ghost use Rattle.npdu.specs.Dnet.{dnet_number, IsDnet};
 
 use crate::message::Message;
 use crate::priority::Priority;
@@ -28,7 +27,7 @@ impl From<Dnet> for u16 {
 }
 
 impl From<u16> for Dnet {
-    ghost from_gives = { λ n net. (dnet_number net ≡ n) × (net ≢ Network 65535) };
+    ghost from_gives = { λ n net. (dnet_number net ≡ n) × (0 < n → IsDnet net) };
 
     fn from(number: u16) -> Dnet {
         match number {
