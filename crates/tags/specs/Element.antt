@@ -21,11 +21,24 @@ Closes [] (suc n) = ⊥
 Closes (t ∷ ts) zero = ⊥
 Closes (t ∷ ts) (suc n) = Closes ts (waiting t.content (suc n))
 
+-- some opening tag still waits after each of the tags
+abbrev pub StayOpen : List PlainTag → ℕ → Type 0
+StayOpen [] zero = ⊥
+StayOpen [] (suc n) = Unit {0}
+StayOpen (t ∷ ts) zero = ⊥
+StayOpen (t ∷ ts) (suc n) = StayOpen ts (waiting t.content (suc n))
+
 -- behind an opening tag: the tags up to the closing that balances it, and what follows
 pub record ClosesBefore (octets rest : List ℕ) : Type 0 where
   pub tags : List PlainTag
   pub taken : TakesTags octets tags rest
   pub balanced : Closes tags 1
+
+-- behind an opening tag: tags that leave it open, and what follows them
+pub record OpenBefore (octets rest : List ℕ) : Type 0 where
+  pub tags : List PlainTag
+  pub taken : TakesTags octets tags rest
+  pub left_open : StayOpen tags 1
 
 -- no tags behind an opening tag balance it
 pub record NeverCloses (octets : List ℕ) : Type 0 where

@@ -5,3 +5,4 @@ pub mod Number
 pub mod Element
 pub mod Value
 pub mod Canonical
+pub mod Refusal

@@ -66,3 +66,13 @@ SpellsValue octets v = SpellsByTag octets v ⊎ ((v ≡ value.Built octets) × I
 abbrev pub SpellsValues : {A : Type 0} → List ℕ → List (Value A) → Type 0
 SpellsValues octets [] = octets ≡ []
 SpellsValues octets (v ∷ vs) = (front : List ℕ) × (rest : List ℕ) × SpellsValue front v × SpellsValues rest vs × (octets ≡ front ++ rest)
+
+-- the front of the octets spells the value, and rest is what follows
+pub record TakesValue {A : Type 0} (octets : List ℕ) (v : Value A) (rest : List ℕ) : Type 0 where
+  pub front : List ℕ
+  pub spelled : SpellsValue front v
+  pub parts : octets ≡ front ++ rest
+
+-- no front of the octets spells a value
+pub record NoValue (A : Type 0) (octets : List ℕ) : Type 0 where
+  pub none : (front rest : List ℕ) (v : Value A) → SpellsValue front v → octets ≡ front ++ rest → ⊥

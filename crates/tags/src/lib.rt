@@ -11,6 +11,7 @@
 //! - `value`, `writer`: values, and writing them and tags.
 #![tactic(auto)]
 
+mod element;
 mod fault;
 mod items;
 mod number;
@@ -18,6 +19,7 @@ mod object_id;
 mod reader;
 mod tag;
 mod value;
+mod value_reader;
 mod writer;
 
 pub use fault::Fault;
@@ -27,4 +29,5 @@ pub use object_id::ObjectId;
 pub use reader::Reader;
 pub use tag::{Class, Content, Tag};
 pub use value::Value;
+pub use value_reader::read_value;
 pub use writer::{write_object, write_tag, write_unsigned, write_value};
