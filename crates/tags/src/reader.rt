@@ -1,6 +1,6 @@
 //! Reading tags from left to right (20.2.1).
 
-ghost use Rattle.std.specs.Prelude.{◌≡◌, [], IfOk, IfErr, IfSome, IfNone, OnErr};
+ghost use Rattle.std.specs.Prelude.{◌≡◌, ◌↔◌, [], IsTrue, IfOk, IfErr, IfSome, IfNone, OnErr};
 ghost use Rattle.tags.specs.Tag.{plain_tag, TakesTag, NoTag, RefusesTag};
 ghost use Rattle.tags.specs.TagReading.{Gives, number_at, length_at, contents_at, application_at, context_at, tag_at};
 
@@ -31,6 +31,13 @@ impl<'a> Reader<'a> {
         Reader { rest: octets }
     }
 
+    /// Whether no octet is left.
+    pub fn is_at_end(&self) -> bool
+        ensures { IsTrue result ↔ (self.now ≡ []) }
+    {
+        self.rest.is_empty()
+    }
+
     /// The next tag, or `None` at the end (20.2.1). Its contents are a slice of the input.
     ///
     /// # Errors
@@ -39,6 +46,7 @@ impl<'a> Reader<'a> {
     pub fn next(&mut self) -> Result<Option<Tag<'a>>, Fault>
         ensures read { IfOk result (λ found. IfSome found (λ tag. TakesTag self.old (plain_tag tag) self.new)) }
         ensures end { IfOk result (λ found. IfNone found ((self.old ≡ []) × (self.new ≡ []))) }
+        ensures at_end { self.old ≡ [] → result ≡ Ok None }
         ensures refused { OnErr result (NoTag self.old) }
         ensures fault { IfErr result (λ fault. RefusesTag fault self.old) }
         ensures unchanged { OnErr result (self.new ≡ self.old) }
