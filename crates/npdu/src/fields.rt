@@ -1,15 +1,17 @@
 //! The fields of a header behind its control octet, one after another.
 
-ghost use Rattle.std.specs.Prelude.{◌≡◌, ◌∷◌, ◌++◌, ◌<◌, [], length, option_map, IfOk, IfErr, OnErr, IsOkUnless};
+ghost use Rattle.std.specs.Prelude.{◌≡◌, ◌∷◌, ◌++◌, ◌<◌, [], length, option_map, IfOk, IfErr, IfSome, OnOk, OnErr, IsOkUnless};
 ghost use Rattle.byteorder.specs.Endian.{big_bytes};
 ghost use Rattle.npdu.specs.Message.{IsMessage, message_type, type_octets};
-ghost use Rattle.npdu.specs.Header.{destination_of, source_of, snet_octets, hop_octets, message_octets};
+ghost use Rattle.npdu.specs.Header.{IsDestination, IsSource, dnet_octets, destination_of, source_of, snet_octets, hop_octets, message_octets};
 ghost use Rattle.npdu.specs.Fields.{Takes, Only, Lacks, Begins, IsNet, IsMac, IsAddress, address_octets, place_of, place_octets, IsPlaceIf, IsSourceIf, IsDestinationAt, IsMessageIf};
+ghost use Rattle.npdu.specs.Writing.{Extends};
 ghost use Rattle.npdu.specs.Refusals.{RefusesPlace, RefusesSource};
 
 use crate::message::Message;
 use crate::view::{Destination, Dnet, Source};
 use byteorder::{BigEndian, ByteOrder};
+use std::alloc::{AllocError, Allocator};
 use tags::Fault;
 
 /// DNET and DADR.
@@ -52,6 +54,20 @@ fn mac_from(octets: &[u8]) -> Result<(&[u8], &[u8]), Fault>
     }
 }
 
+/// A number in two octets, a length and an address.
+fn put_address<B: Allocator>(net: u16, mac: &[u8], out: &mut Vec<u8, B>) -> Result<(), AllocError>
+    requires { length mac.now < 256 }
+    ensures put { OnOk result (out.new.items ≡ out.old.items ++ (big_bytes 2 net ++ (length mac.now ∷ mac.now))) }
+    ensures err { OnErr result (Extends out.old.items out.new.items) }
+{
+    let mut number = [0u8; 2];
+    BigEndian::write_u16(&mut number, net);
+    out.extend_from_slice(&number)?;
+    out.push(mac.len() as u8)?;
+    out.extend_from_slice(mac)?;
+    Ok(())
+}
+
 /// DNET, DLEN and DADR.
 #[tactic(auto, using(crate::proofs::FieldLaws::place_steps))]
 pub(crate) fn place_from(present: bool, octets: &[u8]) -> Result<(Option<Place<'_>>, &[u8]), Fault>
@@ -70,6 +86,20 @@ pub(crate) fn place_from(present: bool, octets: &[u8]) -> Result<(Option<Place<'
     let net = Dnet::from(net);
     let (mac, rest) = mac_from(rest)?;
     Ok((Some(Place { net, mac }), rest))
+}
+
+pub(crate) fn put_place<B: Allocator>(
+    destination: &Option<Destination<'_>>,
+    out: &mut Vec<u8, B>,
+) -> Result<(), AllocError>
+    requires { IfSome (option_map destination_of destination.now) IsDestination }
+    ensures put { OnOk result (out.new.items ≡ out.old.items ++ dnet_octets (option_map destination_of destination.now)) }
+    ensures err { OnErr result (Extends out.old.items out.new.items) }
+{
+    if let Some(destination) = destination {
+        put_address(u16::from(destination.net), destination.mac, out)?;
+    }
+    Ok(())
 }
 
 /// SNET, SLEN and SADR.
@@ -97,6 +127,20 @@ pub(crate) fn source_from(
     Ok((Some(Source { net, mac }), rest))
 }
 
+pub(crate) fn put_source<B: Allocator>(
+    source: &Option<Source<'_>>,
+    out: &mut Vec<u8, B>,
+) -> Result<(), AllocError>
+    requires { IfSome (option_map source_of source.now) IsSource }
+    ensures put { OnOk result (out.new.items ≡ out.old.items ++ snet_octets (option_map source_of source.now)) }
+    ensures err { OnErr result (Extends out.old.items out.new.items) }
+{
+    if let Some(source) = source {
+        put_address(source.net, source.mac, out)?;
+    }
+    Ok(())
+}
+
 /// The hop count behind a destination's place.
 pub(crate) fn hops_from<'a>(
     place: Option<Place<'a>>,
@@ -122,6 +166,19 @@ pub(crate) fn hops_from<'a>(
         )),
         [] => Err(Fault::Short),
     }
+}
+
+pub(crate) fn put_hops<B: Allocator>(
+    destination: &Option<Destination<'_>>,
+    out: &mut Vec<u8, B>,
+) -> Result<(), AllocError>
+    ensures put { OnOk result (out.new.items ≡ out.old.items ++ hop_octets (option_map destination_of destination.now)) }
+    ensures err { OnErr result (Extends out.old.items out.new.items) }
+{
+    if let Some(destination) = destination {
+        out.push(destination.hops)?;
+    }
+    Ok(())
 }
 
 /// A message type below 128.
@@ -164,4 +221,23 @@ pub(crate) fn message_from(present: bool, octets: &[u8]) -> Result<(Option<Messa
         }),
         rest,
     ))
+}
+
+pub(crate) fn put_message<B: Allocator>(
+    message: &Option<Message>,
+    out: &mut Vec<u8, B>,
+) -> Result<(), AllocError>
+    ensures put { OnOk result (out.new.items ≡ out.old.items ++ message_octets message.now) }
+    ensures err { OnErr result (Extends out.old.items out.new.items) }
+{
+    let Some(message) = message else {
+        return Ok(());
+    };
+    out.push(u8::from(*message))?;
+    if let Message::Proprietary { kind: _, vendor } = message {
+        let mut number = [0u8; 2];
+        BigEndian::write_u16(&mut number, *vendor);
+        out.extend_from_slice(&number)?;
+    }
+    Ok(())
 }

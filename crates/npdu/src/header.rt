@@ -1,14 +1,18 @@
 //! A whole header: read from octets, and written to them.
 
-ghost use Rattle.std.specs.Prelude.{◌≡◌, ◌==◌, ◌/◌, ◌%◌, IfOk, IfErr, OnErr};
+ghost use Rattle.std.specs.Prelude.{◌≡◌, ◌==◌, ◌/◌, ◌%◌, ◌++◌, ◌↔◌, IsTrue, IfOk, IfErr, OnOk, OnErr};
 ghost use Rattle.npdu.specs.Fields.{SpellsFields, NoFields};
-ghost use Rattle.npdu.specs.Header.{Spells, NoHeader, header_of};
+ghost use Rattle.npdu.specs.Header.{IsSound, Spells, NoHeader, header_of, control_of, canonical};
 ghost use Rattle.npdu.specs.Priority.{priority_number};
+ghost use Rattle.npdu.specs.Writing.{Extends};
 ghost use Rattle.npdu.specs.Refusals.{Refuses, RefusesFields};
 
-use crate::fields::{hops_from, message_from, place_from, source_from};
+use crate::fields::{
+    hops_from, message_from, place_from, put_hops, put_message, put_place, put_source, source_from,
+};
 use crate::priority::Priority;
 use crate::view::View;
+use std::alloc::{AllocError, Allocator};
 use tags::Fault;
 
 /// What a control octet says (6.2.2); bits 6 and 4 are not looked at.
@@ -37,6 +41,17 @@ fn control_in(octet: u8) -> Control
     }
 }
 
+/// The control octet of a header, bits 6 and 4 clear.
+fn control_of(view: &View<'_>) -> u8
+    ensures { result ≡ control_of (header_of view.now) }
+{
+    128 * u8::from(view.message.is_some())
+        + 32 * u8::from(view.destination.is_some())
+        + 8 * u8::from(view.source.is_some())
+        + 4 * u8::from(view.expects_reply)
+        + u8::from(view.priority)
+}
+
 /// The header whose control octet this is, with these octets behind it.
 fn fields_from(control: u8, octets: &[u8]) -> Result<View<'_>, Fault>
     ensures read { IfOk result (λ view. SpellsFields control octets.now (header_of view)) }
@@ -59,6 +74,25 @@ fn fields_from(control: u8, octets: &[u8]) -> Result<View<'_>, Fault>
 }
 
 impl<'a> View<'a> {
+    /// Whether every field is within its range, so that the header has a spelling.
+    pub fn is_sound(&self) -> bool
+        ensures { IsTrue result ↔ IsSound (header_of self.now) }
+    {
+        let destination = match self.destination {
+            Some(destination) => destination.is_sound(),
+            None => true,
+        };
+        let source = match self.source {
+            Some(source) => source.is_sound(),
+            None => true,
+        };
+        let message = match self.message {
+            Some(message) => message.is_sound(),
+            None => true,
+        };
+        destination && source && message
+    }
+
     /// The header that the octets spell, and the octets behind it, all as slices of them (6.2).
     ///
     /// Refuses octets that spell none: `Short` where some octets behind would complete a header, `BadVersion`
@@ -75,4 +109,37 @@ impl<'a> View<'a> {
             _ => Err(Fault::BadVersion),
         }
     }
+}
+
+fn put_header<B: Allocator>(view: &View<'_>, out: &mut Vec<u8, B>) -> Result<(), AllocError>
+    requires { IsSound (header_of view.now) }
+    ensures put { OnOk result (out.new.items ≡ out.old.items ++ canonical (header_of view.now)) }
+    ensures err { OnErr result (Extends out.old.items out.new.items) }
+{
+    out.push(1)?;
+    out.push(control_of(view))?;
+    put_place(&view.destination, out)?;
+    put_source(&view.source, out)?;
+    put_hops(&view.destination, out)?;
+    put_message(&view.message, out)?;
+    out.extend_from_slice(view.body)?;
+    Ok(())
+}
+
+/// Appends the canonical octets of a header and its body, control bits 6 and 4 clear (6.2).
+///
+/// Requires a header that has a spelling, as `View::is_sound` tells. Refuses `Memory` alone, and then leaves
+/// the octets as they were.
+pub fn write<B: Allocator>(view: &View<'_>, out: &mut Vec<u8, B>) -> Result<(), Fault>
+    requires sound { IsSound (header_of view.now) }
+    ensures put { OnOk result (out.new.items ≡ out.old.items ++ canonical (header_of view.now)) }
+    ensures memory { IfErr result (λ fault. fault ≡ Fault.Memory) }
+    ensures err { OnErr result (out.new.items ≡ out.old.items) }
+{
+    let start = out.len();
+    if put_header(view, out).is_err() {
+        out.truncate(start);
+        return Err(Fault::Memory);
+    }
+    Ok(())
 }

@@ -16,6 +16,7 @@ mod parcel;
 mod priority;
 mod view;
 
+pub use header::write;
 pub use mac::{Mac, Station, Target};
 pub use message::{Message, RejectReason};
 pub use parcel::Parcel;

@@ -1,7 +1,7 @@
 //! The types of network messages.
 
-ghost use Rattle.std.specs.Prelude.{◌≡◌, ◌≢◌, MatchResult};
-ghost use Rattle.npdu.specs.Message.{message_type, reason_number};
+ghost use Rattle.std.specs.Prelude.{◌≡◌, ◌≢◌, ◌↔◌, IsTrue, MatchResult};
+ghost use Rattle.npdu.specs.Message.{IsMessage, message_type, reason_number};
 ghost use Rattle.tags.specs.declared.fault.Fault.TheVariants.{NoSuch};
 
 use tags::Fault;
@@ -31,6 +31,20 @@ impl From<Message> for u8 {
             Message::RejectMessageToNetwork => 3,
             Message::Other(kind) => kind,
             Message::Proprietary { kind, vendor: _ } => kind,
+        }
+    }
+}
+
+impl Message {
+    pub(crate) fn is_sound(self) -> bool
+        ensures { IsTrue result ↔ IsMessage self }
+    {
+        match self {
+            Message::Other(kind) => kind < 128 && kind != 0 && kind != 1 && kind != 3,
+            Message::Proprietary { kind, vendor: _ } => 128 <= kind,
+            Message::WhoIsRouterToNetwork
+            | Message::IAmRouterToNetwork
+            | Message::RejectMessageToNetwork => true,
         }
     }
 }

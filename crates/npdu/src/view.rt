@@ -1,7 +1,8 @@
 //! A network header, by slices of its octets.
 
-ghost use Rattle.std.specs.Prelude.{◌≡◌, ◌<◌};
+ghost use Rattle.std.specs.Prelude.{◌≡◌, ◌<◌, ◌↔◌, IsTrue};
 ghost use Rattle.npdu.specs.Dnet.{dnet_number, IsDnet};
+ghost use Rattle.npdu.specs.Header.{IsDestination, IsSource, destination_of, source_of};
 
 use crate::message::Message;
 use crate::priority::Priority;
@@ -37,6 +38,17 @@ impl From<u16> for Dnet {
     }
 }
 
+impl Dnet {
+    pub(crate) fn is_sound(self) -> bool
+        ensures { IsTrue result ↔ IsDnet self }
+    {
+        match self {
+            Dnet::Network(number) => 0 < number && number < 0xFFFF,
+            Dnet::Global => true,
+        }
+    }
+}
+
 /// Where a message goes (6.2.2).
 #[derive(Clone, Copy, Debug, PartialEq, Eq)]
 pub struct Destination<'a> {
@@ -48,6 +60,14 @@ pub struct Destination<'a> {
     pub hops: u8,
 }
 
+impl Destination<'_> {
+    pub(crate) fn is_sound(self) -> bool
+        ensures { IsTrue result ↔ IsDestination (destination_of self.entry) }
+    {
+        self.net.is_sound() && self.mac.len() < 256
+    }
+}
+
 /// Where a message comes from, where that is not the network that it is heard on (6.2.2).
 #[derive(Clone, Copy, Debug, PartialEq, Eq)]
 pub struct Source<'a> {
@@ -55,6 +75,14 @@ pub struct Source<'a> {
     pub net: u16,
     /// SADR, 1..=255 octets.
     pub mac: &'a [u8],
+}
+
+impl Source<'_> {
+    pub(crate) fn is_sound(self) -> bool
+        ensures { IsTrue result ↔ IsSource (source_of self.entry) }
+    {
+        0 < self.net && self.net < 0xFFFF && !self.mac.is_empty() && self.mac.len() < 256
+    }
 }
 
 /// A whole network header and what stands behind it (6.2), each address and the body a slice of its octets.
