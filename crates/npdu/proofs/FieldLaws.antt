@@ -42,7 +42,7 @@ one_dnet (Network a) Global u v e = absurd (omega arith)
 one_dnet Global (Network b) u v e = absurd (omega arith)
 one_dnet Global Global u v e = refl
 
-dnet-lt : (net : Dnet) → IsDnet net → dnet_number net < 2 ^ 16
+pub dnet-lt : (net : Dnet) → IsDnet net → dnet_number net < 2 ^ 16
 dnet-lt (Network n) sound = omega arith
 dnet-lt Global sound = omega arith
 

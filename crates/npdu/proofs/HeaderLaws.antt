@@ -12,7 +12,7 @@ use Rattle.npdu.specs.declared.priority.Priority.{Priority}
 use Rattle.npdu.specs.declared.priority.Priority.TheVariants.{Normal, Urgent, CriticalEquipment, LifeSafety}
 
 -- octets behind what is left
-longer : {A : Type 0} (IsField : A → Type 0) (spelling : A → List ℕ) (octets : List ℕ) (a : A) (rest more : List ℕ) → Takes IsField spelling octets a rest → Takes IsField spelling (octets ++ more) a (rest ++ more)
+pub longer : {A : Type 0} (IsField : A → Type 0) (spelling : A → List ℕ) (octets : List ℕ) (a : A) (rest more : List ℕ) → Takes IsField spelling octets a rest → Takes IsField spelling (octets ++ more) a (rest ++ more)
 longer IsField spelling octets a rest more t = record { fits = t.fits; parts = ap (λ (x : List ℕ). x ++ more) t.parts ∙ append_assoc (spelling a) rest more }
 
 -- each field begins with no octet

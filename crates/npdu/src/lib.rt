@@ -10,6 +10,7 @@
 
 mod fields;
 mod header;
+mod laws;
 mod mac;
 mod message;
 mod parcel;
@@ -17,6 +18,7 @@ mod priority;
 mod view;
 
 pub use header::write;
+pub use laws::{canonical_is_shortest, one_header};
 pub use mac::{Mac, Station, Target};
 pub use message::{Message, RejectReason};
 pub use parcel::Parcel;

@@ -1,0 +1,20 @@
+//! What holds of all headers and their spellings.
+
+ghost use Rattle.std.specs.Prelude.{◌≡◌, ◌≤◌, ◌/◌, ◌%◌, ℕ, List, length};
+ghost use Rattle.npdu.specs.Header.{Header, IsSound, Spells, canonical, control_of};
+ghost use Rattle.npdu.specs.Refusals.{Refuses};
+ghost use Rattle.tags.specs.declared.fault.Fault.{Fault};
+
+/// What octets spell is one header, and octets are refused for one cause.
+pub fn one_header()
+    ensures header { (octets : List ℕ) (h k : Header) → Spells octets h → Spells octets k → h ≡ k }
+    ensures fault { (octets : List ℕ) (d e : Fault) → Refuses d octets → Refuses e octets → d ≡ e }
+{}
+
+/// The canonical octets of a header spell it with control bits 6 and 4 clear, and no spelling of it is shorter.
+pub fn canonical_is_shortest()
+    ensures spelled { (h : Header) → IsSound h → Spells (canonical h) h }
+    ensures shortest { (octets : List ℕ) (h : Header) → Spells octets h → length (canonical h) ≤ length octets }
+    ensures bit_6 { (h : Header) → control_of h / 64 % 2 ≡ 0 }
+    ensures bit_4 { (h : Header) → control_of h / 16 % 2 ≡ 0 }
+{}
