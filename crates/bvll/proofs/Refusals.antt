@@ -1,19 +1,20 @@
 -- What is refused spells nothing, and what is cut could be completed.
 use Rattle.std.proofs.Common.{◌≡◌, ℕ, ◌+◌, ◌*◌, ◌/◌, ◌<◌, ◌≤◌, ◌^◌, ◌%◌, List, [], ◌∷◌, ◌++◌, length, get_or, Some, slice_get, refl, ap, sym, subst, arith, ◌∙◌, inl, inr, flat_map, length-append}
 use Rattle.std.specs.List.{AllByRecursion}
-use Rattle.std.specs.Prelude.{Result, IfErr, OnErr, Ok, Err}
+use Rattle.std.specs.Prelude.{Result, IfOk, IfErr, OnErr, Ok, Err}
 use Rattle.byteorder.specs.Endian.{big_bytes}
 use Rattle.tags.specs.declared.fault.Fault.{Fault}
 use Rattle.tags.specs.declared.fault.Fault.TheVariants.{Short, BadTag, BadLength, BadVersion}
+use Rattle.bvll.specs.declared.datagram.Bvll.{Bvll}
 use Rattle.bvll.specs.declared.entry.DistributionEntry.{DistributionEntry}
 use Rattle.bvll.specs.declared.entry.ForeignDevice.{ForeignDevice}
 use Rattle.bvll.specs.declared.function.Function.{Function}
 use Rattle.bvll.specs.declared.function.Function.TheVariants as f
-use Rattle.bvll.specs.Datagram.{Datagram, outcome, write_distribution, read_distribution, distribution, forwarded, register, read_foreign, foreign, delete_foreign, distribute, unicast, broadcast, function, contents, HasFields, header, whole_length, Spells, NoDatagram}
+use Rattle.bvll.specs.Datagram.{Datagram, datagram_of, outcome, write_distribution, read_distribution, distribution, forwarded, register, read_foreign, foreign, delete_foreign, distribute, unicast, broadcast, function, contents, contents_length, HasFields, header, whole_length, Spells, NoDatagram}
 use Rattle.bvll.specs.Entry.{distribution_octets, foreign_octets, IsDistributionEntry, IsForeignDevice}
 use Rattle.bvll.specs.Function.{number_of}
 use Rattle.bvll.specs.Octets.{IsBytes, cell}
-use Rattle.bvll.specs.Refusal.{IsLength, IsOtherVersion, IsUnknown, IsCut, IsMisfit, Refuses}
+use Rattle.bvll.specs.Refusal.{HasContents, IsLength, IsOtherVersion, IsUnknown, IsCut, IsMisfit, Refuses}
 
 -- the functions in the order of their numbers
 functions : List Function
@@ -65,19 +66,51 @@ pub length-foreign : (entries : List ForeignDevice) → AllByRecursion IsForeign
 length-foreign [] all = refl
 length-foreign (e ∷ entries) all = simp length-append (omega (arith, all.0.address.ip, length-foreign entries all.1))
 
-pub contents-length : (d : Datagram) → HasFields d → IsLength (function d) (length (contents d))
-contents-length (outcome code) fits = refl
-contents-length (write_distribution entries) fits = omega (arith, length-distribution entries fits)
-contents-length read_distribution fits = refl
-contents-length (distribution entries) fits = omega (arith, length-distribution entries fits)
-contents-length (forwarded origin npdu) fits = simp length-append (omega (arith, fits.ip))
-contents-length (register seconds) fits = refl
-contents-length read_foreign fits = refl
-contents-length (foreign entries) fits = omega (arith, length-foreign entries fits)
-contents-length (delete_foreign address) fits = simp length-append (omega (arith, fits.ip))
-contents-length (distribute npdu) fits = tt
-contents-length (unicast npdu) fits = tt
-contents-length (broadcast npdu) fits = tt
+-- the fields take as many octets as are counted
+pub length-contents : (d : Datagram) → HasFields d → length (contents d) ≡ contents_length d
+length-contents (outcome code) fits = refl
+length-contents (write_distribution entries) fits = length-distribution entries fits
+length-contents read_distribution fits = refl
+length-contents (distribution entries) fits = length-distribution entries fits
+length-contents (forwarded origin npdu) fits = simp length-append (omega (arith, fits.ip))
+length-contents (register seconds) fits = refl
+length-contents read_foreign fits = refl
+length-contents (foreign entries) fits = length-foreign entries fits
+length-contents (delete_foreign address) fits = simp length-append (omega (arith, fits.ip))
+length-contents (distribute npdu) fits = refl
+length-contents (unicast npdu) fits = refl
+length-contents (broadcast npdu) fits = refl
+
+IsLength-counted : (d : Datagram) → IsLength (function d) (contents_length d)
+IsLength-counted (outcome code) = refl
+IsLength-counted (write_distribution entries) = omega arith
+IsLength-counted read_distribution = refl
+IsLength-counted (distribution entries) = omega arith
+IsLength-counted (forwarded origin npdu) = omega arith
+IsLength-counted (register seconds) = refl
+IsLength-counted read_foreign = refl
+IsLength-counted (foreign entries) = omega arith
+IsLength-counted (delete_foreign address) = refl
+IsLength-counted (distribute npdu) = tt
+IsLength-counted (unicast npdu) = tt
+IsLength-counted (broadcast npdu) = tt
+
+contents-length : (d : Datagram) → HasFields d → IsLength (function d) (length (contents d))
+contents-length d fits = subst (λ n. IsLength (function d) n) (sym (length-contents d fits)) (IsLength-counted d)
+
+-- what stands behind a header of its length is a datagram
+spelled : (k : Function) (whole : ℕ) (octets rest : List ℕ) (d : Datagram) → octets ≡ header k whole ++ rest → whole ≡ length octets → whole < 2 ^ 16 → HasContents k rest d → Spells octets d
+spelled k whole octets rest d front is lt has =
+    let counted : whole ≡ whole_length d = is ∙ ap length front ∙ omega (arith, ap length has.contents, length-contents d has.fields) in
+    record {
+      sound = record { fields = has.fields; fits = omega (arith, counted) };
+      whole = sym is ∙ counted;
+      parts = front ∙ rw (counted, sym has.function, has.contents) refl;
+    }
+
+pub spelled_if : (k : Function) (whole : ℕ) (octets rest : List ℕ) (result : Result Bvll Fault) → octets ≡ header k whole ++ rest → whole ≡ length octets → whole < 2 ^ 16 → IfOk result (λ b. HasContents k rest (datagram_of b)) → IfOk result (λ b. Spells octets (datagram_of b))
+spelled_if k whole octets rest (Ok b) front is lt has = spelled k whole octets rest (datagram_of b) front is lt has
+spelled_if k whole octets rest (Err e) front is lt has = tt
 
 -- refusals
 
@@ -100,8 +133,7 @@ length-some (x ∷ more) some = omega arith
 cut : (octets : List ℕ) (d : Datagram) → IsCut octets → Spells octets d → ⊥
 cut octets d r s =
     let short : length octets + length r.more ≡ 4 = sym (length-append octets r.more) ∙ ap length r.completed in
-    let long : length octets ≡ 4 + length (contents d) = ap length s.parts ∙ omega arith in
-    omega (arith, length-some r.more r.some)
+    omega (arith, s.whole, length-some r.more r.some)
 
 -- two octets have one number
 one_number : (m n : ℕ) → m < 2 ^ 16 → n < 2 ^ 16 → big_bytes 2 m ≡ big_bytes 2 n → m ≡ n
@@ -120,10 +152,10 @@ header_parts j k m n xs ys small little e =
 
 misfit : (octets : List ℕ) (d : Datagram) → IsMisfit octets → Spells octets d → ⊥
 misfit octets d r s =
-    let p = header_parts r.function (function d) r.whole (whole_length d) r.rest (contents d) r.fits s.length_fits (sym r.front ∙ s.parts) in
+    let p = header_parts r.function (function d) r.whole (whole_length d) r.rest (contents d) r.fits s.sound.fits (sym r.front ∙ s.parts) in
     elim r.misfit [
-      | inl wrong ↦ wrong (p.1 ∙ sym (ap length s.parts ∙ omega arith))
-      | inr wrong ↦ wrong (subst (λ (k : Function). IsLength k (length r.rest)) (sym p.0) (subst (λ (o : List ℕ). IsLength (function d) (length o)) (sym p.2) (contents-length d s.fields)))
+      | inl wrong ↦ wrong (p.1 ∙ sym s.whole)
+      | inr wrong ↦ wrong (subst (λ (k : Function). IsLength k (length r.rest)) (sym p.0) (subst (λ (o : List ℕ). IsLength (function d) (length o)) (sym p.2) (contents-length d s.sound.fields)))
     ]
 
 pub refused_none : (e : Fault) (octets : List ℕ) → Refuses e octets → NoDatagram octets

@@ -1,5 +1,5 @@
 -- The entries of a table: their number, their places and their octets.
-use Rattle.std.proofs.Common.{◌≡◌, ℕ, zero, suc, ◌+◌, ◌*◌, ◌/◌, ◌%◌, ◌<◌, ◌≤◌, List, length, drop, take, Some, None, slice_get, refl, ap, sym, arith, ◌∙◌}
+use Rattle.std.proofs.Common.{◌≡◌, ℕ, zero, suc, ◌+◌, ◌*◌, ◌/◌, ◌%◌, ◌<◌, ◌≤◌, List, [], ◌∷◌, length, drop, take, Some, None, slice_get, refl, ap, sym, arith, ◌∙◌}
 use Rattle.std.proofs.Math.Seq.{take-add, take-length}
 use Rattle.std.proofs.lemmas.List.{drop-drop, length-drop}
 use Rattle.std.proofs.lemmas.Option.{slice_get_past}
@@ -42,3 +42,16 @@ entries_spelled entry_at octets_of IsEntry spelled octets fits whole =
     record { fields = first.fields; parts = sym (take-length octets) ∙ ap (λ k. take k octets) (sym at) ∙ first.parts }
 
 pub ruleset table_rules = (length-entries_at, slice_get-entries_at, slice_get-entries_at_past)
+
+-- the first entry, and the others
+pub entries_at-more : {E : Type 0} (entry_at : List ℕ → E) (octets : List ℕ) → 10 ≤ length octets → entries_at entry_at octets ≡ entry_at octets ∷ entries_at entry_at (drop 10 octets)
+entries_at-more entry_at octets le =
+    let count : length octets / 10 ≡ suc (length (drop 10 octets) / 10) = omega (arith, length-drop 10 octets) in
+    ap (λ n. first_entries entry_at n octets) count
+
+pub entries_at-none : {E : Type 0} (entry_at : List ℕ → E) (octets : List ℕ) → length octets < 10 → entries_at entry_at octets ≡ []
+entries_at-none entry_at octets lt =
+    let count : length octets / 10 ≡ 0 = omega arith in
+    ap (λ n. first_entries entry_at n octets) count
+
+pub ruleset next_rules = (entries_at-more, entries_at-none)

@@ -1,5 +1,5 @@
 -- What a datagram of the virtual link layer is, and the octets that spell one (Annex J).
-use Rattle.std.specs.Prelude.{◌≡◌, ℕ, ◌+◌, ◌<◌, ◌^◌, List, [], ◌∷◌, ◌++◌, length, flat_map}
+use Rattle.std.specs.Prelude.{◌≡◌, ℕ, ◌+◌, ◌*◌, ◌<◌, ◌^◌, List, [], ◌∷◌, ◌++◌, length, flat_map}
 use Rattle.std.specs.List.{AllByRecursion}
 use Rattle.byteorder.specs.Endian.{big_bytes}
 use Rattle.bvll.specs.declared.address.Address.{Address}
@@ -75,18 +75,38 @@ HasFields _ = Unit {0}
 abbrev pub header : Function → ℕ → List ℕ
 header function whole = 0x81 ∷ (number_of function ∷ big_bytes 2 whole)
 
+-- the number of octets behind the header
+abbrev pub contents_length : Datagram → ℕ
+contents_length (outcome code) = 2
+contents_length (write_distribution entries) = 10 * length entries
+contents_length read_distribution = 0
+contents_length (distribution entries) = 10 * length entries
+contents_length (forwarded origin npdu) = 6 + length npdu
+contents_length (register seconds) = 2
+contents_length read_foreign = 0
+contents_length (foreign entries) = 10 * length entries
+contents_length (delete_foreign address) = 6
+contents_length (distribute npdu) = length npdu
+contents_length (unicast npdu) = length npdu
+contents_length (broadcast npdu) = length npdu
+
 -- the length of the whole
 abbrev pub whole_length : Datagram → ℕ
-whole_length d = 4 + length (contents d)
+whole_length d = 4 + contents_length d
 
 -- the one spelling
 abbrev pub canonical : Datagram → List ℕ
 canonical d = header (function d) (whole_length d) ++ contents d
 
+-- what has a spelling: the fields fit their octets, and the length of the whole its two
+pub record IsSound (d : Datagram) : Type 0 where
+  pub fields : HasFields d
+  pub fits : whole_length d < 2 ^ 16
+
 -- the octets, all of them, spell the datagram
 pub record Spells (octets : List ℕ) (d : Datagram) : Type 0 where
-  pub fields : HasFields d
-  pub length_fits : whole_length d < 2 ^ 16
+  pub sound : IsSound d
+  pub whole : length octets ≡ whole_length d
   pub parts : octets ≡ canonical d
 
 -- no datagram is spelled

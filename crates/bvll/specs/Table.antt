@@ -1,6 +1,7 @@
 -- The entries of a table, which lie in octets or in a list.
 use Rattle.std.specs.Prelude.{◌≡◌, ℕ, zero, suc, ◌/◌, List, [], ◌∷◌, length, drop, flat_map}
 use Rattle.std.specs.List.{AllByRecursion}
+use Rattle.bvll.specs.declared.table.Iter.{Iter}
 use Rattle.bvll.specs.declared.table.Table.{Table}
 use Rattle.bvll.specs.declared.table.Table.TheVariants.{Octets, Entries}
 
@@ -27,3 +28,7 @@ entries_at entry_at octets = first_entries entry_at (length octets / 10) octets
 abbrev pub entries_of : {E : Type 0} → (List ℕ → E) → Table E → List E
 entries_of entry_at (Octets octets) = entries_at entry_at octets.now
 entries_of entry_at (Entries entries) = entries.now
+
+-- the entries that are still to come
+abbrev pub rest_of : {E : Type 0} → (List ℕ → E) → Iter E → List E
+rest_of entry_at iter = entries_of entry_at iter.rest

@@ -6,6 +6,7 @@ use crate::entry::{DistributionEntry, ForeignDevice};
 use crate::function::Function;
 use crate::table::Table;
 use byteorder::{BigEndian, ByteOrder};
+use std::alloc::{AllocError, Allocator};
 use tags::Fault;
 
 /// The first octet of each datagram: BACnet/IP (J.2).
@@ -30,10 +31,11 @@ pub enum Bvll<'a> {
 }
 
 impl<'a> Bvll<'a> {
-    ghost use Rattle.std.specs.Prelude.{◌≡◌, ◌≢◌, ◌<◌, ◌^◌, ◌++◌, ◌∷◌, [], length, IfOk, IfErr, OnOk, OnErr};
+    ghost use Rattle.std.specs.Prelude.{◌≡◌, ◌≢◌, ◌<◌, ◌≤◌, ◌^◌, ◌++◌, ◌∷◌, [], length, IfOk, IfErr, OnOk, OnErr, MatchOption};
     ghost use Rattle.byteorder.specs.Endian.{big_bytes};
     ghost use Rattle.bvll.specs.Address.{TakesAddress, IsAddress, address_octets};
-    ghost use Rattle.bvll.specs.Datagram.{header, datagram_of, Spells, NoDatagram};
+    ghost use Rattle.bvll.specs.Datagram.{canonical, contents, datagram_of, function, header, whole_length, Spells, NoDatagram};
+    ghost use Rattle.bvll.specs.Octets.{Extends};
     ghost use Rattle.bvll.specs.Refusal.{HasContents, IsLength, Refuses};
 
     /// The datagram that the octets spell, all of them. Takes no memory.
@@ -55,8 +57,80 @@ impl<'a> Bvll<'a> {
         Bvll::from_contents(function, contents)
     }
 
+    /// Appends the datagram's one spelling. After an `Err` the buffer is as it was.
+    ///
+    /// # Errors
+    ///
+    /// `Memory` alone.
+    pub fn write<B: Allocator>(&self, out: &mut Vec<u8, B>) -> Result<(), Fault>
+        requires { whole_length (datagram_of self.now) < 2 ^ 16 }
+        ensures written { OnOk result (out.new.items ≡ out.old.items ++ canonical (datagram_of self.now)) }
+        ensures memory { IfErr result (λ e. e ≡ Fault.Memory) }
+        ensures unchanged { OnErr result (out.new.items ≡ out.old.items) }
+    {
+        let start = out.len();
+        if self.put(out).is_err() {
+            out.truncate(start);
+            return Err(Fault::Memory);
+        }
+        Ok(())
+    }
+
+    /// What the datagram asks for or carries.
+    pub fn function(&self) -> Function
+        ensures { result ≡ function (datagram_of self.now) }
+    {
+        match self {
+            Bvll::Result(_) => Function::Result,
+            Bvll::WriteBroadcastDistributionTable(_) => Function::WriteBroadcastDistributionTable,
+            Bvll::ReadBroadcastDistributionTable => Function::ReadBroadcastDistributionTable,
+            Bvll::ReadBroadcastDistributionTableAck(_) => {
+                Function::ReadBroadcastDistributionTableAck
+            }
+            Bvll::ForwardedNpdu { .. } => Function::ForwardedNpdu,
+            Bvll::RegisterForeignDevice { .. } => Function::RegisterForeignDevice,
+            Bvll::ReadForeignDeviceTable => Function::ReadForeignDeviceTable,
+            Bvll::ReadForeignDeviceTableAck(_) => Function::ReadForeignDeviceTableAck,
+            Bvll::DeleteForeignDeviceTableEntry(_) => Function::DeleteForeignDeviceTableEntry,
+            Bvll::DistributeBroadcastToNetwork(_) => Function::DistributeBroadcastToNetwork,
+            Bvll::OriginalUnicastNpdu(_) => Function::OriginalUnicastNpdu,
+            Bvll::OriginalBroadcastNpdu(_) => Function::OriginalBroadcastNpdu,
+        }
+    }
+
+    /// The length of the whole in octets, where two octets can say it. Only then can the datagram
+    /// be written.
+    pub fn whole_length(&self) -> Option<u16>
+        ensures { MatchOption result (2 ^ 16 ≤ whole_length (datagram_of self.now)) (λ n. n ≡ whole_length (datagram_of self.now)) }
+    {
+        let contents = match self {
+            Bvll::Result(_) | Bvll::RegisterForeignDevice { .. } => 2,
+            Bvll::WriteBroadcastDistributionTable(table)
+            | Bvll::ReadBroadcastDistributionTableAck(table) => table.len().saturating_mul(10),
+            Bvll::ReadBroadcastDistributionTable | Bvll::ReadForeignDeviceTable => 0,
+            Bvll::ForwardedNpdu { npdu, .. } => npdu.len().saturating_add(6),
+            Bvll::ReadForeignDeviceTableAck(table) => table.len().saturating_mul(10),
+            Bvll::DeleteForeignDeviceTableEntry(_) => 6,
+            Bvll::DistributeBroadcastToNetwork(npdu)
+            | Bvll::OriginalUnicastNpdu(npdu)
+            | Bvll::OriginalBroadcastNpdu(npdu) => npdu.len(),
+        };
+        u16::try_from(contents.saturating_add(4)).ok()
+    }
+
+    fn put<B: Allocator>(&self, out: &mut Vec<u8, B>) -> Result<(), AllocError>
+        requires { whole_length (datagram_of self.now) < 2 ^ 16 }
+        ensures put { OnOk result (out.new.items ≡ out.old.items ++ canonical (datagram_of self.now)) }
+        ensures err { OnErr result (Extends out.old.items out.new.items) }
+    {
+        let whole = self.whole_length().unwrap();
+        Bvll::put_header(self.function(), whole, out)?;
+        self.put_contents(out)
+    }
+
     fn header_from(octets: &'a [u8]) -> Result<(Function, u16, &'a [u8]), Fault>
         ensures read { IfOk result (λ x. octets.entry.now ≡ header x.0 x.1 ++ x.2.now) }
+        ensures fits { IfOk result (λ x. x.1 < 2 ^ 16) }
         ensures fault { IfErr result (λ e. Refuses e octets.entry.now) }
     {
         let [first, ..] = octets else {
@@ -73,6 +147,18 @@ impl<'a> Bvll<'a> {
             return Err(Fault::Short);
         };
         Ok((function, BigEndian::read_u16(&[*high, *low]), contents))
+    }
+
+    fn put_header<B: Allocator>(
+        function: Function,
+        whole: u16,
+        out: &mut Vec<u8, B>,
+    ) -> Result<(), AllocError>
+        ensures put { OnOk result (out.new.items ≡ out.old.items ++ header function whole) }
+        ensures err { OnErr result (Extends out.old.items out.new.items) }
+    {
+        let [high, low] = whole.to_be_bytes();
+        out.extend_from_slice(&[BACNET_IP, u8::from(function), high, low])
     }
 
     fn from_contents(function: Function, contents: &'a [u8]) -> Result<Bvll<'a>, Fault>
@@ -112,6 +198,32 @@ impl<'a> Bvll<'a> {
             Function::OriginalUnicastNpdu => Bvll::OriginalUnicastNpdu(contents),
             Function::OriginalBroadcastNpdu => Bvll::OriginalBroadcastNpdu(contents),
         })
+    }
+
+    fn put_contents<B: Allocator>(&self, out: &mut Vec<u8, B>) -> Result<(), AllocError>
+        ensures put { OnOk result (out.new.items ≡ out.old.items ++ contents (datagram_of self.now)) }
+        ensures err { OnErr result (Extends out.old.items out.new.items) }
+    {
+        match self {
+            Bvll::Result(code) => out.extend_from_slice(&u16::from(*code).to_be_bytes()),
+            Bvll::WriteBroadcastDistributionTable(table)
+            | Bvll::ReadBroadcastDistributionTableAck(table) => table.put(out),
+            Bvll::ReadBroadcastDistributionTable | Bvll::ReadForeignDeviceTable => Ok(()),
+            Bvll::ForwardedNpdu { origin, npdu } => {
+                out.extend_from_slice(&origin.to_octets())?;
+                out.extend_from_slice(npdu)
+            }
+            Bvll::RegisterForeignDevice { seconds_to_live } => {
+                out.extend_from_slice(&seconds_to_live.to_be_bytes())
+            }
+            Bvll::ReadForeignDeviceTableAck(table) => table.put(out),
+            Bvll::DeleteForeignDeviceTableEntry(address) => {
+                out.extend_from_slice(&address.to_octets())
+            }
+            Bvll::DistributeBroadcastToNetwork(npdu)
+            | Bvll::OriginalUnicastNpdu(npdu)
+            | Bvll::OriginalBroadcastNpdu(npdu) => out.extend_from_slice(npdu),
+        }
     }
 
     fn nothing_from(contents: &[u8]) -> Result<(), Fault>

@@ -10,7 +10,7 @@ mod table;
 
 pub use address::Address;
 pub use code::ResultCode;
-pub use datagram::Bvll;
+pub use datagram::{BACNET_IP, Bvll};
 pub use entry::{DistributionEntry, Entry, ForeignDevice};
 pub use function::Function;
-pub use table::Table;
+pub use table::{Iter, Table};

@@ -1,8 +1,9 @@
 //! Tables, whose entries lie in a datagram or in a list of the caller's.
 
-ghost use Rattle.std.specs.Prelude.{◌≡◌, ◌≢◌, ◌↔◌, ◌%◌, [], length, IfOk, IfErr, IsTrue, slice_get};
+ghost use Rattle.std.specs.Prelude.{◌≡◌, ◌≢◌, ◌↔◌, ◌%◌, [], length, IfOk, IfErr, IsTrue, OnOk, OnErr, ◌++◌, flat_map, slice_get};
 
 use crate::entry::Entry;
+use std::alloc::{AllocError, Allocator};
 use tags::Fault;
 
 /// The entries of a table: in a datagram that was read, or in a list that is to be written.
@@ -13,8 +14,15 @@ pub enum Table<'a, E> {
     Entries(&'a [E]),
 }
 
+/// Goes through the entries of a table.
+#[derive(Clone, Copy, Debug)]
+pub struct Iter<'a, E> {
+    rest: Table<'a, E>,
+}
+
 impl<'a, E: Entry> Table<'a, E> {
-    ghost use Rattle.bvll.specs.Table.{entries_at, entries_of, SpellsTable};
+    ghost use Rattle.bvll.specs.Table.{entries_at, entries_of, rest_of, SpellsTable};
+    ghost use Rattle.bvll.specs.Octets.{Extends};
 
     /// The table that the octets spell, all of them. Takes no memory.
     ///
@@ -60,6 +68,23 @@ impl<'a, E: Entry> Table<'a, E> {
         }
     }
 
+    /// The entries in order.
+    pub fn iter(&self) -> Iter<'a, E>
+        ensures rest { rest_of E.entry_at result ≡ entries_of E.entry_at self.now }
+    {
+        Iter { rest: *self }
+    }
+
+    pub(crate) fn put<B: Allocator>(&self, out: &mut Vec<u8, B>) -> Result<(), AllocError>
+        ensures put { OnOk result (out.new.items ≡ out.old.items ++ flat_map E.octets_of (entries_of E.entry_at self.now)) }
+        ensures err { OnErr result (Extends out.old.items out.new.items) }
+    {
+        for entry in self.iter() {
+            out.extend_from_slice(&entry.to_octets())?;
+        }
+        Ok(())
+    }
+
     #[tactic(auto, using(crate::proofs::Tables::table_rules))]
     fn row(octets: &[u8], index: usize) -> Option<E>
         ensures { result ≡ slice_get (entries_at E.entry_at octets.now) index }
@@ -69,5 +94,38 @@ impl<'a, E: Entry> Table<'a, E> {
         }
         let (_, rest) = octets.split_at(10 * index);
         Some(E::from_octets(rest))
+    }
+}
+
+impl<'a, E: Entry> Iterator for Iter<'a, E> {
+    type Item = E;
+
+    ghost use Rattle.std.specs.Iterator.{YieldsFirst, item_count};
+    ghost use Rattle.bvll.specs.Table.{rest_of};
+
+    ghost next_gives = { YieldsFirst (rest_of E.entry_at) };
+
+    ghost remaining = { item_count (rest_of E.entry_at) };
+
+    #[tactic(auto, using(crate::proofs::Tables::next_rules))]
+    fn next(&mut self) -> Option<E> {
+        match self.rest {
+            Table::Octets(octets) => {
+                if octets.len() < 10 {
+                    return None;
+                }
+                let entry = E::from_octets(octets);
+                let (_, rest) = octets.split_at(10);
+                self.rest = Table::Octets(rest);
+                Some(entry)
+            }
+            Table::Entries(entries) => {
+                let [entry, rest @ ..] = entries else {
+                    return None;
+                };
+                self.rest = Table::Entries(rest);
+                Some(*entry)
+            }
+        }
     }
 }
