@@ -10,7 +10,7 @@ use Rattle.bvll.specs.declared.entry.ForeignDevice.{ForeignDevice}
 use Rattle.bvll.specs.declared.function.Function.{Function}
 use Rattle.bvll.specs.declared.function.Function.TheVariants as f
 use Rattle.bvll.specs.Address.{address_octets, IsAddress}
-use Rattle.bvll.specs.Code.{code_number}
+use Rattle.bvll.specs.Code.{code_number, IsNamed}
 use Rattle.bvll.specs.Entry.{distribution_octets, foreign_octets, distribution_at, foreign_at, IsDistributionEntry, IsForeignDevice}
 use Rattle.bvll.specs.Function.{number_of}
 use Rattle.bvll.specs.Table.{entries_of}
@@ -126,3 +126,8 @@ datagram_of (variant.DeleteForeignDeviceTableEntry address) = delete_foreign add
 datagram_of (variant.DistributeBroadcastToNetwork npdu) = distribute npdu.now
 datagram_of (variant.OriginalUnicastNpdu npdu) = unicast npdu.now
 datagram_of (variant.OriginalBroadcastNpdu npdu) = broadcast npdu.now
+
+-- the code of a result goes by its name
+abbrev pub HasNamedCode : Bvll → Type 0
+HasNamedCode (variant.Result code) = IsNamed code
+HasNamedCode _ = Unit {0}

@@ -7,3 +7,4 @@ pub mod EntryLaws
 pub mod Table
 pub mod Datagram
 pub mod Refusal
+pub mod Laws

@@ -34,7 +34,7 @@ impl<'a> Bvll<'a> {
     ghost use Rattle.std.specs.Prelude.{◌≡◌, ◌≢◌, ◌<◌, ◌≤◌, ◌^◌, ◌++◌, ◌∷◌, [], length, IfOk, IfErr, OnOk, OnErr, MatchOption};
     ghost use Rattle.byteorder.specs.Endian.{big_bytes};
     ghost use Rattle.bvll.specs.Address.{TakesAddress, IsAddress, address_octets};
-    ghost use Rattle.bvll.specs.Datagram.{canonical, contents, datagram_of, function, header, whole_length, Spells, NoDatagram};
+    ghost use Rattle.bvll.specs.Datagram.{canonical, contents, datagram_of, function, header, whole_length, HasNamedCode, Spells, NoDatagram};
     ghost use Rattle.bvll.specs.Octets.{Extends};
     ghost use Rattle.bvll.specs.Refusal.{HasContents, IsLength, Refuses};
 
@@ -47,6 +47,7 @@ impl<'a> Bvll<'a> {
     /// wrong for the function; the first of these that holds.
     pub fn read(octets: &'a [u8]) -> Result<Bvll<'a>, Fault>
         ensures read { IfOk result (λ b. Spells octets.entry.now (datagram_of b)) }
+        ensures named { IfOk result HasNamedCode }
         ensures refused { OnErr result (NoDatagram octets.entry.now) }
         ensures fault { IfErr result (λ e. Refuses e octets.entry.now) }
     {
@@ -163,6 +164,7 @@ impl<'a> Bvll<'a> {
 
     fn from_contents(function: Function, contents: &'a [u8]) -> Result<Bvll<'a>, Fault>
         ensures read { IfOk result (λ b. HasContents function contents.entry.now (datagram_of b)) }
+        ensures named { IfOk result HasNamedCode }
         ensures refused { IfErr result (λ e. (e ≡ Fault.BadLength) × (IsLength function (length contents.entry.now) → ⊥)) }
     {
         Ok(match function {

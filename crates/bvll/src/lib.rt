@@ -6,6 +6,7 @@ mod code;
 mod datagram;
 mod entry;
 mod function;
+mod laws;
 mod table;
 
 pub use address::Address;
@@ -13,4 +14,5 @@ pub use code::ResultCode;
 pub use datagram::{BACNET_IP, Bvll};
 pub use entry::{DistributionEntry, Entry, ForeignDevice};
 pub use function::Function;
+pub use laws::spelling;
 pub use table::{Iter, Table};

@@ -1,0 +1,5 @@
+use Rattle.bvll.proofs.Unique.{canonical_spells, one_datagram}
+use Rattle.bvll.proofs.laws.spelling.Goals as goal
+
+pub returns : goal.returns
+returns c = record { one = one_datagram; canonical = canonical_spells }
