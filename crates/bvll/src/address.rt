@@ -11,7 +11,7 @@ pub struct Address {
 
 impl Address {
     ghost use Rattle.std.specs.Prelude.{◌≡◌, ◌≤◌, length};
-    ghost use Rattle.bvll.specs.Address.{address_at, address_octets};
+    ghost use Rattle.bvll.specs.Address.{address_at, address_octets, IsAddress};
 
     /// The address in the first six octets.
     pub fn from_octets(octets: &[u8]) -> Address
@@ -26,7 +26,8 @@ impl Address {
 
     /// The six octets that spell the address.
     pub fn to_octets(&self) -> [u8; 6]
-        ensures { result ≡ address_octets self.now }
+        ensures octets { result ≡ address_octets self.now }
+        ensures fields { IsAddress self.now }
     {
         let [a, b, c, d] = self.ip;
         let [high, low] = self.port.to_be_bytes();

@@ -34,7 +34,7 @@ impl<'a> Bvll<'a> {
     ghost use Rattle.std.specs.Prelude.{◌≡◌, ◌≢◌, ◌<◌, ◌≤◌, ◌^◌, ◌++◌, ◌∷◌, [], length, IfOk, IfErr, OnOk, OnErr, MatchOption};
     ghost use Rattle.byteorder.specs.Endian.{big_bytes};
     ghost use Rattle.bvll.specs.Address.{TakesAddress, IsAddress, address_octets};
-    ghost use Rattle.bvll.specs.Datagram.{canonical, contents, datagram_of, function, header, whole_length, HasNamedCode, Spells, NoDatagram};
+    ghost use Rattle.bvll.specs.Datagram.{canonical, contents, datagram_of, function, header, whole_length, HasFields, HasNamedCode, Spells, NoDatagram};
     ghost use Rattle.bvll.specs.Octets.{Extends};
     ghost use Rattle.bvll.specs.Refusal.{HasContents, IsLength, Refuses};
 
@@ -63,9 +63,11 @@ impl<'a> Bvll<'a> {
     /// # Errors
     ///
     /// `Memory` alone.
+    #[tactic(auto, using(crate::proofs::Unique::canonical_spells))]
     pub fn write<B: Allocator>(&self, out: &mut Vec<u8, B>) -> Result<(), Fault>
         requires { whole_length (datagram_of self.now) < 2 ^ 16 }
         ensures written { OnOk result (out.new.items ≡ out.old.items ++ canonical (datagram_of self.now)) }
+        ensures spelled { OnOk result (Spells (canonical (datagram_of self.now)) (datagram_of self.now)) }
         ensures memory { IfErr result (λ e. e ≡ Fault.Memory) }
         ensures unchanged { OnErr result (out.new.items ≡ out.old.items) }
     {
@@ -122,6 +124,7 @@ impl<'a> Bvll<'a> {
     fn put<B: Allocator>(&self, out: &mut Vec<u8, B>) -> Result<(), AllocError>
         requires { whole_length (datagram_of self.now) < 2 ^ 16 }
         ensures put { OnOk result (out.new.items ≡ out.old.items ++ canonical (datagram_of self.now)) }
+        ensures fields { OnOk result (HasFields (datagram_of self.now)) }
         ensures err { OnErr result (Extends out.old.items out.new.items) }
     {
         let whole = self.whole_length().unwrap();
@@ -204,6 +207,7 @@ impl<'a> Bvll<'a> {
 
     fn put_contents<B: Allocator>(&self, out: &mut Vec<u8, B>) -> Result<(), AllocError>
         ensures put { OnOk result (out.new.items ≡ out.old.items ++ contents (datagram_of self.now)) }
+        ensures fields { OnOk result (HasFields (datagram_of self.now)) }
         ensures err { OnErr result (Extends out.old.items out.new.items) }
     {
         match self {

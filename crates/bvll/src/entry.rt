@@ -22,7 +22,8 @@ pub trait Entry: Copy {
 
     /// The ten octets that spell the entry.
     fn to_octets(&self) -> [u8; 10]
-        ensures { result ≡ octets_of self.now };
+        ensures octets { result ≡ octets_of self.now }
+        ensures fields { IsEntry self.now };
 
     // what is read is spelled by the octets
     ghost spelled: { (octets : List ℕ) → IsBytes octets → 10 ≤ length octets → SpellsEntry octets_of IsEntry (take 10 octets) (entry_at octets) };
@@ -92,9 +93,14 @@ impl Entry for ForeignDevice {
     }
 
     fn to_octets(&self) -> [u8; 10] {
-        let [a, b, c, d, high, low] = self.address.to_octets();
-        let [e, f] = self.seconds_to_live.to_be_bytes();
-        let [g, h] = self.seconds_left.to_be_bytes();
+        let ForeignDevice {
+            address,
+            seconds_to_live,
+            seconds_left,
+        } = *self;
+        let [a, b, c, d, high, low] = address.to_octets();
+        let [e, f] = seconds_to_live.to_be_bytes();
+        let [g, h] = seconds_left.to_be_bytes();
         [a, b, c, d, high, low, e, f, g, h]
     }
 }

@@ -22,6 +22,7 @@ pub struct Iter<'a, E> {
 
 impl<'a, E: Entry> Table<'a, E> {
     ghost use Rattle.bvll.specs.Table.{entries_at, entries_of, rest_of, SpellsTable};
+    ghost use Rattle.std.specs.List.{AllByRecursion};
     ghost use Rattle.bvll.specs.Octets.{Extends};
 
     /// The table that the octets spell, all of them. Takes no memory.
@@ -77,6 +78,7 @@ impl<'a, E: Entry> Table<'a, E> {
 
     pub(crate) fn put<B: Allocator>(&self, out: &mut Vec<u8, B>) -> Result<(), AllocError>
         ensures put { OnOk result (out.new.items ≡ out.old.items ++ flat_map E.octets_of (entries_of E.entry_at self.now)) }
+        ensures fields { OnOk result (AllByRecursion E.IsEntry (entries_of E.entry_at self.now)) }
         ensures err { OnErr result (Extends out.old.items out.new.items) }
     {
         for entry in self.iter() {
