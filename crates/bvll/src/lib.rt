@@ -16,3 +16,6 @@ pub use entry::{DistributionEntry, Entry, ForeignDevice};
 pub use function::Function;
 pub use laws::spelling;
 pub use table::{Iter, Table};
+
+#[cfg(test)]
+mod tests;
