@@ -1,12 +1,12 @@
 -- The octets of an element never begin those of another element, and when none stands at a front.
-use Rattle.std.proofs.Common.{◌≡◌, ◌⊎◌, ◌↔◌, Bool, true, false, ℕ, zero, suc, List, [], ◌∷◌, ◌++◌, append_assoc, refl, sym, ap, subst, ◌∙◌, inl, inr}
-use Rattle.std.proofs.lemmas.List.{append_cancel_left, append_cancel_right, append-nil}
+use Rattle.std.proofs.Common.{◌≡◌, ◌⊎◌, ◌↔◌, Bool, true, false, ℕ, zero, suc, ◌<◌, length, arith, List, [], ◌∷◌, ◌++◌, append_assoc, refl, sym, ap, subst, ◌∙◌, inl, inr}
+use Rattle.std.proofs.lemmas.List.{append_cancel_left, append_cancel_right, append-nil, length-append}
 use Rattle.tags.specs.declared.tag.Class.TheVariants.{Application, Context}
 use Rattle.tags.specs.declared.tag.Class.{Class}
 use Rattle.tags.specs.Tag.{PlainTag, PlainContent, null, boolean, contents, opening, closing, SpellsContent, TakesTag, NoTag}
 use Rattle.tags.specs.Element.{TakesTags, waiting, Closes, ClosesBefore, NeverCloses, context, IsElement, TakesElement, NoElement}
 use Rattle.tags.specs.Refusal.{application}
-use Rattle.tags.proofs.OneTag.{one_tag, one_front_tag}
+use Rattle.tags.proofs.OneTag.{one_tag, one_front_tag, tag_some}
 
 contents_opening : (inner : List ℕ) → contents inner ≡ opening → ⊥
 contents_opening inner e = cc
@@ -70,6 +70,10 @@ one_element a b x y (inr p) (inr q) e =
     let at : TakesTags (p.inside ++ x) q.closed.tags y = subst (λ (z : List ℕ). TakesTags z q.closed.tags y) (sym one.rest) (tags_before q.inside q.closed.tags y q.closed.taken) in
     let same = one_closing (p.inside ++ x) p.closed.tags q.closed.tags x y 1 (tags_before p.inside p.closed.tags x p.closed.taken) at p.closed.balanced q.closed.balanced in
     append_cancel_right a b x (e ∙ ap (λ (z : List ℕ). b ++ z) (sym same))
+
+pub element_some : (octets : List ℕ) → IsElement octets → 0 < length octets
+element_some octets (inl p) = tag_some octets (context p.number (contents p.inner)) p.spelled
+element_some octets (inr p) = let some = tag_some p.opened.0 (context p.number opening) p.opened.1 in rw (p.opened.2) (omega (arith, length-append p.opened.0 p.inside))
 
 -- ---- what an element at a front is
 

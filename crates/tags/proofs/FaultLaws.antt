@@ -13,8 +13,9 @@ use Rattle.std.proofs.Common.{Bor}
 use Rattle.std.specs.Prelude.{IfErr}
 use Rattle.tags.specs.declared.tag.Tag.{Tag}
 use Rattle.tags.specs.TagReading.{◌>>=◌, number_at, sized_at, long_length_at, length_at, contents_at, application_at, context_at, tag_at, Gives}
-use Rattle.tags.proofs.Numbers.{IsBytes, IsBytes-rest, two_again, four_again}
-use Rattle.tags.proofs.TagLaws.{chosen, err_ok, pair_is, tag_with, number_takes, cell, IsBytes-after, number_above}
+use Rattle.tags.specs.Number.{AreOctets}
+use Rattle.tags.proofs.Numbers.{AreOctets-rest, two_again, four_again}
+use Rattle.tags.proofs.TagLaws.{chosen, err_ok, pair_is, tag_with, number_takes, cell, AreOctets-after, number_above}
 
 -- where two steps fail, which did
 bind_err : {A B : Type 0} (r : Result A Fault) (f : A → Result B Fault) (d : Fault) → (r >>= f) ≡ Err d → (r ≡ Err d) ⊎ ((x : A) × (r ≡ Ok x) × (f x ≡ Err d))
@@ -40,14 +41,14 @@ record CutContents (low : ℕ) (bytes : List ℕ) : Type 0 where
   bits : length_bits form (length inner) ≡ low
   parts : bytes ++ more ≡ length_octets form (length inner) ++ inner
 
-zeros_fit : (n : ℕ) → IsBytes (replicate n 0)
+zeros_fit : (n : ℕ) → AreOctets (replicate n 0)
 zeros_fit n i =
     elim (cases_lt i n) [
       | inl lt ↦ rw (get_or-replicate {A = ℕ} n i 0 0 lt) (omega arith)
       | inr le ↦ rw (get_or_past {X = ℕ} (replicate n 0) i 0 (omega (arith, length-replicate {A = ℕ} n 0))) (omega arith)
     ]
 
-padded_fit : (bytes : List ℕ) (n : ℕ) → IsBytes bytes → IsBytes (bytes ++ replicate n 0)
+padded_fit : (bytes : List ℕ) (n : ℕ) → AreOctets bytes → AreOctets (bytes ++ replicate n 0)
 padded_fit bytes n fits i =
     elim (cases_lt i (length bytes)) [
       | inl lt ↦ rw (get_or_append_left bytes (replicate n 0) 0 i lt) (fits i)
@@ -59,9 +60,9 @@ short_of : (bytes : List ℕ) (n : ℕ) → length bytes ≤ n → length (bytes
 short_of bytes n le = simp (length-append, length-replicate) (omega arith)
 
 record IsSized (n first : ℕ) (form : LengthForm) : Type 0 where
-  again : (bytes : List ℕ) → n ≤ length bytes → IsBytes bytes → bytes ≡ big_bytes n (big_number n bytes) ++ drop n bytes
+  again : (bytes : List ℕ) → n ≤ length bytes → AreOctets bytes → bytes ≡ big_bytes n (big_number n bytes) ++ drop n bytes
   octets : (k : ℕ) → length_octets form k ≡ first ∷ big_bytes n k
-  fits : (bytes : List ℕ) → IsBytes bytes → IsLength form (big_number n bytes)
+  fits : (bytes : List ℕ) → AreOctets bytes → IsLength form (big_number n bytes)
   bits : (k : ℕ) → length_bits form k ≡ 5
 
 sized_two : IsSized 2 254 in_two
@@ -71,7 +72,7 @@ sized_four : IsSized 4 255 in_four
 sized_four = record { again = four_again; octets = λ k. refl; fits = λ bytes h. let b = big_from-lt 0 4 bytes h in omega (arith, b); bits = λ k. refl }
 
 -- the length itself is cut: zeros complete it, and as many zeros as it then says are the contents
-cut_length : (n first : ℕ) (form : LengthForm) (s : IsSized n first form) (bytes : List ℕ) → length bytes < n → IsBytes bytes → CutContents 5 (first ∷ bytes)
+cut_length : (n first : ℕ) (form : LengthForm) (s : IsSized n first form) (bytes : List ℕ) → length bytes < n → AreOctets bytes → CutContents 5 (first ∷ bytes)
 cut_length n first form s bytes lt fits =
     let pad = replicate (n - length bytes) 0 in
     let full = bytes ++ pad in
@@ -91,7 +92,7 @@ cut_length n first form s bytes lt fits =
     }
 
 -- the contents are cut
-cut_inner : (n first : ℕ) (form : LengthForm) (s : IsSized n first form) (bytes : List ℕ) → n ≤ length bytes → length (drop n bytes) ≤ big_number n bytes → IsBytes bytes → CutContents 5 (first ∷ bytes)
+cut_inner : (n first : ℕ) (form : LengthForm) (s : IsSized n first form) (bytes : List ℕ) → n ≤ length bytes → length (drop n bytes) ≤ big_number n bytes → AreOctets bytes → CutContents 5 (first ∷ bytes)
 cut_inner n first form s bytes le short fits =
     let len = big_number n bytes in
     let pad = replicate (len - length (drop n bytes)) 0 in
@@ -163,10 +164,10 @@ sized_is n bytes x e =
       | inr w ↦ let p = pair_is (big_number n bytes) x.0 (drop n bytes) x.1 w.1 in (ltb-false _ _ w.0, p.0, p.1)
     ]
 
-long_fails : (bytes : List ℕ) (d : Fault) → IsBytes bytes → long_length_at bytes ≡ Err d → (d ≡ Short) × CutContents 5 bytes
+long_fails : (bytes : List ℕ) (d : Fault) → AreOctets bytes → long_length_at bytes ≡ Err d → (d ≡ Short) × CutContents 5 bytes
 long_fails [] d fits e = (sym (err_is (ℕ × List ℕ) Short d e), empty_cut 5 (omega arith))
 long_fails (n ∷ bytes) d fits e =
-    let below = IsBytes-rest n bytes fits in
+    let below = AreOctets-rest n bytes fits in
     elim (chosen (ltb n 254) _ _ (Err d) e) [
       | inl w ↦ absurd (ok_err _ _ w.1)
       | inr w ↦ elim (chosen (eqb n 254) _ _ (Err d) w.1) [
@@ -177,10 +178,10 @@ long_fails (n ∷ bytes) d fits e =
       ]
     ]
 
-long_cut : (bytes : List ℕ) (x : ℕ × List ℕ) → IsBytes bytes → long_length_at bytes ≡ Ok x → length x.1 < x.0 → CutContents 5 bytes
+long_cut : (bytes : List ℕ) (x : ℕ × List ℕ) → AreOctets bytes → long_length_at bytes ≡ Ok x → length x.1 < x.0 → CutContents 5 bytes
 long_cut [] x fits e short = absurd (err_ok _ _ e)
 long_cut (n ∷ bytes) x fits e short =
-    let below = IsBytes-rest n bytes fits in
+    let below = AreOctets-rest n bytes fits in
     elim (chosen (ltb n 254) _ _ (Ok x) e) [
       | inl w ↦ let p = pair_is n x.0 bytes x.1 w.1 in one_cut n bytes (ltb-true _ _ w.0) (rw (p.0, p.1) (omega arith))
       | inr w ↦ elim (chosen (eqb n 254) _ _ (Ok x) w.1) [
@@ -192,7 +193,7 @@ long_cut (n ∷ bytes) x fits e short =
       ]
     ]
 
-contents_fails : (class : Class) (number low : ℕ) (bytes : List ℕ) (d : Fault) → low < 6 → IsBytes bytes → contents_at class number low bytes ≡ Err d → (d ≡ Short) × CutContents low bytes
+contents_fails : (class : Class) (number low : ℕ) (bytes : List ℕ) (d : Fault) → low < 6 → AreOctets bytes → contents_at class number low bytes ≡ Err d → (d ≡ Short) × CutContents low bytes
 unfolding contents_at length_at
 contents_fails class number low bytes d lt fits e =
     elim (bind_err (length_at low bytes) _ d e) [
@@ -246,7 +247,7 @@ cut_number class low first has lt e =
 reserved_number : (d : Fault) (first : ℕ) (bytes : List ℕ) → d ≡ BadTag → 15 ≤ first / 16 → IsReservedNumber bytes → RefusesTag d (first ∷ bytes)
 reserved_number d first bytes is high h = rw is (inr (omega arith, h))
 
-application_fails : (first : ℕ) (bytes : List ℕ) (d : Fault) → first < 256 → first / 8 % 2 ≡ 0 → IsBytes bytes
+application_fails : (first : ℕ) (bytes : List ℕ) (d : Fault) → first < 256 → first / 8 % 2 ≡ 0 → AreOctets bytes
     → application_at (first / 16) (first % 8) bytes ≡ Err d → RefusesTag d (first ∷ bytes)
 unfolding application_at NumberFails
 application_fails first bytes d lt bit fits e =
@@ -271,7 +272,7 @@ application_fails first bytes d lt bit fits e =
             ]
             | inr y ↦ let n = number_takes (first / 16) bytes y.0.0 y.0.1 (omega arith) y.1 in
                 let low-lt : first % 8 < 6 = omega (arith, ltb-false _ _ w.0) in
-                let c = contents_fails Application y.0.0 (first % 8) y.0.1 d low-lt (IsBytes-after _ _ _ n.parts fits) y.2 in
+                let c = contents_fails Application y.0.0 (first % 8) y.0.1 d low-lt (AreOctets-after _ _ _ n.parts fits) y.2 in
                 rw (c.0) (cut_tag Application y.0.0 (first / 16) (first % 8) first bytes y.0.1 (number_above y.0.0 (first / 16) n.high (eqb-false _ _ v.0) (eqb-false _ _ u.0)) (omega arith) n.fits n.high n.parts c.1)
           ]
         ]
@@ -286,7 +287,7 @@ cut_bracket low first le lt e =
       | inr seven ↦ record { more = 15 ∷ []; tag = tag_with Context 15 closing; spelled = (refl, omega arith, cell first _ _ _ (omega arith) refl) }
     ]
 
-context_fails : (first : ℕ) (bytes : List ℕ) (d : Fault) → first < 256 → first / 8 % 2 ≡ 1 → IsBytes bytes
+context_fails : (first : ℕ) (bytes : List ℕ) (d : Fault) → first < 256 → first / 8 % 2 ≡ 1 → AreOctets bytes
     → context_at (first / 16) (first % 8) bytes ≡ Err d → RefusesTag d (first ∷ bytes)
 unfolding context_at NumberFails
 context_fails first bytes d lt bit fits e =
@@ -303,22 +304,22 @@ context_fails first bytes d lt bit fits e =
         | inr w ↦ elim (chosen (eqb (first % 8) 7) _ _ (Err d) w.1) [
           | inl v ↦ absurd (ok_err _ _ v.1)
           | inr v ↦ let n = number_takes (first / 16) bytes y.0.0 y.0.1 (omega arith) y.1 in
-              let c = contents_fails Context y.0.0 (first % 8) y.0.1 d (omega (arith, eqb-false _ _ w.0, eqb-false _ _ v.0)) (IsBytes-after _ _ _ n.parts fits) v.1 in
+              let c = contents_fails Context y.0.0 (first % 8) y.0.1 d (omega (arith, eqb-false _ _ w.0, eqb-false _ _ v.0)) (AreOctets-after _ _ _ n.parts fits) v.1 in
               rw (c.0) (cut_tag Context y.0.0 (first / 16) (first % 8) first bytes y.0.1 tt (omega arith) n.fits n.high n.parts c.1)
         ]
       ]
     ]
 
-pub tag_fails : (bytes : List ℕ) (d : Fault) → IsBytes bytes → tag_at bytes ≡ Err d → RefusesTag d bytes
+pub tag_fails : (bytes : List ℕ) (d : Fault) → AreOctets bytes → tag_at bytes ≡ Err d → RefusesTag d bytes
 unfolding tag_at
 tag_fails [] d fits e =
     subst (λ (x : Fault). RefusesTag x []) (err_is (PlainTag × List ℕ) Short d e) (record { more = 0 ∷ []; tag = tag_with Application 0 null; spelled = (refl, refl, refl) })
 tag_fails (first ∷ bytes) d fits e =
     elim (chosen (eqb (first / 8 % 2) 0) _ _ (Err d) e) [
-      | inl w ↦ application_fails first bytes d (fits 0) (eqb-true _ _ w.0) (IsBytes-rest first bytes fits) w.1
-      | inr w ↦ context_fails first bytes d (fits 0) (omega (arith, eqb-false _ _ w.0)) (IsBytes-rest first bytes fits) w.1
+      | inl w ↦ application_fails first bytes d (fits 0) (eqb-true _ _ w.0) (AreOctets-rest first bytes fits) w.1
+      | inr w ↦ context_fails first bytes d (fits 0) (omega (arith, eqb-false _ _ w.0)) (AreOctets-rest first bytes fits) w.1
     ]
 
-pub which_fault : (bytes : List ℕ) (r : Result (Tag × Bor (List ℕ)) Fault) → IsBytes bytes → Gives (λ x. (plain_tag x.0, x.1.now)) r (tag_at bytes) → IfErr r (λ e. RefusesTag e bytes)
+pub which_fault : (bytes : List ℕ) (r : Result (Tag × Bor (List ℕ)) Fault) → AreOctets bytes → Gives (λ x. (plain_tag x.0, x.1.now)) r (tag_at bytes) → IfErr r (λ e. RefusesTag e bytes)
 which_fault bytes (Ok x) fits given = tt
 which_fault bytes (Err e) fits given = tag_fails bytes e fits given

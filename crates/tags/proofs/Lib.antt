@@ -5,3 +5,5 @@ pub mod OneTag
 pub mod ElementWalk
 pub mod ElementLaws
 pub mod ValueLaws
+pub mod CanonicalLaws
+pub mod ShortestLaws

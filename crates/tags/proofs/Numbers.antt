@@ -1,5 +1,5 @@
 -- Numbers in two and four octets, read and written again.
-use Rattle.std.proofs.Common.{◌≡◌, ℕ, zero, suc, ◌-◌, ◌+◌, ◌^◌, ◌<◌, ◌≤◌, List, [], ◌∷◌, ◌++◌, length, get_or, drop, refl, arith, inl, inr}
+use Rattle.std.proofs.Common.{◌≡◌, ℕ, zero, suc, ◌-◌, ◌+◌, ◌^◌, ◌<◌, ◌≤◌, List, [], ◌∷◌, ◌++◌, length, drop, refl, arith, inl, inr}
 use Rattle.std.proofs.lemmas.List.{get_or-drop}
 use Rattle.std.specs.Prelude.{FitsSigned}
 use Rattle.std.specs.Int.{w32}
@@ -8,26 +8,24 @@ use Rattle.std.proofs.lemmas.Bool.{cases_lt, lt-ltb, le-ltb}
 use Rattle.std.proofs.lemmas.Int.{ints}
 use Rattle.byteorder.specs.Numbers.{big_from-lt}
 use Rattle.byteorder.specs.Endian.{big_number, big_bytes, twos_complement}
+use Rattle.tags.specs.Number.{AreOctets}
 
-abbrev pub IsBytes : List ℕ → Type 0
-IsBytes bytes = (i : ℕ) → get_or bytes i 0 < 256
+pub AreOctets-rest : (b : ℕ) (bytes : List ℕ) → AreOctets (b ∷ bytes) → AreOctets bytes
+AreOctets-rest b bytes h i = h (suc i)
 
-pub IsBytes-rest : (b : ℕ) (bytes : List ℕ) → IsBytes (b ∷ bytes) → IsBytes bytes
-IsBytes-rest b bytes h i = h (suc i)
-
-pub IsBytes-drop : (n : ℕ) (bytes : List ℕ) → IsBytes bytes → IsBytes (drop n bytes)
-IsBytes-drop n bytes h i = rw get_or-drop (h (n + i))
+pub AreOctets-drop : (n : ℕ) (bytes : List ℕ) → AreOctets bytes → AreOctets (drop n bytes)
+AreOctets-drop n bytes h i = rw get_or-drop (h (n + i))
 
 cell : (a b : ℕ) (xs ys : List ℕ) → a ≡ b → xs ≡ ys → a ∷ xs ≡ b ∷ ys
 cell a b xs ys e f = cc
 
-pub two_again : (bytes : List ℕ) → 2 ≤ length bytes → IsBytes bytes → bytes ≡ big_bytes 2 (big_number 2 bytes) ++ drop 2 bytes
+pub two_again : (bytes : List ℕ) → 2 ≤ length bytes → AreOctets bytes → bytes ≡ big_bytes 2 (big_number 2 bytes) ++ drop 2 bytes
 two_again [] le fits = absurd (omega arith)
 two_again (a ∷ []) le fits = absurd (omega arith)
 two_again (a ∷ b ∷ rest) le fits =
     cell a _ _ _ (omega (arith, fits 0, fits 1)) (cell b _ _ _ (omega (arith, fits 0, fits 1)) refl)
 
-pub four_again : (bytes : List ℕ) → 4 ≤ length bytes → IsBytes bytes → bytes ≡ big_bytes 4 (big_number 4 bytes) ++ drop 4 bytes
+pub four_again : (bytes : List ℕ) → 4 ≤ length bytes → AreOctets bytes → bytes ≡ big_bytes 4 (big_number 4 bytes) ++ drop 4 bytes
 four_again [] le fits = absurd (omega arith)
 four_again (a ∷ []) le fits = absurd (omega arith)
 four_again (a ∷ b ∷ []) le fits = absurd (omega arith)
@@ -44,7 +42,7 @@ last_octets (suc (suc (suc zero))) n le = refl
 last_octets (suc (suc (suc (suc zero)))) n le = refl
 last_octets (suc (suc (suc (suc (suc k))))) n le = absurd (omega arith)
 
-pub number_below : (n : ℕ) (octets : List ℕ) → n ≤ 4 → IsBytes octets → big_number n octets < 2 ^ 32
+pub number_below : (n : ℕ) (octets : List ℕ) → n ≤ 4 → AreOctets octets → big_number n octets < 2 ^ 32
 number_below n octets le fits =
     let a = big_from-lt 0 n octets fits in
     let b = pow-le-pow_right {n = 256} (omega arith) {i = n} {j = 4} le in

@@ -13,7 +13,8 @@ use Rattle.std.proofs.Common.{Bor}
 use Rattle.std.specs.Prelude.{IfOk, OnErr}
 use Rattle.tags.specs.declared.tag.Tag.{Tag}
 use Rattle.tags.specs.TagReading.{◌>>=◌, number_at, sized_at, long_length_at, length_at, contents_at, application_at, context_at, tag_at, Gives}
-use Rattle.tags.proofs.Numbers.{IsBytes, IsBytes-rest, two_again, four_again}
+use Rattle.tags.specs.Number.{AreOctets}
+use Rattle.tags.proofs.Numbers.{AreOctets-rest, two_again, four_again}
 
 -- the value of a step that did not fail
 pub bind_ok : {A B : Type 0} (r : Result A Fault) (f : A → Result B Fault) (y : B) → (r >>= f) ≡ Ok y → (x : A) × (r ≡ Ok x) × (f x ≡ Ok y)
@@ -95,10 +96,10 @@ sized_takes n bytes len rest e =
       | inr w ↦ let p = pair_is (big_number n bytes) len (drop n bytes) rest w.1 in (ltb-false _ _ w.0, p.0, p.1)
     ]
 
-long_takes : (bytes : List ℕ) (len : ℕ) (rest : List ℕ) → IsBytes bytes → long_length_at bytes ≡ Ok (len, rest) → TakesLength 5 bytes len rest
+long_takes : (bytes : List ℕ) (len : ℕ) (rest : List ℕ) → AreOctets bytes → long_length_at bytes ≡ Ok (len, rest) → TakesLength 5 bytes len rest
 long_takes [] len rest fits e = absurd (err_ok _ _ e)
 long_takes (n ∷ bytes) len rest fits e =
-    let below = IsBytes-rest n bytes fits in
+    let below = AreOctets-rest n bytes fits in
     elim (chosen (ltb n 254) (Ok (n, bytes)) (cond (eqb n 254) (sized_at 2 bytes) (sized_at 4 bytes)) (Ok (len, rest)) e) [
       | inl w ↦ let p = pair_is n len bytes rest w.1 in
           record { form = in_octet; fits = omega (arith, ltb-true _ _ w.0, p.0); bits = refl; parts = rw p.0 (rw p.1 refl) }
@@ -113,7 +114,7 @@ long_takes (n ∷ bytes) len rest fits e =
       ]
     ]
 
-pub length_takes : (low : ℕ) (bytes : List ℕ) (len : ℕ) (rest : List ℕ) → low < 6 → IsBytes bytes → length_at low bytes ≡ Ok (len, rest) → TakesLength low bytes len rest
+pub length_takes : (low : ℕ) (bytes : List ℕ) (len : ℕ) (rest : List ℕ) → low < 6 → AreOctets bytes → length_at low bytes ≡ Ok (len, rest) → TakesLength low bytes len rest
 unfolding length_at
 length_takes low bytes len rest lt fits e =
     elim (chosen (ltb low 5) (Ok (low, bytes)) (long_length_at bytes) (Ok (len, rest)) e) [
@@ -150,7 +151,7 @@ record TakesContents (class : Class) (number low : ℕ) (bytes : List ℕ) (t : 
   bits : length_bits form (length inner) ≡ low
   parts : bytes ≡ length_octets form (length inner) ++ (inner ++ rest)
 
-contents_takes : (class : Class) (number low : ℕ) (bytes : List ℕ) (t : PlainTag) (rest : List ℕ) → low < 6 → IsBytes bytes → contents_at class number low bytes ≡ Ok (t, rest) → TakesContents class number low bytes t rest
+contents_takes : (class : Class) (number low : ℕ) (bytes : List ℕ) (t : PlainTag) (rest : List ℕ) → low < 6 → AreOctets bytes → contents_at class number low bytes ≡ Ok (t, rest) → TakesContents class number low bytes t rest
 unfolding contents_at
 contents_takes class number low bytes t rest lt fits e =
     let b = bind_ok (length_at low bytes) (λ len. cond (ltb (length len.1) len.0) (Err Short) (Ok (tag_with class number (contents (take len.0 len.1)), drop len.0 len.1))) (t, rest) e in
@@ -228,8 +229,8 @@ number_bits_above number h =
     ]
 
 -- the rest of octets is octets
-pub IsBytes-after : (bytes front rest : List ℕ) → bytes ≡ front ++ rest → IsBytes bytes → IsBytes rest
-IsBytes-after bytes front rest e fits i = rw (← get_or-append-add front rest i 0, ← e) (fits (length front + i))
+pub AreOctets-after : (bytes front rest : List ℕ) → bytes ≡ front ++ rest → AreOctets bytes → AreOctets rest
+AreOctets-after bytes front rest e fits i = rw (← get_or-append-add front rest i 0, ← e) (fits (length front + i))
 
 boolean_takes : (first : ℕ) (bytes : List ℕ) (t : PlainTag) (rest : List ℕ) → first ≡ 16 + first % 8 → first % 8 < 2
     → tag_with Application 1 (boolean (eqb (first % 8) 1)) ≡ t → bytes ≡ rest → TakesTag (first ∷ bytes) t rest
@@ -243,7 +244,7 @@ boolean_takes first bytes t rest e lt t-is r =
           (16 ∷ [], subst (λ (m : PlainTag). SpellsTag (16 ∷ []) m) is (refl, refl, refl), cell _ _ _ _ (omega arith) r)
     ]
 
-application_takes : (first : ℕ) (bytes : List ℕ) (t : PlainTag) (rest : List ℕ) → first < 256 → first / 8 % 2 ≡ 0 → IsBytes bytes
+application_takes : (first : ℕ) (bytes : List ℕ) (t : PlainTag) (rest : List ℕ) → first < 256 → first / 8 % 2 ≡ 0 → AreOctets bytes
     → application_at (first / 16) (first % 8) bytes ≡ Ok (t, rest) → TakesTag (first ∷ bytes) t rest
 unfolding application_at
 application_takes first bytes t rest lt bit fits e =
@@ -264,13 +265,13 @@ application_takes first bytes t rest lt bit fits e =
           ]
           | inr u ↦ let b = bind_ok (number_at (first / 16) bytes) (λ n. contents_at Application n.0 (first % 8) n.1) (t, rest) u.1 in
               let n = number_takes (first / 16) bytes b.0.0 b.0.1 (omega arith) b.1 in
-              let c = contents_takes Application b.0.0 (first % 8) b.0.1 t rest (omega (arith, ltb-false _ _ w.0)) (IsBytes-after _ _ _ n.parts fits) b.2 in
+              let c = contents_takes Application b.0.0 (first % 8) b.0.1 t rest (omega (arith, ltb-false _ _ w.0)) (AreOctets-after _ _ _ n.parts fits) b.2 in
               tag_takes_contents Application b.0.0 (first / 16) (first % 8) first bytes b.0.1 t rest (number_above b.0.0 (first / 16) n.high (eqb-false _ _ v.0) (eqb-false _ _ u.0)) (omega arith) n c
         ]
       ]
     ]
 
-context_takes : (first : ℕ) (bytes : List ℕ) (t : PlainTag) (rest : List ℕ) → first < 256 → first / 8 % 2 ≡ 1 → IsBytes bytes
+context_takes : (first : ℕ) (bytes : List ℕ) (t : PlainTag) (rest : List ℕ) → first < 256 → first / 8 % 2 ≡ 1 → AreOctets bytes
     → context_at (first / 16) (first % 8) bytes ≡ Ok (t, rest) → TakesTag (first ∷ bytes) t rest
 unfolding context_at
 context_takes first bytes t rest lt bit fits e =
@@ -284,18 +285,18 @@ context_takes first bytes t rest lt bit fits e =
         | inl v ↦ let p = pair_is (tag_with Context b.0.0 closing) t b.0.1 rest v.1 in
             let first-is : first ≡ 16 * number_bits b.0.0 + 8 + 7 = omega (arith, n.high, eqb-true _ _ v.0) in
             (initial_octets Context b.0.0 7, subst (λ (m : PlainTag). SpellsTag (initial_octets Context b.0.0 7) m) p.0 (refl, n.fits, refl), cell first _ bytes _ first-is (n.parts ∙ ap (λ (x : List ℕ). number_octets b.0.0 ++ x) p.1))
-        | inr v ↦ let c = contents_takes Context b.0.0 (first % 8) b.0.1 t rest (omega (arith, eqb-false _ _ w.0, eqb-false _ _ v.0)) (IsBytes-after _ _ _ n.parts fits) v.1 in
+        | inr v ↦ let c = contents_takes Context b.0.0 (first % 8) b.0.1 t rest (omega (arith, eqb-false _ _ w.0, eqb-false _ _ v.0)) (AreOctets-after _ _ _ n.parts fits) v.1 in
             tag_takes_contents Context b.0.0 (first / 16) (first % 8) first bytes b.0.1 t rest tt (omega arith) n c
       ]
     ]
 
-pub tag_takes : (bytes : List ℕ) (t : PlainTag) (rest : List ℕ) → IsBytes bytes → tag_at bytes ≡ Ok (t, rest) → TakesTag bytes t rest
+pub tag_takes : (bytes : List ℕ) (t : PlainTag) (rest : List ℕ) → AreOctets bytes → tag_at bytes ≡ Ok (t, rest) → TakesTag bytes t rest
 unfolding tag_at
 tag_takes [] t rest fits e = absurd (err_ok _ _ e)
 tag_takes (first ∷ bytes) t rest fits e =
     elim (chosen (eqb (first / 8 % 2) 0) _ _ (Ok (t, rest)) e) [
-      | inl w ↦ application_takes first bytes t rest (fits 0) (eqb-true _ _ w.0) (IsBytes-rest first bytes fits) w.1
-      | inr w ↦ context_takes first bytes t rest (fits 0) (omega (arith, eqb-false _ _ w.0)) (IsBytes-rest first bytes fits) w.1
+      | inl w ↦ application_takes first bytes t rest (fits 0) (eqb-true _ _ w.0) (AreOctets-rest first bytes fits) w.1
+      | inr w ↦ context_takes first bytes t rest (fits 0) (omega (arith, eqb-false _ _ w.0)) (AreOctets-rest first bytes fits) w.1
     ]
 
 -- ---- what is spelled is read
@@ -357,7 +358,7 @@ tag_again front t rest s = spelled_again front t.class t.number t.content rest s
 pub not_spelled : (bytes : List ℕ) (d : Fault) → tag_at bytes ≡ Err d → (front rest : List ℕ) (t : PlainTag) → SpellsTag front t → bytes ≡ front ++ rest → ⊥
 not_spelled bytes d e front rest t s is = err_ok d (t, rest) (sym e ∙ ap tag_at is ∙ tag_again front t rest s)
 
-pub is_read : (bytes : List ℕ) (r : Result (Tag × Bor (List ℕ)) Fault) → IsBytes bytes → Gives (λ x. (plain_tag x.0, x.1.now)) r (tag_at bytes) → IfOk r (λ x. TakesTag bytes (plain_tag x.0) x.1.now)
+pub is_read : (bytes : List ℕ) (r : Result (Tag × Bor (List ℕ)) Fault) → AreOctets bytes → Gives (λ x. (plain_tag x.0, x.1.now)) r (tag_at bytes) → IfOk r (λ x. TakesTag bytes (plain_tag x.0) x.1.now)
 is_read bytes (Ok x) fits given = tag_takes bytes (plain_tag x.0) x.1.now fits given
 is_read bytes (Err e) fits given = tt
 

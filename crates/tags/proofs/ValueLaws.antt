@@ -1,6 +1,7 @@
 -- The octets of a value never begin those of another value, and when none stands at a front.
-use Rattle.std.proofs.Common.{◌≡◌, ◌⊎◌, ℕ, List, ◌++◌, Result, Ok, Err, true, false, sym, ap, subst, ◌∙◌, inl, inr, arith}
+use Rattle.std.proofs.Common.{refl, ◌≡◌, ◌⊎◌, ℕ, List, ◌++◌, Result, Ok, Err, true, false, sym, ap, subst, ◌∙◌, inl, inr, arith, ◌<◌, [], ◌∷◌, length}
 use Rattle.std.specs.Prelude.{IfErr}
+use Rattle.std.proofs.lemmas.List.{append_cancel_left, length-append}
 use Rattle.tags.specs.declared.fault.Fault.{Fault}
 use Rattle.tags.specs.declared.fault.Fault.TheVariants.{Memory, Short, BadTag, BadLength}
 use Rattle.tags.specs.declared.tag.Class.{Class}
@@ -10,10 +11,10 @@ use Rattle.tags.specs.declared.value.Value.{Value}
 use Rattle.tags.specs.declared.value.Value.TheVariants as value
 use Rattle.tags.specs.Tag.{PlainTag, PlainContent, null, boolean, contents, opening, closing, SpellsContent, TakesTag, NoTag}
 use Rattle.tags.specs.Element.{IsElement, NoElement}
-use Rattle.tags.specs.Value.{Says, Carries, SpellsByTag, SpellsValue, TakesValue, NoValue}
+use Rattle.tags.specs.Value.{Says, Carries, SpellsByTag, SpellsValue, SpellsValues, TakesValue, NoValue}
 use Rattle.tags.specs.Refusal.{application, IsBadContents, RefusesSomeTag, RefusesElement, RefusesValue}
-use Rattle.tags.proofs.OneTag.{one_tag, one_front_tag}
-use Rattle.tags.proofs.ElementLaws.{element_starts, first_tag, one_element, bracket_class, context_tag, no_element_otherwise}
+use Rattle.tags.proofs.OneTag.{one_tag, one_front_tag, tag_some}
+use Rattle.tags.proofs.ElementLaws.{element_some, element_starts, first_tag, one_element, bracket_class, context_tag, no_element_otherwise}
 
 same_object : (k l : ObjectId) → k.object_type ≡ l.object_type → k.instance ≡ l.instance → k ≡ l
 same_object k l types instances =
@@ -76,6 +77,21 @@ one_value a b x y v w (inr s) (inl r) e = absurd (tag_or_element b a y x w r s.1
 one_value a b x y v w (inr s) (inr r) e =
     let same = one_element a b x y s.1 r.1 e in
     (same, s.0 ∙ ap value.Built same ∙ sym r.0)
+
+value_some : {A : Type 0} (octets : List ℕ) (v : Value A) → SpellsValue octets v → 0 < length octets
+value_some octets v (inl s) = tag_some octets s.tag s.spelled
+value_some octets v (inr s) = element_some octets s.1
+
+-- octets spell one list of values
+pub one_list : {A : Type 0} (octets : List ℕ) (vs ws : List (Value A)) → SpellsValues octets vs → SpellsValues octets ws → vs ≡ ws
+one_list octets [] [] s r = refl
+one_list octets [] (w ∷ ws) s r = let some = value_some r.0 w r.2 in let len = length-append r.0 r.1 in absurd (omega (arith, ap (λ (x : List ℕ). length x) (sym s ∙ r.4)))
+one_list octets (v ∷ vs) [] s r = let some = value_some s.0 v s.2 in let len = length-append s.0 s.1 in absurd (omega (arith, ap (λ (x : List ℕ). length x) (sym r ∙ s.4)))
+one_list {A} octets (v ∷ vs) (w ∷ ws) s r =
+    let one = one_value s.0 r.0 s.1 r.1 v w s.2 r.2 (sym s.4 ∙ r.4) in
+    let rests : s.1 ≡ r.1 = append_cancel_left r.0 s.1 r.1 (ap (λ (x : List ℕ). x ++ s.1) (sym one.0) ∙ sym s.4 ∙ r.4) in
+    let more = one_list s.1 vs ws s.3 (subst (λ (x : List ℕ). SpellsValues x ws) (sym rests) r.3) in
+    ap (λ (x : Value A). x ∷ vs) one.1 ∙ ap (λ (xs : List (Value A)). w ∷ xs) more
 
 -- what the tag at a front carries
 pub carried_taken : {A : Type 0} (octets : List ℕ) (t : PlainTag) (next : List ℕ) (v : Value A) → TakesTag octets t next → Carries t.class t.number t.content v → TakesValue octets v next

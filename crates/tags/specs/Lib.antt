@@ -6,3 +6,4 @@ pub mod Element
 pub mod Value
 pub mod Canonical
 pub mod Refusal
+pub mod Laws

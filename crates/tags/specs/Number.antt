@@ -1,7 +1,11 @@
 -- Numbers and object identifiers, as the contents octets of a tag.
-use Rattle.std.specs.Prelude.{◌≡◌, ℕ, ◌+◌, ◌*◌, ◌<◌, ◌≤◌, ◌^◌, ℤ, pos, negsuc, List, length, nat_lt, if◌then◌else◌}
+use Rattle.std.specs.Prelude.{◌≡◌, ℕ, ◌+◌, ◌*◌, ◌<◌, ◌≤◌, ◌^◌, ℤ, pos, negsuc, List, length, slice_index_or, nat_lt, if◌then◌else◌}
 use Rattle.std.specs.Int.{w32, cast_unsigned}
 use Rattle.byteorder.specs.Endian.{big_number, big_bytes, twos_complement}
+
+-- each element is an octet
+abbrev pub AreOctets : List ℕ → Type 0
+AreOctets octets = (i : ℕ) → slice_index_or octets i 0 < 256
 
 -- one to four octets of a number, most significant first, needless ones in front included (20.2.4)
 pub record SpellsUnsigned (octets : List ℕ) (n : ℕ) : Type 0 where

@@ -14,6 +14,7 @@
 mod element;
 mod fault;
 mod items;
+pub mod laws;
 mod number;
 mod object_id;
 mod reader;

@@ -1,7 +1,8 @@
 //! The values that tags carry (20.2).
 
-ghost use Rattle.std.specs.Prelude.{◌≡◌, IfOk};
+ghost use Rattle.std.specs.Prelude.{◌≡◌, ◌↔◌, ◌<◌, ◌^◌, IfOk, IsTrue, length};
 
+use crate::element::is_element;
 use crate::items::Octets;
 use crate::object_id::ObjectId;
 use std::alloc::{AllocError, Allocator};
@@ -64,4 +65,45 @@ impl<A: Allocator + Copy> Value<A> {
             Value::Built(octets) => Value::Built(octets.copy()?),
         })
     }
+}
+
+impl<A: Allocator> Value<A> {
+    ghost use Rattle.std.specs.Prelude.{◌↔◌, IsTrue};
+    ghost use Rattle.tags.specs.Value.{IsSound};
+
+    /// Whether the value has a spelling and fits any buffer (20.2): fewer than 2^31 octets, a Bit
+    /// String's unused bits at most 7 and 0 where it has no octet, an object type below 1024 and
+    /// an instance below 2^22, `Other` with a tag that no other variant has, `Built` exactly one
+    /// context-tagged element. It takes no memory.
+    pub fn is_sound(&self) -> bool
+        ensures { IsTrue result ↔ IsSound self.now }
+    {
+        match self {
+            Value::Null | Value::Bool(_) => true,
+            // Each number is read, since its type's range is then known to the prover.
+            Value::Unsigned(number) | Value::Enum(number) => {
+                let _number = *number;
+                true
+            }
+            Value::Signed(number) => {
+                let _number = *number;
+                true
+            }
+            Value::Text { set: _, octets } => is_short(octets),
+            Value::Bits { unused, octets } => is_short(octets)
+                && *unused < 8
+                && (*unused == 0 || !octets.is_empty()),
+            Value::Object(object) => object.is_sound(),
+            Value::Other { tag, octets } => is_short(octets)
+                && matches!(*tag, 4..=6 | 10 | 11 | 13..=254),
+            Value::Built(octets) => is_short(octets) && is_element(octets.as_slice()),
+        }
+    }
+}
+
+/// Whether there are fewer than 2^31 octets.
+fn is_short<A: Allocator>(octets: &Octets<A>) -> bool
+    ensures { IsTrue result ↔ (length octets.now < 2 ^ 31) }
+{
+    octets.len() < 0x8000_0000
 }
