@@ -67,8 +67,13 @@ read_properties (Some properties) property index = read_value_of (value_of prope
 abbrev pub reply : {A : Type 0} → PlainTable A → Request → Reply A
 reply t (Read object property index) = read_properties (properties_of t object) property index
 
--- what this product's objects answer so far: one Enumerated, 0 or 1, or an error
+-- one Enumerated, 0 or 1 (21, BACnetBinaryPV)
+pub record IsBinary {A : Type 0} (values : List (Value A)) : Type 0 where
+  pub number : ℕ
+  pub is : values ≡ value.Enum number ∷ []
+  pub fits : number < 2
+
+-- what this product's objects answer so far: one binary value, or an error
 abbrev pub IsSoundReply : {A : Type 0} → Reply A → Type 0
-IsSoundReply (Values (value.Enum n ∷ [])) = n < 2
-IsSoundReply (Values vs) = ⊥
+IsSoundReply (Values values) = IsBinary values
 IsSoundReply (Error c e) = Unit {0}

@@ -1,0 +1,2 @@
+pub mod ReadProperty
+pub mod Respond
