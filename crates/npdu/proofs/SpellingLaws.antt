@@ -1,7 +1,7 @@
 -- What octets spell is one header, and its canonical spelling is as short as any.
 use Rattle.std.proofs.Common.{◌≡◌, ℕ, ◌/◌, ◌%◌, ◌==◌, Bool, List, ◌∷◌, ◌++◌, ◌∙◌, length, Option, Some, None, inl, inr, refl, sym, ap, subst, arith}
 use Rattle.std.specs.Prelude.{option_map}
-use Rattle.npdu.specs.Header.{Header, PlainDestination, PlainSource, Spells, fields, snet_octets, hop_octets, message_octets}
+use Rattle.npdu.specs.Header.{Header, PlainDestination, PlainSource, Spells, OnlyHeader, fields, snet_octets, hop_octets, message_octets}
 use Rattle.npdu.specs.Fields.{Takes, Place, place_in, place_octets, IsPlaceIf, IsSourceIf, IsDestinationAt, IsMessageIf, SpellsFields}
 use Rattle.byteorder.specs.Endian.{big_bytes}
 use Rattle.npdu.specs.Dnet.{dnet_number, IsDnet}
@@ -95,6 +95,9 @@ fields_behind octets h control rest s e =
 
 pub one_header : (octets : List ℕ) (h k : Header) → Spells octets h → Spells octets k → h ≡ k
 one_header octets h k s t = one_fields t.control (fields k) h k (fields_behind octets h t.control (fields k) s t.parts) (fields_in octets k t)
+
+pub only_header : (octets : List ℕ) (control : ℕ) (rest : List ℕ) (h : Header) → octets ≡ 1 ∷ (control ∷ rest) → SpellsFields control rest h → OnlyHeader octets h
+only_header octets control rest h e s = record { only = λ k t. one_fields control rest h k s (fields_behind octets k control rest t e) }
 
 not_zero : (net : Dnet) → IsDnet net → 0 ≡ dnet_number net → ⊥
 not_zero (Network n) sound e = absurd (omega arith)

@@ -94,6 +94,10 @@ pub record Spells (octets : List ℕ) (h : Header) : Type 0 where
   pub bits : IsControl control h
   pub parts : octets ≡ 1 ∷ (control ∷ fields h)
 
+-- octets that spell no other header
+pub record OnlyHeader (octets : List ℕ) (h : Header) : Type 0 where
+  pub only : (k : Header) → Spells octets k → h ≡ k
+
 -- octets that spell no header
 pub record NoHeader (octets : List ℕ) : Type 0 where
   pub none : (h : Header) → Spells octets h → ⊥

@@ -2,7 +2,7 @@
 
 ghost use Rattle.std.specs.Prelude.{◌≡◌, ◌==◌, ◌/◌, ◌%◌, ◌++◌, ◌↔◌, IsTrue, IfOk, IfErr, OnOk, OnErr};
 ghost use Rattle.npdu.specs.Fields.{SpellsFields, NoFields};
-ghost use Rattle.npdu.specs.Header.{IsSound, Spells, NoHeader, header_of, control_of, canonical};
+ghost use Rattle.npdu.specs.Header.{IsSound, Spells, OnlyHeader, NoHeader, header_of, control_of, canonical};
 ghost use Rattle.npdu.specs.Priority.{priority_number};
 ghost use Rattle.npdu.specs.Writing.{Extends};
 ghost use Rattle.npdu.specs.Refusals.{Refuses, RefusesFields};
@@ -99,6 +99,7 @@ impl<'a> View<'a> {
     /// where the first octet is not 1, and `BadLength` where DNET is 0, SNET is 0 or FFFF, or SLEN is 0.
     pub fn read(octets: &'a [u8]) -> Result<View<'a>, Fault>
         ensures read { IfOk result (λ view. Spells octets.entry.now (header_of view)) }
+        ensures only { IfOk result (λ view. OnlyHeader octets.entry.now (header_of view)) }
         ensures refused { OnErr result (NoHeader octets.entry.now) }
         ensures fault { IfErr result (λ fault. Refuses fault octets.entry.now) }
     {

@@ -24,3 +24,6 @@ pub use message::{Message, RejectReason};
 pub use parcel::Parcel;
 pub use priority::Priority;
 pub use view::{Destination, Dnet, Source, View};
+
+#[cfg(test)]
+mod tests;

@@ -1,0 +1,286 @@
+use super::*;
+use refusing::Refusing;
+use std::test::*;
+use tags::{Fault, Items};
+
+/// A header of normal priority.
+fn header<'a>(
+    expects_reply: bool,
+    destination: Option<Destination<'a>>,
+    source: Option<Source<'a>>,
+    message: Option<Message>,
+    body: &'a [u8],
+) -> View<'a> {
+    View {
+        expects_reply,
+        priority: Priority::Normal,
+        destination,
+        source,
+        message,
+        body,
+    }
+}
+
+fn to<'a>(net: Dnet, mac: &'a [u8]) -> Option<Destination<'a>> {
+    Some(Destination {
+        net,
+        mac,
+        hops: 255,
+    })
+}
+
+fn from<'a>(net: u16, mac: &'a [u8]) -> Option<Source<'a>> {
+    Some(Source { net, mac })
+}
+
+const READ_PROPERTY: [u8; 11] = [
+    0x02, 0x65, 0x01, 0x0C, 0x0C, 0x01, 0x40, 0x00, 0x01, 0x19, 0x55,
+];
+
+/// Headers between a client on BACnet/IP, routers and an MS/TP device, behind the four octets of BVLL.
+#[test]
+fn headers_are_read_and_written(rt: HostRuntime) -> Result<(), Fail> {
+    let rows: [(&[u8], View<'_>); 11] = [
+        (
+            // a ReadProperty to node 5 of network 2
+            &[
+                0x01, 0x24, 0x00, 0x02, 0x01, 0x05, 0xFF, 0x02, 0x65, 0x01, 0x0C, 0x0C, 0x01, 0x40,
+                0x00, 0x01, 0x19, 0x55,
+            ],
+            header(true, to(Dnet::Network(2), &[5]), None, None, &READ_PROPERTY),
+        ),
+        (
+            // the same as the router passes it on
+            &[
+                0x01, 0x0C, 0x00, 0x01, 0x06, 0x7F, 0x00, 0x00, 0x01, 0xBA, 0xC2, 0x02, 0x65, 0x01,
+                0x0C, 0x0C, 0x01, 0x40, 0x00, 0x01, 0x19, 0x55,
+            ],
+            header(
+                true,
+                None,
+                from(1, &[127, 0, 0, 1, 0xBA, 0xC2]),
+                None,
+                &READ_PROPERTY,
+            ),
+        ),
+        (
+            // a ReadProperty to a station of six octets
+            &[
+                0x01, 0x24, 0x00, 0x02, 0x06, 0x7F, 0x00, 0x00, 0x01, 0xBA, 0xC3, 0xFF, 0x02, 0x65,
+                0x00, 0x0C, 0x0C, 0x01, 0x40, 0x00, 0x01, 0x19, 0x55,
+            ],
+            header(
+                true,
+                to(Dnet::Network(2), &[127, 0, 0, 1, 0xBA, 0xC3]),
+                None,
+                None,
+                &[
+                    0x02, 0x65, 0x00, 0x0C, 0x0C, 0x01, 0x40, 0x00, 0x01, 0x19, 0x55,
+                ],
+            ),
+        ),
+        (
+            &[
+                0x01, 0x0C, 0x00, 0x01, 0x06, 0x7F, 0x00, 0x00, 0x01, 0xBA, 0xC2, 0x02, 0x65, 0x00,
+                0x0C, 0x0C, 0x01, 0x40, 0x00, 0x01, 0x19, 0x55,
+            ],
+            header(
+                true,
+                None,
+                from(1, &[127, 0, 0, 1, 0xBA, 0xC2]),
+                None,
+                &[
+                    0x02, 0x65, 0x00, 0x0C, 0x0C, 0x01, 0x40, 0x00, 0x01, 0x19, 0x55,
+                ],
+            ),
+        ),
+        (
+            // what a router says of its networks
+            &[0x01, 0x80, 0x01, 0x00, 0x02],
+            header(
+                false,
+                None,
+                None,
+                Some(Message::IAmRouterToNetwork),
+                &[0, 2],
+            ),
+        ),
+        (
+            &[0x01, 0x80, 0x01, 0x00, 0x01],
+            header(
+                false,
+                None,
+                None,
+                Some(Message::IAmRouterToNetwork),
+                &[0, 1],
+            ),
+        ),
+        (
+            // who has a route to network 9, and the refusal
+            &[0x01, 0x80, 0x00, 0x00, 0x09],
+            header(
+                false,
+                None,
+                None,
+                Some(Message::WhoIsRouterToNetwork),
+                &[0, 9],
+            ),
+        ),
+        (
+            &[0x01, 0x80, 0x03, 0x01, 0x00, 0x09],
+            header(
+                false,
+                None,
+                None,
+                Some(Message::RejectMessageToNetwork),
+                &[1, 0, 9],
+            ),
+        ),
+        (
+            // a global Who-Is
+            &[0x01, 0x20, 0xFF, 0xFF, 0x00, 0xFF, 0x10, 0x08],
+            header(false, to(Dnet::Global, &[]), None, None, &[0x10, 0x08]),
+        ),
+        (
+            // a vendor's own message with life safety priority, and another of the standard's types
+            &[0x01, 0x83, 0x80, 0x01, 0x04, 0xAA],
+            View {
+                priority: Priority::LifeSafety,
+                ..header(
+                    false,
+                    None,
+                    None,
+                    Some(Message::Proprietary {
+                        kind: 0x80,
+                        vendor: 0x0104,
+                    }),
+                    &[0xAA],
+                )
+            },
+        ),
+        (
+            &[0x01, 0x80, 0x7F],
+            header(false, None, None, Some(Message::Other(0x7F)), &[]),
+        ),
+    ];
+    for (octets, expected) in &rows {
+        let view = View::read(octets)?;
+        assert_eq!(rt; view, *expected);
+        assert!(rt; view.is_sound());
+        let mut out = Vec::new(rt.alloc());
+        write(&view, &mut out)?;
+        assert_eq!(rt; out.as_slice(), *octets);
+    }
+    Ok(())
+}
+
+/// Control bits 6 and 4 are not looked at, and written as 0.
+#[test]
+fn unread_bits(rt: HostRuntime) -> Result<(), Fail> {
+    let view = View::read(&[0x01, 0x50, 0x10, 0x08])?;
+    assert_eq!(rt; view, header(false, None, None, None, &[0x10, 0x08]));
+    let mut out = Vec::new(rt.alloc());
+    write(&view, &mut out)?;
+    assert_eq!(rt; out.as_slice(), [0x01, 0x00, 0x10, 0x08].as_slice());
+    Ok(())
+}
+
+#[test]
+fn refusals(rt: HostRuntime) {
+    let rows: [(&[u8], Fault); 16] = [
+        (&[], Fault::Short),
+        (&[1], Fault::Short),
+        (&[1, 0x20, 0], Fault::Short),
+        (&[1, 0x20, 0, 2], Fault::Short),
+        (&[1, 0x24, 0, 2, 1, 5], Fault::Short),
+        (&[1, 0x08, 0, 5, 2, 1], Fault::Short),
+        (&[1, 0x80], Fault::Short),
+        (&[1, 0x80, 0x80, 1], Fault::Short),
+        (&[2], Fault::BadVersion),
+        (&[2, 4, 0x10, 8], Fault::BadVersion),
+        (&[1, 0x20, 0, 0], Fault::BadLength),
+        (&[1, 0x08, 0, 0, 1, 5], Fault::BadLength),
+        (&[1, 0x08, 0xFF, 0xFF, 1, 5], Fault::BadLength),
+        (&[1, 0x08, 0xFF, 0xFF], Fault::BadLength),
+        (&[1, 0x08, 0, 5, 0], Fault::BadLength),
+        (&[1, 0x28, 0, 2, 0, 0, 5, 0], Fault::BadLength),
+    ];
+    for (octets, fault) in &rows {
+        assert_eq!(rt; View::read(octets), Err(*fault));
+    }
+}
+
+/// A refused allocation leaves what was written before, and the same call again appends the header.
+#[test]
+fn writing_without_memory(rt: HostRuntime) -> Result<(), Fail> {
+    let row = [
+        0x01, 0x0C, 0x00, 0x01, 0x06, 0x7F, 0x00, 0x00, 0x01, 0xBA, 0xC2, 0x02, 0x65, 0x00, 0x0C,
+        0x0C, 0x01, 0x40, 0x00, 0x01, 0x19, 0x55,
+    ];
+    let view = View::read(&row)?;
+    let mut refused = 0u64;
+    for n in 1..100u64 {
+        let memory = Refusing::new(rt.alloc());
+        let mut out = vec![in &memory; 0xAAu8]?;
+        memory.refuse_only(n);
+        if write(&view, &mut out).is_ok() {
+            assert!(rt; memory.is_waiting());
+            break;
+        }
+        refused = n;
+        assert_eq!(rt; out.as_slice(), [0xAAu8].as_slice());
+        write(&view, &mut out)?;
+        assert_eq!(rt; out.as_slice().get(1..), Some(row.as_slice()));
+    }
+    assert!(rt; refused > 1);
+    Ok(())
+}
+
+#[test]
+fn parcels_are_copied(rt: HostRuntime) -> Result<(), Fail> {
+    let memory = Refusing::new(rt.alloc());
+    let parcel = Parcel {
+        from: Mac::Six([127, 0, 0, 1, 0xBA, 0xC0]),
+        to: Target::One(Mac::One(5)),
+        npdu: Items::from_slice(&memory, &[1, 0, 0x10, 8])?,
+        stamp: 13000,
+    };
+    assert_eq!(rt; parcel.copy()?, parcel);
+    memory.refuse_all();
+    assert!(rt; parcel.copy().is_err());
+    Ok(())
+}
+
+#[test]
+fn addresses(rt: HostRuntime) {
+    let rows: [(&[u8], Option<Mac>); 4] = [
+        (&[], None),
+        (&[5], Some(Mac::One(5))),
+        (
+            &[127, 0, 0, 1, 0xBA, 0xC0],
+            Some(Mac::Six([127, 0, 0, 1, 0xBA, 0xC0])),
+        ),
+        (&[1, 2, 3, 4, 5, 6, 7], None),
+    ];
+    for (octets, mac) in &rows {
+        assert_eq!(rt; Mac::from_octets(octets), *mac);
+        if let Some(mac) = mac {
+            assert_eq!(rt; mac.as_octets(), *octets);
+        }
+    }
+}
+
+/// The numbers of the standard, both ways.
+#[test]
+fn numbers(rt: HostRuntime) {
+    for n in 0..4u8 {
+        assert_eq!(rt; Priority::try_from(n).map(u8::from), Ok(n));
+    }
+    assert_eq!(rt; Priority::try_from(2), Ok(Priority::CriticalEquipment));
+    assert_eq!(rt; Priority::try_from(4), Err(Fault::NoSuch));
+    assert_eq!(rt; RejectReason::try_from(4).map(u8::from), Ok(4));
+    assert_eq!(rt; RejectReason::try_from(2), Err(Fault::NoSuch));
+    assert_eq!(rt; u8::from(Message::RejectMessageToNetwork), 3);
+    assert_eq!(rt; Dnet::from(0xFFFF), Dnet::Global);
+    assert_eq!(rt; u16::from(Dnet::Network(2)), 2);
+}
