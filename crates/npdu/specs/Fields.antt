@@ -1,4 +1,4 @@
--- What the private readers say of each field of a header. The public calls cite Header alone.
+-- What the private readers say of each field of a header. The public calls cite Header and Refusals.
 use Rattle.std.specs.Prelude.{◌≡◌, ℕ, ◌/◌, ◌%◌, ◌<◌, ◌==◌, ◌++◌, Bool, List, [], ◌∷◌, length, Option, Some, None, is_some, option_map, IfSome}
 use Rattle.byteorder.specs.Endian.{big_bytes}
 use Rattle.npdu.specs.Dnet.{dnet_number, IsDnet}

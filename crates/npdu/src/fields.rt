@@ -9,7 +9,7 @@ ghost use Rattle.npdu.specs.Writing.{Extends};
 ghost use Rattle.npdu.specs.Refusals.{RefusesPlace, RefusesSource};
 
 use crate::message::Message;
-use crate::view::{Destination, Dnet, Source};
+use crate::view::{Destination, Dnet, GLOBAL, Source};
 use byteorder::{BigEndian, ByteOrder};
 use std::alloc::{AllocError, Allocator};
 use tags::Fault;
@@ -117,7 +117,7 @@ pub(crate) fn source_from(
         return Ok((None, octets));
     }
     let (net, rest) = number_from(octets)?;
-    if net == 0 || net == 0xFFFF {
+    if net == 0 || net == GLOBAL {
         return Err(Fault::BadLength);
     }
     let (mac, rest) = mac_from(rest)?;

@@ -15,6 +15,9 @@ use crate::view::View;
 use std::alloc::{AllocError, Allocator};
 use tags::Fault;
 
+/// The one version of the network layer's protocol (6.2.1).
+const VERSION: u8 = 1;
+
 /// What a control octet says (6.2.2); bits 6 and 4 are not looked at.
 #[derive(Clone, Copy)]
 struct Control {
@@ -104,9 +107,9 @@ impl<'a> View<'a> {
         ensures fault { IfErr result (λ fault. Refuses fault octets.entry.now) }
     {
         match octets {
-            [1, control, rest @ ..] => fields_from(*control, rest),
+            [VERSION, control, rest @ ..] => fields_from(*control, rest),
             [] => Err(Fault::Short),
-            [1] => Err(Fault::Short),
+            [VERSION] => Err(Fault::Short),
             _ => Err(Fault::BadVersion),
         }
     }
@@ -117,7 +120,7 @@ fn put_header<B: Allocator>(view: &View<'_>, out: &mut Vec<u8, B>) -> Result<(),
     ensures put { OnOk result (out.new.items ≡ out.old.items ++ canonical (header_of view.now)) }
     ensures err { OnErr result (Extends out.old.items out.new.items) }
 {
-    out.push(1)?;
+    out.push(VERSION)?;
     out.push(control_of(view))?;
     put_place(&view.destination, out)?;
     put_source(&view.source, out)?;

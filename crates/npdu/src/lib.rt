@@ -23,7 +23,7 @@ pub use mac::{Mac, Station, Target};
 pub use message::{Message, RejectReason};
 pub use parcel::Parcel;
 pub use priority::Priority;
-pub use view::{Destination, Dnet, Source, View};
+pub use view::{Destination, Dnet, INITIAL_HOP_COUNT, Source, View};
 
 #[cfg(test)]
 mod tests;

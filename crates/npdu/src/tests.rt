@@ -25,7 +25,7 @@ fn to<'a>(net: Dnet, mac: &'a [u8]) -> Option<Destination<'a>> {
     Some(Destination {
         net,
         mac,
-        hops: 255,
+        hops: INITIAL_HOP_COUNT,
     })
 }
 

@@ -7,6 +7,12 @@ ghost use Rattle.npdu.specs.Header.{IsDestination, IsSource, destination_of, sou
 use crate::message::Message;
 use crate::priority::Priority;
 
+/// The number in DNET that stands for every network.
+pub(crate) const GLOBAL: u16 = 0xFFFF;
+
+/// The hop count that a message begins with (6.2.3).
+pub const INITIAL_HOP_COUNT: u8 = 255;
+
 /// The network that a message goes to (DNET, 6.2.2).
 #[derive(Clone, Copy, Debug, PartialEq, Eq)]
 pub enum Dnet {
@@ -22,7 +28,7 @@ impl From<Dnet> for u16 {
     fn from(net: Dnet) -> u16 {
         match net {
             Dnet::Network(number) => number,
-            Dnet::Global => 0xFFFF,
+            Dnet::Global => GLOBAL,
         }
     }
 }
@@ -32,7 +38,7 @@ impl From<u16> for Dnet {
 
     fn from(number: u16) -> Dnet {
         match number {
-            0xFFFF => Dnet::Global,
+            GLOBAL => Dnet::Global,
             _ => Dnet::Network(number),
         }
     }
@@ -43,7 +49,7 @@ impl Dnet {
         ensures { IsTrue result ↔ IsDnet self }
     {
         match self {
-            Dnet::Network(number) => 0 < number && number < 0xFFFF,
+            Dnet::Network(number) => 0 < number && number < GLOBAL,
             Dnet::Global => true,
         }
     }
@@ -81,7 +87,7 @@ impl Source<'_> {
     pub(crate) fn is_sound(self) -> bool
         ensures { IsTrue result ↔ IsSource (source_of self.entry) }
     {
-        0 < self.net && self.net < 0xFFFF && !self.mac.is_empty() && self.mac.len() < 256
+        0 < self.net && self.net < GLOBAL && !self.mac.is_empty() && self.mac.len() < 256
     }
 }
 
