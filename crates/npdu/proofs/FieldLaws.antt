@@ -1,5 +1,5 @@
 -- The octets begin with at most one field of a kind, and what completes a field that is cut.
-use Rattle.std.proofs.Common.{◌≡◌, ℕ, ◌+◌, ◌*◌, ◌-◌, ◌<◌, ◌≤◌, ◌^◌, Bool, true, List, [], ◌∷◌, ◌++◌, ◌∙◌, length, Option, Some, None, refl, sym, ap, get_or, arith, append_assoc}
+use Rattle.std.proofs.Common.{◌≡◌, ℕ, ◌+◌, ◌*◌, ◌-◌, ◌<◌, ◌≤◌, ◌^◌, Bool, true, false, List, [], ◌∷◌, ◌++◌, ◌∙◌, length, Option, Some, None, refl, sym, ap, get_or, arith, append_assoc}
 use Rattle.std.specs.Prelude.{replicate}
 use Rattle.std.proofs.lemmas.Grind.{common_steps}
 use Rattle.std.proofs.lemmas.List.{length-append, length-replicate, append-nil}
@@ -90,12 +90,11 @@ begins_number (a ∷ []) short fits = record { more = 1 ∷ []; field = 256 * a 
 begins_number (a ∷ b ∷ rest) short fits = absurd (omega arith)
 
 -- what completes an address
-pub begins_address-none : (octets : List ℕ) → length octets < 1 → Begins IsAddress address_octets octets
-begins_address-none (a ∷ octets) short = absurd (omega arith)
-begins_address-none [] short = record { more = 1 ∷ 0 ∷ []; field = 0 ∷ []; whole = record { fits = (omega arith, omega arith); parts = refl } }
+pub address_begins : Begins IsAddress address_octets []
+address_begins = record { more = 1 ∷ 0 ∷ []; field = 0 ∷ []; whole = record { fits = (omega arith, omega arith); parts = refl } }
 
-pub begins_address-some : (len : ℕ) (rest : List ℕ) → length rest < len → len < 256 → Begins IsAddress address_octets (len ∷ rest)
-begins_address-some len rest lacks fits =
+pub begins_address : (len : ℕ) (rest : List ℕ) → length rest < len → len < 256 → Begins IsAddress address_octets (len ∷ rest)
+begins_address len rest lacks fits =
     let more = replicate (len - length rest) 0 in
     let full : length (rest ++ more) ≡ len = simp (length-append, length-replicate) (omega arith) in
     record { more = more; field = rest ++ more; whole = record { fits = (omega arith, omega arith); parts = cell len _ _ _ (sym full) (sym (append-nil (rest ++ more))) } }
@@ -146,18 +145,27 @@ not_source octets n rest e none (Some p) after t =
 pub lacks_source-mac : (octets : List ℕ) (n : ℕ) (rest : List ℕ) → octets ≡ big_bytes 2 n ++ rest → Lacks IsMac address_octets rest → Lacks (IsSourceIf true) snet_octets octets
 lacks_source-mac octets n rest e none = record { none = λ o after t. not_source octets n rest e none o after t }
 
-pub begins_hops : (p : Place) (octets : List ℕ) → length octets < 1 → Begins (IsDestinationAt (Some p)) hop_octets octets
-begins_hops p (a ∷ octets) short = absurd (omega arith)
-begins_hops p [] short = record { more = 0 ∷ []; field = Some (record { net = p.net; mac = p.mac; hops = 0 }); whole = record { fits = record { place = refl; sound = omega arith }; parts = refl } }
-
-pub begins_message-none : (octets : List ℕ) → length octets < 1 → Begins (IsMessageIf true) message_octets octets
-begins_message-none (a ∷ octets) short = absurd (omega arith)
-begins_message-none [] short = record { more = 0 ∷ []; field = Some WhoIsRouterToNetwork; whole = record { fits = record { announced = refl; sound = tt }; parts = refl } }
-
 pub begins_message-vendor : (octets : List ℕ) (kind : ℕ) (rest : List ℕ) → octets ≡ kind ∷ rest → 128 ≤ kind → kind < 256 → Begins IsNet (big_bytes 2) rest → Begins (IsMessageIf true) message_octets octets
 begins_message-vendor octets kind rest e low high b = record { more = b.more; field = Some (Proprietary kind b.field); whole = record { fits = record { announced = refl; sound = (low, high, omega arith) }; parts = ap (λ (x : List ℕ). x ++ b.more) e ∙ ap (λ (x : List ℕ). kind ∷ x) b.whole.parts } }
 
-pub ruleset begins_address = (begins_address-none, begins_address-some, lacks_mac)
+-- where nothing stands, each field begins
+pub no_octet : (octets : List ℕ) → length octets < 1 → octets ≡ []
+no_octet [] short = refl
+no_octet (a ∷ octets) short = absurd (omega arith)
+
+pub source_begins : (present : Bool) → Begins (IsSourceIf present) snet_octets []
+source_begins false = record { more = []; field = None; whole = record { fits = record { announced = refl; sound = tt }; parts = refl } }
+source_begins true = record { more = 0 ∷ 1 ∷ 1 ∷ 0 ∷ []; field = Some (record { net = 1; mac = 0 ∷ [] }); whole = record { fits = record { announced = refl; sound = (omega arith, omega arith, omega arith, omega arith) }; parts = refl } }
+
+pub hops_begin : (place : Option Place) → Begins (IsDestinationAt place) hop_octets []
+hops_begin None = record { more = []; field = None; whole = record { fits = record { place = refl; sound = tt }; parts = refl } }
+hops_begin (Some p) = record { more = 0 ∷ []; field = Some (record { net = p.net; mac = p.mac; hops = 0 }); whole = record { fits = record { place = refl; sound = omega arith }; parts = refl } }
+
+pub message_begins : (present : Bool) → Begins (IsMessageIf present) message_octets []
+message_begins false = record { more = []; field = None; whole = record { fits = record { announced = refl; sound = tt }; parts = refl } }
+message_begins true = record { more = 0 ∷ []; field = Some WhoIsRouterToNetwork; whole = record { fits = record { announced = refl; sound = tt }; parts = refl } }
+
+pub ruleset mac_steps = (begins_address, lacks_mac)
 
 pub ruleset place_steps = (only_place, begins_place-number, begins_place-mac, lacks_place-mac)
 

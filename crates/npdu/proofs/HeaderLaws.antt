@@ -1,32 +1,19 @@
 -- From the fields to the whole header, and back.
-use Rattle.std.proofs.Common.{◌≡◌, ℕ, ◌/◌, ◌%◌, ◌<◌, ◌==◌, Bool, true, false, List, [], ◌∷◌, ◌++◌, ◌∙◌, length, Option, Some, None, inl, inr, refl, sym, ap, subst, get_or, ◌≤◌, zero, suc, arith, append_assoc}
+use Rattle.std.proofs.Common.{◌≡◌, ℕ, ◌/◌, ◌%◌, ◌<◌, ◌==◌, Bool, false, List, [], ◌∷◌, ◌++◌, ◌∙◌, length, Option, Some, None, inl, inr, refl, sym, ap, subst, get_or, ◌≤◌, zero, suc, arith, append_assoc}
 use Rattle.std.specs.Prelude.{option_map, is_some, IfSome}
 use Rattle.npdu.specs.Header.{Header, PlainDestination, PlainSource, Spells, NoHeader, fields, dnet_octets, IsDestination, snet_octets, hop_octets, message_octets}
 use Rattle.npdu.specs.Fields.{Takes, Only, Lacks, Begins, Place, place_in, place_octets, IsPlaceIf, IsSourceIf, IsDestinationAt, IsMessageIf, SpellsFields, IsCutFields, NoFields}
 use Rattle.npdu.specs.Refusals.{IsCut, RefusesPlace, RefusesSource, RefusesFields}
 use Rattle.tags.specs.declared.fault.Fault.{Fault}
 use Rattle.tags.specs.declared.fault.Fault.TheVariants.{Short, BadLength}
+use Rattle.npdu.proofs.FieldLaws.{source_begins, hops_begin, message_begins}
 use Rattle.npdu.specs.Priority.{priority_number}
-use Rattle.npdu.specs.declared.message.Message.TheVariants.{WhoIsRouterToNetwork}
 use Rattle.npdu.specs.declared.priority.Priority.{Priority}
 use Rattle.npdu.specs.declared.priority.Priority.TheVariants.{Normal, Urgent, CriticalEquipment, LifeSafety}
 
 -- octets behind what is left
 pub longer : {A : Type 0} (IsField : A → Type 0) (spelling : A → List ℕ) (octets : List ℕ) (a : A) (rest more : List ℕ) → Takes IsField spelling octets a rest → Takes IsField spelling (octets ++ more) a (rest ++ more)
 longer IsField spelling octets a rest more t = record { fits = t.fits; parts = ap (λ (x : List ℕ). x ++ more) t.parts ∙ append_assoc (spelling a) rest more }
-
--- each field begins with no octet
-source_begins : (present : Bool) → Begins (IsSourceIf present) snet_octets []
-source_begins false = record { more = []; field = None; whole = record { fits = record { announced = refl; sound = tt }; parts = refl } }
-source_begins true = record { more = 0 ∷ 1 ∷ 1 ∷ 0 ∷ []; field = Some (record { net = 1; mac = 0 ∷ [] }); whole = record { fits = record { announced = refl; sound = (omega arith, omega arith, omega arith, omega arith) }; parts = refl } }
-
-hops_begin : (place : Option Place) → Begins (IsDestinationAt place) hop_octets []
-hops_begin None = record { more = []; field = None; whole = record { fits = record { place = refl; sound = tt }; parts = refl } }
-hops_begin (Some p) = record { more = 0 ∷ []; field = Some (record { net = p.net; mac = p.mac; hops = 0 }); whole = record { fits = record { place = refl; sound = omega arith }; parts = refl } }
-
-message_begins : (present : Bool) → Begins (IsMessageIf present) message_octets []
-message_begins false = record { more = []; field = None; whole = record { fits = record { announced = refl; sound = tt }; parts = refl } }
-message_begins true = record { more = 0 ∷ []; field = Some WhoIsRouterToNetwork; whole = record { fits = record { announced = refl; sound = tt }; parts = refl } }
 
 priority_at : (n : ℕ) → n < 4 → (p : Priority) × (priority_number p ≡ n)
 priority_at zero low = (Normal, refl)

@@ -35,7 +35,7 @@ fn number_from(octets: &[u8]) -> Result<(u16, &[u8]), Fault>
 }
 
 /// An octet of length, and an address of as many octets.
-#[tactic(auto, using(crate::proofs::FieldLaws::begins_address))]
+#[tactic(auto, using(crate::proofs::FieldLaws::mac_steps))]
 fn mac_from(octets: &[u8]) -> Result<(&[u8], &[u8]), Fault>
     ensures read { IfOk result (λ x. Takes IsMac address_octets octets.now x.0.now x.1.now) }
     ensures refused { OnErr result (Lacks IsMac address_octets octets.now) }

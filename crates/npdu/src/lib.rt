@@ -4,8 +4,8 @@
 //! `write` appends the canonical octets of a header. A `Parcel` is such a message on its way over one network.
 //! To the layer above it promises: what is read is the one header that the octets spell, each field being its
 //! own slice; what is written is spelled by the octets appended, and read again to the same fields.
-//! Modules: `mac` (link addresses and stations), `parcel`, `priority`, `message` (types of network messages),
-//! `view` (a header and its fields), `address`, `routing` and `header` (reading and writing them).
+//! Modules: `mac` (link addresses, stations, targets), `parcel`, `priority`, `message` (types of network
+//! messages), `view` (a header and its parts), `fields` and `header` (reading and writing them), `laws`.
 #![tactic(auto)]
 
 mod fields;

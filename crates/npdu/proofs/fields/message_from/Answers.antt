@@ -1,11 +1,11 @@
 use Rattle.std.proofs.Common.{arith, ◌-◌, length, take, drop, slice_index_or}
 use Rattle.std.proofs.lemmas.Result.{err_from_is_err_and}
 use Rattle.std.proofs.lemmas.Grind.{common_steps}
-use Rattle.npdu.proofs.FieldLaws.{begins_message-none, begins_message-vendor}
+use Rattle.npdu.proofs.FieldLaws.{no_octet, message_begins, begins_message-vendor}
 use Rattle.npdu.proofs.fields.message_from.Goals as goal
 
 pub returns-in_default-clause-cut : goal.returns-in_default-clause-cut
-returns-in_default-clause-cut c = rw c.if-not-present.false (begins_message-none c.args.octets.now c.in_default.len_below)
+returns-in_default-clause-cut c = rw (no_octet c.args.octets.now c.in_default.len_below) (message_begins c.args.present)
 
 pub returns-in_err-vendor-clause-cut : goal.returns-in_err-vendor-clause-cut
 returns-in_err-vendor-clause-cut c =
