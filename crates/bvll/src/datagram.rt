@@ -33,7 +33,7 @@ pub enum Bvll<'a> {
 impl<'a> Bvll<'a> {
     ghost use Rattle.std.specs.Prelude.{◌≡◌, ◌≢◌, ◌<◌, ◌≤◌, ◌^◌, ◌++◌, ◌∷◌, [], length, IfOk, IfErr, OnOk, OnErr, MatchOption};
     ghost use Rattle.byteorder.specs.Endian.{big_bytes};
-    ghost use Rattle.bvll.specs.Address.{TakesAddress, IsAddress, address_octets};
+    ghost use Rattle.bvll.specs.Address.{TakesAddress};
     ghost use Rattle.bvll.specs.Datagram.{canonical, contents, datagram_of, function, header, whole_length, HasFields, HasNamedCode, Spells, NoDatagram};
     ghost use Rattle.bvll.specs.Octets.{Extends};
     ghost use Rattle.bvll.specs.Refusal.{HasContents, IsLength, Refuses};
@@ -256,16 +256,11 @@ impl<'a> Bvll<'a> {
         ensures read { IfOk result (λ x. TakesAddress contents.entry.now x.0 x.1.now) }
         ensures refused { IfErr result (λ e. (e ≡ Fault.BadLength) × (length contents.entry.now < 6)) }
     {
-        match contents {
-            [a, b, c, d, high, low, rest @ ..] => Ok((
-                Address {
-                    ip: [*a, *b, *c, *d],
-                    port: BigEndian::read_u16(&[*high, *low]),
-                },
-                rest,
-            )),
-            _ => Err(Fault::BadLength),
+        if contents.len() < 6 {
+            return Err(Fault::BadLength);
         }
+        let (_, rest) = contents.split_at(6);
+        Ok((Address::from_octets(contents), rest))
     }
 
     fn only_address_from(contents: &'a [u8]) -> Result<Address, Fault>
