@@ -2,6 +2,9 @@
 
 use byteorder::{BigEndian, ByteOrder};
 
+/// The octets of an address.
+pub const ADDRESS_OCTETS: usize = 6;
+
 /// An address of BACnet/IP: four octets of the Internet address, and a port of UDP (J.1.2).
 #[derive(Clone, Copy, Debug, PartialEq, Eq)]
 pub struct Address {
@@ -25,7 +28,7 @@ impl Address {
     }
 
     /// The six octets that spell the address.
-    pub fn to_octets(&self) -> [u8; 6]
+    pub fn to_octets(&self) -> [u8; ADDRESS_OCTETS]
         ensures octets { result ≡ address_octets self.now }
         ensures fields { IsAddress self.now }
     {

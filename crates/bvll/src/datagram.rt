@@ -1,8 +1,8 @@
 //! Datagrams, read and written.
 
-use crate::address::Address;
+use crate::address::{ADDRESS_OCTETS, Address};
 use crate::code::ResultCode;
-use crate::entry::{DistributionEntry, ForeignDevice};
+use crate::entry::{DistributionEntry, ENTRY_OCTETS, ForeignDevice};
 use crate::function::Function;
 use crate::table::Table;
 use byteorder::{BigEndian, ByteOrder};
@@ -11,6 +11,9 @@ use tags::Fault;
 
 /// The first octet of each datagram: BACnet/IP (J.2).
 pub const BACNET_IP: u8 = 0x81;
+
+/// The octets of a header: 81, the function, and the length of the whole (J.2).
+pub const HEADER_OCTETS: usize = 4;
 
 /// A datagram of the virtual link layer (J.2). An NPDU is the named slice of the datagram.
 #[derive(Clone, Copy, Debug)]
@@ -109,16 +112,18 @@ impl<'a> Bvll<'a> {
         let contents = match self {
             Bvll::Result(_) | Bvll::RegisterForeignDevice { .. } => 2,
             Bvll::WriteBroadcastDistributionTable(table)
-            | Bvll::ReadBroadcastDistributionTableAck(table) => table.len().saturating_mul(10),
+            | Bvll::ReadBroadcastDistributionTableAck(table) => {
+                table.len().saturating_mul(ENTRY_OCTETS)
+            }
             Bvll::ReadBroadcastDistributionTable | Bvll::ReadForeignDeviceTable => 0,
-            Bvll::ForwardedNpdu { npdu, .. } => npdu.len().saturating_add(6),
-            Bvll::ReadForeignDeviceTableAck(table) => table.len().saturating_mul(10),
-            Bvll::DeleteForeignDeviceTableEntry(_) => 6,
+            Bvll::ForwardedNpdu { npdu, .. } => npdu.len().saturating_add(ADDRESS_OCTETS),
+            Bvll::ReadForeignDeviceTableAck(table) => table.len().saturating_mul(ENTRY_OCTETS),
+            Bvll::DeleteForeignDeviceTableEntry(_) => ADDRESS_OCTETS,
             Bvll::DistributeBroadcastToNetwork(npdu)
             | Bvll::OriginalUnicastNpdu(npdu)
             | Bvll::OriginalBroadcastNpdu(npdu) => npdu.len(),
         };
-        u16::try_from(contents.saturating_add(4)).ok()
+        u16::try_from(contents.saturating_add(HEADER_OCTETS)).ok()
     }
 
     fn put<B: Allocator>(&self, out: &mut Vec<u8, B>) -> Result<(), AllocError>
@@ -256,10 +261,10 @@ impl<'a> Bvll<'a> {
         ensures read { IfOk result (λ x. TakesAddress contents.entry.now x.0 x.1.now) }
         ensures refused { IfErr result (λ e. (e ≡ Fault.BadLength) × (length contents.entry.now < 6)) }
     {
-        if contents.len() < 6 {
+        if contents.len() < ADDRESS_OCTETS {
             return Err(Fault::BadLength);
         }
-        let (_, rest) = contents.split_at(6);
+        let (_, rest) = contents.split_at(ADDRESS_OCTETS);
         Ok((Address::from_octets(contents), rest))
     }
 

@@ -7,6 +7,9 @@ ghost use Rattle.bvll.specs.Table.{SpellsEntry};
 use crate::address::Address;
 use byteorder::{BigEndian, ByteOrder};
 
+/// The octets of an entry in a table.
+pub const ENTRY_OCTETS: usize = 10;
+
 /// An entry of a table, which ten octets spell.
 pub trait Entry: Copy {
     ghost entry_at: { List ℕ → Self };
@@ -21,7 +24,7 @@ pub trait Entry: Copy {
         ensures { result ≡ entry_at octets.now };
 
     /// The ten octets that spell the entry.
-    fn to_octets(&self) -> [u8; 10]
+    fn to_octets(&self) -> [u8; ENTRY_OCTETS]
         ensures octets { result ≡ octets_of self.now }
         ensures fields { IsEntry self.now };
 
@@ -65,7 +68,7 @@ impl Entry for DistributionEntry {
         }
     }
 
-    fn to_octets(&self) -> [u8; 10] {
+    fn to_octets(&self) -> [u8; ENTRY_OCTETS] {
         let [a, b, c, d, high, low] = self.address.to_octets();
         let [e, f, g, h] = self.mask;
         [a, b, c, d, high, low, e, f, g, h]
@@ -92,7 +95,7 @@ impl Entry for ForeignDevice {
         }
     }
 
-    fn to_octets(&self) -> [u8; 10] {
+    fn to_octets(&self) -> [u8; ENTRY_OCTETS] {
         let ForeignDevice {
             address,
             seconds_to_live,

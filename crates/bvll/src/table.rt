@@ -2,7 +2,7 @@
 
 ghost use Rattle.std.specs.Prelude.{◌≡◌, ◌≢◌, ◌↔◌, ◌%◌, [], length, IfOk, IfErr, IsTrue, OnOk, OnErr, ◌++◌, flat_map, slice_get};
 
-use crate::entry::Entry;
+use crate::entry::{ENTRY_OCTETS, Entry};
 use std::alloc::{AllocError, Allocator};
 use tags::Fault;
 
@@ -35,7 +35,7 @@ impl<'a, E: Entry> Table<'a, E> {
         ensures read { IfOk result (λ t. SpellsTable E.octets_of E.IsEntry octets.entry.now (entries_of E.entry_at t)) }
         ensures refused { IfErr result (λ e. (e ≡ Fault.BadLength) × (length octets.entry.now % 10 ≢ 0)) }
     {
-        if octets.len() % 10 != 0 {
+        if octets.len() % ENTRY_OCTETS != 0 {
             return Err(Fault::BadLength);
         }
         Ok(Table::Octets(octets))
@@ -47,7 +47,7 @@ impl<'a, E: Entry> Table<'a, E> {
         ensures { result ≡ length (entries_of E.entry_at self.now) }
     {
         match self {
-            Table::Octets(octets) => octets.len() / 10,
+            Table::Octets(octets) => octets.len() / ENTRY_OCTETS,
             Table::Entries(entries) => entries.len(),
         }
     }
@@ -91,10 +91,10 @@ impl<'a, E: Entry> Table<'a, E> {
     fn row(octets: &[u8], index: usize) -> Option<E>
         ensures { result ≡ slice_get (entries_at E.entry_at octets.now) index }
     {
-        if octets.len() / 10 <= index {
+        if octets.len() / ENTRY_OCTETS <= index {
             return None;
         }
-        let (_, rest) = octets.split_at(10 * index);
+        let (_, rest) = octets.split_at(ENTRY_OCTETS * index);
         Some(E::from_octets(rest))
     }
 }
@@ -113,11 +113,11 @@ impl<'a, E: Entry> Iterator for Iter<'a, E> {
     fn next(&mut self) -> Option<E> {
         match self.rest {
             Table::Octets(octets) => {
-                if octets.len() < 10 {
+                if octets.len() < ENTRY_OCTETS {
                     return None;
                 }
                 let entry = E::from_octets(octets);
-                let (_, rest) = octets.split_at(10);
+                let (_, rest) = octets.split_at(ENTRY_OCTETS);
                 self.rest = Table::Octets(rest);
                 Some(entry)
             }
