@@ -42,7 +42,7 @@ some_is j k e = cc
 pub one_function : (j k : Function) → number_of j ≡ number_of k → j ≡ k
 one_function j k e = some_is j k (sym (slice_get-functions j) ∙ ap (λ n. slice_get functions n) e ∙ slice_get-functions k)
 
-number_of-le : (k : Function) → number_of k ≤ 11
+pub number_of-le : (k : Function) → number_of k ≤ 11
 number_of-le f.Result = omega arith
 number_of-le f.WriteBroadcastDistributionTable = omega arith
 number_of-le f.ReadBroadcastDistributionTable = omega arith
@@ -126,7 +126,7 @@ unknown octets d r s =
     let number : r.number ≡ number_of (function d) = cc in
     omega (arith, r.unknown, number_of-le (function d))
 
-length-some : (more : List ℕ) → (more ≡ [] → ⊥) → 0 < length more
+pub length-some : (more : List ℕ) → (more ≡ [] → ⊥) → 0 < length more
 length-some [] some = absurd (some refl)
 length-some (x ∷ more) some = omega arith
 
