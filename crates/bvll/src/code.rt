@@ -18,6 +18,7 @@ pub enum ResultCode {
     Other(u16),
 }
 
+/// The number of a code, as its two octets have it.
 impl From<ResultCode> for u16 {
     ghost from_gives = { λ code n. n ≡ code_number code };
 
@@ -35,6 +36,7 @@ impl From<ResultCode> for u16 {
     }
 }
 
+/// The code of a number, by its name where it has one.
 impl From<u16> for ResultCode {
     ghost from_gives = { λ n code. (code_number code ≡ n) × IsNamed code };
 

@@ -18,18 +18,29 @@ pub const HEADER_OCTETS: usize = 4;
 /// A datagram of the virtual link layer (J.2). An NPDU is the named slice of the datagram.
 #[derive(Clone, Copy, Debug)]
 pub enum Bvll<'a> {
+    /// How a manager took a request (J.2.1).
     Result(ResultCode),
+    /// The distribution table that a manager is to keep (J.2.2).
     WriteBroadcastDistributionTable(Table<'a, DistributionEntry>),
+    /// Asks a manager for its distribution table (J.2.3).
     ReadBroadcastDistributionTable,
+    /// The distribution table that a manager keeps (J.2.4).
     ReadBroadcastDistributionTableAck(Table<'a, DistributionEntry>),
-    /// The origin is the station that broadcast the NPDU.
+    /// A broadcast on its way through a manager; the origin is the station that said it (J.2.5).
     ForwardedNpdu { origin: Address, npdu: &'a [u8] },
+    /// Asks a manager for its broadcasts, for so many seconds (J.2.6).
     RegisterForeignDevice { seconds_to_live: u16 },
+    /// Asks a manager for its foreign device table (J.2.7).
     ReadForeignDeviceTable,
+    /// The foreign devices that a manager serves (J.2.8).
     ReadForeignDeviceTableAck(Table<'a, ForeignDevice>),
+    /// Asks a manager to serve a foreign device no longer (J.2.9).
     DeleteForeignDeviceTableEntry(Address),
+    /// Asks a manager to broadcast an NPDU (J.2.10).
     DistributeBroadcastToNetwork(&'a [u8]),
+    /// An NPDU to one station (J.2.11).
     OriginalUnicastNpdu(&'a [u8]),
+    /// An NPDU to all stations of a subnet (J.2.12).
     OriginalBroadcastNpdu(&'a [u8]),
 }
 

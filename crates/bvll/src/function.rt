@@ -6,7 +6,7 @@ ghost use Rattle.tags.specs.declared.fault.Fault.TheVariants.{BadTag};
 
 use tags::Fault;
 
-/// What a datagram asks for or carries: the second octet (J.2).
+/// What a datagram asks for or carries: its second octet (J.2.1 to J.2.12).
 #[derive(Clone, Copy, Debug, PartialEq, Eq)]
 pub enum Function {
     Result = 0x00,
@@ -23,6 +23,7 @@ pub enum Function {
     OriginalBroadcastNpdu = 0x0B,
 }
 
+/// The number of a function, 0 to 11.
 impl From<Function> for u8 {
     ghost from_gives = { λ function n. n ≡ number_of function };
 
@@ -31,6 +32,7 @@ impl From<Function> for u8 {
     }
 }
 
+/// The function of a number; one over 11 is refused as `BadTag`.
 impl TryFrom<u8> for Function {
     type Error = Fault;
 
