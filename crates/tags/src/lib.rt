@@ -32,3 +32,6 @@ pub use tag::{Class, Content, Tag};
 pub use value::Value;
 pub use value_reader::read_value;
 pub use writer::{write_object, write_tag, write_unsigned, write_value};
+
+#[cfg(test)]
+mod tests;
