@@ -1,3 +1,5 @@
+pub mod Steps
+pub mod OctetLists
 pub mod Numbers
 pub mod TagLaws
 pub mod FaultLaws

@@ -1,6 +1,5 @@
 -- Numbers in two and four octets, read and written again.
-use Rattle.std.proofs.Common.{◌≡◌, ℕ, zero, suc, ◌-◌, ◌+◌, ◌^◌, ◌<◌, ◌≤◌, List, [], ◌∷◌, ◌++◌, length, drop, refl, arith, inl, inr}
-use Rattle.std.proofs.lemmas.List.{get_or-drop}
+use Rattle.std.proofs.Common.{◌≡◌, ℕ, zero, suc, ◌-◌, ◌^◌, ◌<◌, ◌≤◌, List, [], ◌∷◌, ◌++◌, length, drop, refl, arith, inl, inr}
 use Rattle.std.specs.Prelude.{FitsSigned}
 use Rattle.std.specs.Int.{w32}
 use Rattle.std.proofs.Math.Nat.{pow-le-pow_right}
@@ -9,21 +8,13 @@ use Rattle.std.proofs.lemmas.Int.{ints}
 use Rattle.byteorder.specs.Numbers.{big_from-lt}
 use Rattle.byteorder.specs.Endian.{big_number, big_bytes, twos_complement}
 use Rattle.tags.specs.Number.{AreOctets}
-
-pub AreOctets-rest : (b : ℕ) (bytes : List ℕ) → AreOctets (b ∷ bytes) → AreOctets bytes
-AreOctets-rest b bytes h i = h (suc i)
-
-pub AreOctets-drop : (n : ℕ) (bytes : List ℕ) → AreOctets bytes → AreOctets (drop n bytes)
-AreOctets-drop n bytes h i = rw get_or-drop (h (n + i))
-
-cell : (a b : ℕ) (xs ys : List ℕ) → a ≡ b → xs ≡ ys → a ∷ xs ≡ b ∷ ys
-cell a b xs ys e f = cc
+use Rattle.tags.proofs.OctetLists.{cons_equal}
 
 pub two_again : (bytes : List ℕ) → 2 ≤ length bytes → AreOctets bytes → bytes ≡ big_bytes 2 (big_number 2 bytes) ++ drop 2 bytes
 two_again [] le fits = absurd (omega arith)
 two_again (a ∷ []) le fits = absurd (omega arith)
 two_again (a ∷ b ∷ rest) le fits =
-    cell a _ _ _ (omega (arith, fits 0, fits 1)) (cell b _ _ _ (omega (arith, fits 0, fits 1)) refl)
+    cons_equal a _ _ _ (omega (arith, fits 0, fits 1)) (cons_equal b _ _ _ (omega (arith, fits 0, fits 1)) refl)
 
 pub four_again : (bytes : List ℕ) → 4 ≤ length bytes → AreOctets bytes → bytes ≡ big_bytes 4 (big_number 4 bytes) ++ drop 4 bytes
 four_again [] le fits = absurd (omega arith)
@@ -31,7 +22,7 @@ four_again (a ∷ []) le fits = absurd (omega arith)
 four_again (a ∷ b ∷ []) le fits = absurd (omega arith)
 four_again (a ∷ b ∷ c ∷ []) le fits = absurd (omega arith)
 four_again (a ∷ b ∷ c ∷ d ∷ rest) le fits =
-    cell a _ _ _ (omega (arith, fits 0, fits 1, fits 2, fits 3)) (cell b _ _ _ (omega (arith, fits 0, fits 1, fits 2, fits 3)) (cell c _ _ _ (omega (arith, fits 0, fits 1, fits 2, fits 3)) (cell d _ _ _ (omega (arith, fits 0, fits 1, fits 2, fits 3)) refl)))
+    cons_equal a _ _ _ (omega (arith, fits 0, fits 1, fits 2, fits 3)) (cons_equal b _ _ _ (omega (arith, fits 0, fits 1, fits 2, fits 3)) (cons_equal c _ _ _ (omega (arith, fits 0, fits 1, fits 2, fits 3)) (cons_equal d _ _ _ (omega (arith, fits 0, fits 1, fits 2, fits 3)) refl)))
 
 -- the last octets of a number
 pub last_octets : (k n : ℕ) → k ≤ 4 → drop (4 - k) (big_bytes 4 n) ≡ big_bytes k n

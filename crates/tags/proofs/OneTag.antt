@@ -4,7 +4,8 @@ use Rattle.std.proofs.lemmas.List.{append_cancel_right, length-append}
 use Rattle.tags.specs.declared.tag.Class.{Class}
 use Rattle.tags.specs.Tag.{PlainTag, PlainContent, null, boolean, contents, opening, closing, SpellsContent, SpellsTag, TakesTag}
 use Rattle.tags.specs.TagReading.{tag_at}
-use Rattle.tags.proofs.TagLaws.{tag_again, pair_is}
+use Rattle.tags.proofs.TagLaws.{tag_again}
+use Rattle.tags.proofs.Steps.{ok_pair_injective}
 
 -- two spellings at the front of the same octets are one
 pub record SameTag (a b x y : List ℕ) (t u : PlainTag) : Type 0 where
@@ -14,7 +15,7 @@ pub record SameTag (a b x y : List ℕ) (t u : PlainTag) : Type 0 where
 
 pub one_tag : (a b x y : List ℕ) (t u : PlainTag) → SpellsTag a t → SpellsTag b u → a ++ x ≡ b ++ y → SameTag a b x y t u
 one_tag a b x y t u s r e =
-    let p = pair_is t u x y (sym (tag_again a t x s) ∙ ap tag_at e ∙ tag_again b u y r) in
+    let p = ok_pair_injective t u x y (sym (tag_again a t x s) ∙ ap tag_at e ∙ tag_again b u y r) in
     record { tag = p.0; front = append_cancel_right a b x (e ∙ ap (λ (z : List ℕ). b ++ z) (sym p.1)); rest = p.1 }
 
 -- what stands at the front is one tag

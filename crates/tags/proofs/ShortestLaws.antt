@@ -15,7 +15,7 @@ use Rattle.tags.specs.Number.{AreOctets, SpellsUnsigned, SpellsSigned, width, un
 use Rattle.tags.specs.Tag.{PlainContent, null, boolean, contents, opening, closing, initial_octets, LengthForm, in_initial, in_octet, in_two, in_four, length_bits, length_octets, IsLength, SpellsContent}
 use Rattle.tags.specs.Value.{Says, Carries, SpellsValue}
 use Rattle.tags.specs.Canonical.{shortest, tagged, canonical_tag, canonical}
-use Rattle.tags.proofs.TagLaws.{AreOctets-after}
+use Rattle.tags.proofs.OctetLists.{AreOctets-after}
 
 -- ---- tags
 

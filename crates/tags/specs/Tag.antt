@@ -110,9 +110,10 @@ TakesTag octets t rest = (front : List ℕ) × SpellsTag front t × (octets ≡ 
 pub record NoTag (octets : List ℕ) : Type 0 where
   pub none : (front rest : List ℕ) (t : PlainTag) → SpellsTag front t → octets ≡ front ++ rest → ⊥
 
--- with more octets behind them they spell a tag
+-- with more octets behind them, one at least, they spell a tag
 pub record IsCutTag (octets : List ℕ) : Type 0 where
   pub more : List ℕ
+  pub lacks : 0 < length more
   pub tag : PlainTag
   pub spelled : SpellsTag (octets ++ more) tag
 

@@ -2,13 +2,16 @@
 //! and the lists that contracts see as lists.
 //!
 //! To the layers above it promises: what is read is spelled so, what is written is the shortest
-//! spelling, and a refusal comes only for its stated cause and changes nothing.
+//! spelling and is read back, each refusal comes only for its stated cause, and after one the
+//! reader or buffer is as it was. No two values are spelled by the same octets.
 //!
 //! - `fault`: the fifteen refusals.
 //! - `items`: lists and lists of octets over an allocator.
 //! - `tag`, `reader`: tags, and reading them from left to right.
 //! - `number`, `object_id`: numbers and object identifiers as contents octets.
-//! - `value`, `writer`: values, and writing them and tags.
+//! - `value`, `value_reader`, `element`: values, reading them, and walking an element by count.
+//! - `writer`: writing values and tags.
+//! - `laws`: what holds of every spelling, for the proofs of the layers above.
 #![tactic(auto)]
 
 mod element;
