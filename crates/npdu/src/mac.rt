@@ -1,6 +1,6 @@
 //! Link addresses, and the stations and targets that they name.
 
-ghost use Rattle.std.specs.Prelude.{◌≡◌, ◌≢◌, IfSome, IfNone, length};
+ghost use Rattle.std.specs.Prelude.{◌≡◌, ◌≢◌, ◌⊎◌, IfSome, IfNone, length};
 ghost use Rattle.npdu.specs.Mac.{mac_octets};
 
 /// The address of a station on its own network: one octet on MS/TP, six on BACnet/IP (Table 6-2).
@@ -10,6 +10,14 @@ pub enum Mac {
     One(u8),
     /// Four octets of an IP address and two of its port.
     Six([u8; 6]),
+}
+
+// The count of an array is known to a contract where the array is a parameter.
+fn six_octets(octets: &[u8; 6]) -> &[u8]
+    ensures octets { result.now ≡ octets.now }
+    ensures count { length result.now ≡ 6 }
+{
+    octets.as_slice()
 }
 
 impl Mac {
@@ -27,11 +35,12 @@ impl Mac {
 
     /// The octets of the address, as they stand in DADR and SADR: one or six.
     pub fn as_octets(&self) -> &[u8]
-        ensures { result.now ≡ mac_octets self.now }
+        ensures octets { result.now ≡ mac_octets self.now }
+        ensures count { (length result.now ≡ 1) ⊎ (length result.now ≡ 6) }
     {
         match self {
             Mac::One(octet) => std::slice::from_ref(octet),
-            Mac::Six(octets) => octets.as_slice(),
+            Mac::Six(octets) => six_octets(octets),
         }
     }
 }
