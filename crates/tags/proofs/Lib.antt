@@ -9,3 +9,4 @@ pub mod ElementLaws
 pub mod ValueLaws
 pub mod CanonicalLaws
 pub mod ShortestLaws
+pub mod RefusalLaws

@@ -193,7 +193,7 @@ number_above number nibble e zero-not one-not =
       | inr large ↦ omega arith
     ]
 
-number_bits_above : (number : ℕ) → 1 < number → 1 < number_bits number
+pub number_bits_above : (number : ℕ) → 1 < number → 1 < number_bits number
 number_bits_above number h =
     elim (cases_lt number 15) [
       | inl small ↦ rw (lt-ltb number 15 small) h

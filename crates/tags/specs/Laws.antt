@@ -3,9 +3,11 @@ use Rattle.std.specs.Prelude.{◌≡◌, ℕ, ◌≤◌, List, ◌++◌, length}
 use Rattle.std.specs.List.{AllByRecursion}
 use Rattle.tags.specs.declared.value.Value.{Value}
 use Rattle.tags.specs.declared.value.Value.TheVariants as value
+use Rattle.tags.specs.declared.fault.Fault.{Fault}
 use Rattle.tags.specs.Number.{AreOctets}
-use Rattle.tags.specs.Tag.{PlainTag, SpellsTag, TakesTag}
-use Rattle.tags.specs.Value.{IsSound, SpellsValue, SpellsValues, TakesValue}
+use Rattle.tags.specs.Refusal.{RefusesValue}
+use Rattle.tags.specs.Tag.{PlainTag, SpellsTag, TakesTag, NoTag, RefusesTag}
+use Rattle.tags.specs.Value.{IsSound, SpellsValue, SpellsValues, TakesValue, NoValue}
 use Rattle.tags.specs.Canonical.{IsSoundTag, canonical_tag, canonical, canonicals}
 
 -- the octets of one tag never begin those of another
@@ -51,3 +53,11 @@ TagReadsBack = (t u : PlainTag) (x y : List ℕ) → IsSoundTag t.class t.number
 -- what is written of a sound value is read as that value, whatever follows it
 abbrev pub ValueReadsBack : Type 0 → Type 0
 ValueReadsBack A = (v w : Value A) (x y : List ℕ) → IsSound v → TakesValue (canonical v ++ x) w y → (w ≡ v) × (y ≡ x)
+
+-- what is refused begins with no value, and for one cause only
+abbrev pub RefusesOnce : Type 0 → Type 0
+RefusesOnce A = (octets : List ℕ) (f g : Fault) → RefusesValue f octets → RefusesValue g octets → (f ≡ g) × NoValue A octets
+
+-- the same of tags
+abbrev pub RefusesTagOnce : Type 0
+RefusesTagOnce = (octets : List ℕ) (f g : Fault) → RefusesTag f octets → RefusesTag g octets → (f ≡ g) × NoTag octets

@@ -2,7 +2,7 @@
 //! a law: its contract, for the proofs of the layers above.
 
 ghost use Rattle.std.specs.Prelude.{◌≡◌, ◌↔◌, IsTrue};
-ghost use Rattle.tags.specs.Laws.{OneTag, OneValue, OneList, TagIsSpelled, ValueIsSpelled, ListIsSpelled, TagIsShortest, ValueIsShortest, BuiltIsItself, TagReadsBack, ValueReadsBack};
+ghost use Rattle.tags.specs.Laws.{OneTag, OneValue, OneList, TagIsSpelled, ValueIsSpelled, ListIsSpelled, TagIsShortest, ValueIsShortest, BuiltIsItself, TagReadsBack, ValueReadsBack, RefusesTagOnce, RefusesOnce};
 
 use crate::value::Value;
 use std::alloc::Allocator;
@@ -64,6 +64,16 @@ pub fn tag_reads_back()
 /// What is written of a sound value is read as that value, whatever follows it.
 pub fn value_reads_back<A: Allocator>()
     ensures { ValueReadsBack A }
+{}
+
+/// Octets that are refused as a tag begin with none, and have one refusal.
+pub fn tag_is_refused_once()
+    ensures { RefusesTagOnce }
+{}
+
+/// Octets that are refused as a value begin with none, and have one refusal.
+pub fn value_is_refused_once<A: Allocator>()
+    ensures { RefusesOnce A }
 {}
 
 /// `==` of values is equality: the same variant with the same numbers and octets, wherever in
