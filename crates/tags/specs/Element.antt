@@ -44,6 +44,7 @@ pub record OpenBefore (octets rest : List ℕ) : Type 0 where
 pub record NeverCloses (octets : List ℕ) : Type 0 where
   pub none : (rest : List ℕ) → ClosesBefore octets rest → ⊥
 
+-- a tag of the context class
 abbrev pub context : ℕ → PlainContent → PlainTag
 context number content = record { class = Context; number = number; content = content }
 

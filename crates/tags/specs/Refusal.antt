@@ -57,6 +57,7 @@ IsBadContents number octets =
     ⊎ ((number ≡ 8) × IsBadBits octets)
     ⊎ ((number ≡ 12) × (length octets ≡ 4 → ⊥))
 
+-- a tag of the application class
 abbrev pub application : ℕ → PlainContent → PlainTag
 application number content = record { class = Application; number = number; content = content }
 

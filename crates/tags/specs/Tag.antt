@@ -23,6 +23,7 @@ pub record PlainTag : Type 0 where
   pub number : ℕ
   pub content : PlainContent
 
+-- what the code's content carries
 abbrev pub plain_content : Content → PlainContent
 plain_content Null = null
 plain_content (Boolean b) = boolean b
@@ -30,6 +31,7 @@ plain_content (Octets octets) = contents octets.now
 plain_content Opening = opening
 plain_content Closing = closing
 
+-- the code's tag, without where its contents lie
 abbrev pub plain_tag : Tag → PlainTag
 plain_tag t = record { class = t.class; number = t.number; content = plain_content t.content }
 
@@ -37,6 +39,7 @@ plain_tag t = record { class = t.class; number = t.number; content = plain_conte
 abbrev pub number_bits : ℕ → ℕ
 number_bits number = if nat_lt number 15 then number else 15
 
+-- the octet behind the initial one, for a number from 15 on (20.2.1.2)
 abbrev pub number_octets : ℕ → List ℕ
 number_octets number = if nat_lt number 15 then [] else number ∷ []
 
@@ -63,6 +66,7 @@ length_bits in_octet n = 5
 length_bits in_two n = 5
 length_bits in_four n = 5
 
+-- the octets of a length behind the initial octets (20.2.1.3.1)
 abbrev pub length_octets : LengthForm → ℕ → List ℕ
 length_octets in_initial n = []
 length_octets in_octet n = n ∷ []
