@@ -1,16 +1,19 @@
 -- What is read as a request is the only request that stands there.
 use Rattle.std.proofs.Common.{◌≡◌, ℕ, ◌<◌, List, [], length, Option, Some, None, refl, sym, ap, subst, ◌∙◌, arith}
-use Rattle.std.specs.Prelude.{IfNone}
+use Rattle.std.specs.Prelude.{IfSome, IfNone}
 use Rattle.tags.specs.declared.object_id.ObjectId.{ObjectId}
-use Rattle.tags.specs.Tag.{PlainTag, contents, TakesTag, NoTag}
+use Rattle.tags.specs.Tag.{PlainTag, contents, TakesTag, OnlyTag, NoTag}
 use Rattle.tags.specs.Element.{context}
 use Rattle.tags.specs.Number.{SpellsObject, SpellsUnsigned}
-use Rattle.tags.proofs.OneTag.{one_front_tag, tag_shortens}
-use Rattle.bacsite.specs.ReadProperty.{OnlyObject, NoObject, TakesNumber, OnlyNumber, NoNumber, NoContents, HasNoContents, SpellsIndex, OnlyIndex, NoIndex, SpellsBody, OnlyBody, NoBody}
+use Rattle.bacsite.specs.ReadProperty.{OnlyObject, NoObject, TakesNumber, OnlyNumber, NoNumber, OnlyContents, NoContents, HasNoContents, SpellsIndex, OnlyIndex, NoIndex, SpellsBody, OnlyBody, NoBody}
 use Rattle.objects.specs.declared.plain_data.Request.{Request}
 use Rattle.objects.specs.declared.plain_data.Request.TheVariants.{Read}
 
 -- what follows where there is no value
+pub where_some : {A : Type 0} {P Q : A → Type 0} (r : Option A) → ((x : A) → P x → Q x) → IfSome r P → IfSome r Q
+where_some None f p = tt
+where_some (Some x) f p = f x p
+
 pub where_none : {A P Q : Type 0} (r : Option A) → (P → Q) → IfNone r P → IfNone r Q
 where_none None f p = f p
 where_none (Some x) f p = tt
@@ -18,16 +21,15 @@ where_none (Some x) f p = tt
 contents_are : (a b : List ℕ) → contents a ≡ contents b → a ≡ b
 contents_are a b e = cc
 
--- the contents under a context tag are one
-pub one_contents : (octets : List ℕ) (number : ℕ) (a b r s : List ℕ) → TakesTag octets (context number (contents a)) r → TakesTag octets (context number (contents b)) s → (a ≡ b) × (r ≡ s)
-one_contents octets number a b r s t u =
-    let one = one_front_tag octets (context number (contents a)) (context number (contents b)) r s t u in
-    (contents_are a b (ap (λ (x : PlainTag). x.content) one.tag), one.rest)
-
-pub no_contents_of_other : (octets : List ℕ) (t : PlainTag) (next : List ℕ) (number : ℕ) → TakesTag octets t next → HasNoContents t number → NoContents octets number
-no_contents_of_other octets t next number taken other = record {
-  none = λ inner rest u. other.none inner (one_front_tag octets t (context number (contents inner)) next rest taken u).tag;
+pub only_contents : (octets : List ℕ) (t : PlainTag) (next : List ℕ) (number : ℕ) (inner : List ℕ) → OnlyTag octets t next → t ≡ context number (contents inner) → OnlyContents octets number inner next
+only_contents octets t next number inner one e = record {
+  only = λ other after u.
+      let same = one.only (context number (contents other)) after u in
+      (contents_are inner other (ap (λ (x : PlainTag). x.content) (sym e ∙ same.0)), same.1);
 }
+
+pub no_contents_of_other : (octets : List ℕ) (t : PlainTag) (next : List ℕ) (number : ℕ) → OnlyTag octets t next → HasNoContents t number → NoContents octets number
+no_contents_of_other octets t next number one other = record { none = λ inner rest u. other.none inner (one.only (context number (contents inner)) rest u).0 }
 
 pub no_contents_of_none : (octets : List ℕ) (number : ℕ) → NoTag octets → NoContents octets number
 no_contents_of_none octets number lacks = record { none = λ inner rest u. lacks.none u.0 rest (context number (contents inner)) u.1 u.2 }
@@ -43,17 +45,17 @@ one_object inner o p s r =
     let e = sym s.value ∙ r.value in
     object_is o p (omega (arith, s.sound, r.sound, e)) (omega (arith, s.sound, r.sound, e))
 
-pub only_object : (octets : List ℕ) (number : ℕ) (inner rest : List ℕ) (o : ObjectId) → TakesTag octets (context number (contents inner)) rest → SpellsObject inner o.object_type o.instance → OnlyObject octets number o rest
+pub only_object : (octets : List ℕ) (number : ℕ) (inner rest : List ℕ) (o : ObjectId) → OnlyContents octets number inner rest → SpellsObject inner o.object_type o.instance → OnlyObject octets number o rest
 only_object octets number inner rest o t s = record {
   only = λ p after u.
-      let one = one_contents octets number inner u.inner rest after t u.taken in
+      let one = t.only u.inner after u.taken in
       (one_object inner o p s (subst (λ (x : List ℕ). SpellsObject x p.object_type p.instance) (sym one.0) u.is), one.1);
 }
 
-pub no_object_of_contents : (octets : List ℕ) (number : ℕ) (inner rest : List ℕ) → TakesTag octets (context number (contents inner)) rest → (length inner ≡ 4 → ⊥) → NoObject octets number
+pub no_object_of_contents : (octets : List ℕ) (number : ℕ) (inner rest : List ℕ) → OnlyContents octets number inner rest → (length inner ≡ 4 → ⊥) → NoObject octets number
 no_object_of_contents octets number inner rest t long = record {
   none = λ o after u.
-      let one = one_contents octets number inner u.inner rest after t u.taken in
+      let one = t.only u.inner after u.taken in
       long (ap length one.0 ∙ u.is.four);
 }
 
@@ -63,17 +65,17 @@ no_object_of_none octets number lacks = record { none = λ o rest u. lacks.none 
 one_unsigned : (inner : List ℕ) (n m : ℕ) → SpellsUnsigned inner n → SpellsUnsigned inner m → n ≡ m
 one_unsigned inner n m s r = s.value ∙ sym r.value
 
-pub only_number : (octets : List ℕ) (number : ℕ) (inner rest : List ℕ) (n : ℕ) → TakesTag octets (context number (contents inner)) rest → SpellsUnsigned inner n → OnlyNumber octets number n rest
+pub only_number : (octets : List ℕ) (number : ℕ) (inner rest : List ℕ) (n : ℕ) → OnlyContents octets number inner rest → SpellsUnsigned inner n → OnlyNumber octets number n rest
 only_number octets number inner rest n t s = record {
   only = λ m after u.
-      let one = one_contents octets number inner u.inner rest after t u.taken in
+      let one = t.only u.inner after u.taken in
       (one_unsigned inner n m s (subst (λ (x : List ℕ). SpellsUnsigned x m) (sym one.0) u.is), one.1);
 }
 
-pub no_number_of_contents : (octets : List ℕ) (number : ℕ) (inner rest : List ℕ) → TakesTag octets (context number (contents inner)) rest → ((0 < length inner) → 4 < length inner) → NoNumber octets number
+pub no_number_of_contents : (octets : List ℕ) (number : ℕ) (inner rest : List ℕ) → OnlyContents octets number inner rest → ((0 < length inner) → 4 < length inner) → NoNumber octets number
 no_number_of_contents octets number inner rest t long = record {
   none = λ n after u.
-      let one = one_contents octets number inner u.inner rest after t u.taken in
+      let one = t.only u.inner after u.taken in
       let len : length inner ≡ length u.inner = ap length one.0 in
       let some : 0 < length inner = omega (arith, u.is.some, len) in
       let above = long some in
@@ -83,16 +85,12 @@ no_number_of_contents octets number inner rest t long = record {
 pub no_number_of_none : (octets : List ℕ) (number : ℕ) → NoContents octets number → NoNumber octets number
 no_number_of_none octets number lacks = record { none = λ n rest u. lacks.none u.inner rest u.taken }
 
--- nothing begins at the end
-no_number_at_end : (octets : List ℕ) (number n : ℕ) (rest : List ℕ) → octets ≡ [] → TakesNumber octets number n rest → ⊥
-no_number_at_end octets number n rest e u = let less = tag_shortens octets (context number (contents u.inner)) rest u.taken in let none : length octets ≡ 0 = ap length e in omega (arith, less, none)
-
-pub only_end : (octets : List ℕ) → octets ≡ [] → OnlyIndex octets None
-only_end octets e = record { only = λ other s. end_is octets other e s }
+pub only_end : (octets : List ℕ) → octets ≡ [] → NoTag octets → OnlyIndex octets None
+only_end octets e lacks = record { only = λ other s. end_is octets other lacks s }
   where
-    end_is : (octets : List ℕ) (other : Option ℕ) → octets ≡ [] → SpellsIndex octets other → ◌≡◌ {A = Option ℕ} None other
-    end_is octets None e s = refl
-    end_is octets (Some n) e s = absurd (no_number_at_end octets 2 n [] e s)
+    end_is : (octets : List ℕ) (other : Option ℕ) → NoTag octets → SpellsIndex octets other → ◌≡◌ {A = Option ℕ} None other
+    end_is octets None lacks s = refl
+    end_is octets (Some n) lacks s = absurd (lacks.none s.taken.0 [] (context 2 (contents s.inner)) s.taken.1 s.taken.2)
 
 pub only_index : (octets : List ℕ) (n : ℕ) (rest : List ℕ) → (octets ≡ [] → ⊥) → OnlyNumber octets 2 n rest → OnlyIndex octets (Some n)
 only_index octets n rest some one = record { only = λ other s. index_is octets n rest other some one s }

@@ -52,6 +52,9 @@ pub record SpellsRead (apdu : List ℕ) (invoke_id : ℕ) (request : Request) : 
   pub asked : SpellsBody body request
 
 -- what is taken is the only thing that stands there
+pub record OnlyContents (octets : List ℕ) (number : ℕ) (inner rest : List ℕ) : Type 0 where
+  pub only : (other after : List ℕ) → TakesTag octets (context number (contents other)) after → (inner ≡ other) × (rest ≡ after)
+
 pub record OnlyObject (octets : List ℕ) (number : ℕ) (object : ObjectId) (rest : List ℕ) : Type 0 where
   pub only : (other : ObjectId) (after : List ℕ) → TakesObject octets number other after → (object ≡ other) × (rest ≡ after)
 

@@ -6,7 +6,7 @@ ghost use Rattle.tags.specs.Element.{context};
 ghost use Rattle.tags.specs.Value.{IsSound};
 ghost use Rattle.tags.specs.Canonical.{canonicals};
 ghost use Rattle.objects.specs.Machine.{IsSoundReply};
-ghost use Rattle.bacsite.specs.ReadProperty.{TakesObject, OnlyObject, NoObject, TakesNumber, OnlyNumber, NoNumber, NoContents, HasNoContents, SpellsIndex, OnlyIndex, NoIndex, SpellsBody, OnlyBody, NoBody, SpellsRead, OnlyRead, NoRead, IsSoundRequest, asked_octets, value_octets, answer_apdu};
+ghost use Rattle.bacsite.specs.ReadProperty.{TakesObject, OnlyObject, NoObject, TakesNumber, OnlyNumber, NoNumber, OnlyContents, NoContents, HasNoContents, SpellsIndex, OnlyIndex, NoIndex, SpellsBody, OnlyBody, NoBody, SpellsRead, OnlyRead, NoRead, IsSoundRequest, asked_octets, value_octets, answer_apdu};
 
 use objects::{ErrorClass, ErrorCode, Reply, Request};
 use std::alloc::Allocator;
@@ -89,6 +89,7 @@ fn read_number(reader: &mut Reader<'_>, number: u8) -> Option<u32>
 #[tactic(auto, using(crate::proofs::ReadLaws::contents_laws))]
 fn read_contents<'a>(reader: &mut Reader<'a>, number: u8) -> Option<&'a [u8]>
     ensures read { IfSome result (λ inner. TakesTag reader.old (context number (contents inner.now)) reader.new) }
+    ensures only { IfSome result (λ inner. OnlyContents reader.old number inner.now reader.new) }
     ensures refused { IfNone result (NoContents reader.old number) }
 {
     match reader.next() {

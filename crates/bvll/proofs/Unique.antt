@@ -10,7 +10,10 @@ use Rattle.bvll.specs.declared.entry.ForeignDevice.{ForeignDevice}
 use Rattle.bvll.specs.declared.function.Function.{Function}
 use Rattle.bvll.specs.declared.function.Function.TheVariants as f
 use Rattle.bvll.specs.Address.{address_octets, address_at, IsAddress}
-use Rattle.bvll.specs.Datagram.{Datagram, outcome, write_distribution, read_distribution, distribution, forwarded, register, read_foreign, foreign, delete_foreign, distribute, unicast, broadcast, function, contents, HasFields, whole_length}
+use Rattle.bvll.specs.Datagram.{Datagram, outcome, write_distribution, read_distribution, distribution, forwarded, register, read_foreign, foreign, delete_foreign, distribute, unicast, broadcast, function, contents, HasFields, whole_length, datagram_of, Spells, OnlyDatagram}
+use Rattle.bvll.specs.declared.datagram.Bvll.{Bvll}
+use Rattle.tags.specs.declared.fault.Fault.{Fault}
+use Rattle.std.specs.Prelude.{Result, Ok, Err, IfOk}
 use Rattle.bvll.specs.Entry.{distribution_octets, distribution_at, IsDistributionEntry, foreign_octets, foreign_at, IsForeignDevice}
 use Rattle.bvll.specs.Laws.{SpellOne, CanonicalSpells}
 use Rattle.bvll.specs.Table.{entries_at}
@@ -105,6 +108,11 @@ pub one_datagram : SpellOne
 one_datagram octets d e s t =
     let p = header_parts (function d) (function e) (whole_length d) (whole_length e) (contents d) (contents e) s.sound.fits t.sound.fits (sym s.parts ∙ t.parts) in
     sym (datagram_again d s.sound.fields) ∙ rw (p.0, p.2) (datagram_again e t.sound.fields)
+
+-- what was read is the only datagram that is spelled
+pub only_datagram : (octets : List ℕ) (r : Result Bvll Fault) → IfOk r (λ b. Spells octets (datagram_of b)) → IfOk r (λ b. OnlyDatagram octets (datagram_of b))
+only_datagram octets (Ok b) s = record { only = λ e t. one_datagram octets (datagram_of b) e s t }
+only_datagram octets (Err fault) s = tt
 
 pub canonical_spells : CanonicalSpells
 canonical_spells d sound = record { sound = sound; whole = omega (arith, length-contents d sound.fields); parts = refl }

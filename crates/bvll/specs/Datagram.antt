@@ -109,6 +109,10 @@ pub record Spells (octets : List ℕ) (d : Datagram) : Type 0 where
   pub whole : length octets ≡ whole_length d
   pub parts : octets ≡ canonical d
 
+-- the octets spell this datagram and no other
+pub record OnlyDatagram (octets : List ℕ) (d : Datagram) : Type 0 where
+  pub only : (e : Datagram) → Spells octets e → d ≡ e
+
 -- no datagram is spelled
 pub record NoDatagram (octets : List ℕ) : Type 0 where
   pub none : (d : Datagram) → Spells octets d → ⊥

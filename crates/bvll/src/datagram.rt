@@ -48,7 +48,7 @@ impl<'a> Bvll<'a> {
     ghost use Rattle.std.specs.Prelude.{◌≡◌, ◌≢◌, ◌<◌, ◌≤◌, ◌^◌, ◌++◌, ◌∷◌, [], length, IfOk, IfErr, OnOk, OnErr, MatchOption};
     ghost use Rattle.byteorder.specs.Endian.{big_bytes};
     ghost use Rattle.bvll.specs.Address.{TakesAddress};
-    ghost use Rattle.bvll.specs.Datagram.{canonical, contents, datagram_of, function, header, whole_length, HasFields, HasNamedCode, Spells, NoDatagram};
+    ghost use Rattle.bvll.specs.Datagram.{canonical, contents, datagram_of, function, header, whole_length, HasFields, HasNamedCode, Spells, OnlyDatagram, NoDatagram};
     ghost use Rattle.bvll.specs.Octets.{Extends};
     ghost use Rattle.bvll.specs.Refusal.{HasContents, IsLength, Refuses};
 
@@ -61,6 +61,7 @@ impl<'a> Bvll<'a> {
     /// wrong for the function; the first of these that holds.
     pub fn read(octets: &'a [u8]) -> Result<Bvll<'a>, Fault>
         ensures read { IfOk result (λ b. Spells octets.entry.now (datagram_of b)) }
+        ensures only { IfOk result (λ b. OnlyDatagram octets.entry.now (datagram_of b)) }
         ensures named { IfOk result HasNamedCode }
         ensures refused { OnErr result (NoDatagram octets.entry.now) }
         ensures fault { IfErr result (λ e. Refuses e octets.entry.now) }

@@ -1,8 +1,8 @@
 -- The octets of a tag never begin those of another tag.
-use Rattle.std.proofs.Common.{◌≡◌, ℕ, ◌<◌, List, ◌++◌, length, true, false, sym, ap, ◌∙◌, arith}
+use Rattle.std.proofs.Common.{◌≡◌, ℕ, ◌<◌, List, [], ◌++◌, length, true, false, sym, ap, ◌∙◌, arith}
 use Rattle.std.proofs.lemmas.List.{append_cancel_right, length-append}
 use Rattle.tags.specs.declared.tag.Class.{Class}
-use Rattle.tags.specs.Tag.{PlainTag, PlainContent, null, boolean, contents, opening, closing, SpellsContent, SpellsTag, TakesTag}
+use Rattle.tags.specs.Tag.{PlainTag, PlainContent, null, boolean, contents, opening, closing, SpellsContent, SpellsTag, TakesTag, OnlyTag, NoTag}
 use Rattle.tags.specs.TagReading.{tag_at}
 use Rattle.tags.proofs.TagLaws.{tag_again}
 use Rattle.tags.proofs.Steps.{ok_pair_injective}
@@ -36,3 +36,16 @@ tag_some front t s = content_some front t.class t.number t.content s
 
 pub tag_shortens : (octets : List ℕ) (t : PlainTag) (rest : List ℕ) → TakesTag octets t rest → length rest < length octets
 tag_shortens octets t rest taken = rw (taken.2) (omega (arith, length-append taken.0 rest, tag_some taken.0 t taken.1))
+
+-- what is taken is the only tag that stands there
+pub only_tag : (octets : List ℕ) (t : PlainTag) (rest : List ℕ) → TakesTag octets t rest → OnlyTag octets t rest
+only_tag octets t rest taken = record { only = λ u after other. let one = one_front_tag octets t u rest after taken other in (one.tag, one.rest) }
+
+-- no tag stands at the end
+pub no_tag_at_end : (octets : List ℕ) → octets ≡ [] → NoTag octets
+no_tag_at_end octets e = record {
+  none = λ front rest t s parts.
+      let none : length octets ≡ 0 = ap length e in
+      let whole : length octets ≡ length (front ++ rest) = ap length parts in
+      omega (arith, none, whole, length-append front rest, tag_some front t s);
+}

@@ -110,6 +110,10 @@ SpellsTag octets t = SpellsContent octets t.class t.number t.content
 abbrev pub TakesTag : List ℕ → PlainTag → List ℕ → Type 0
 TakesTag octets t rest = (front : List ℕ) × SpellsTag front t × (octets ≡ front ++ rest)
 
+-- the front of the octets spells this tag, with this rest, and no other
+pub record OnlyTag (octets : List ℕ) (t : PlainTag) (rest : List ℕ) : Type 0 where
+  pub only : (u : PlainTag) (after : List ℕ) → TakesTag octets u after → (t ≡ u) × (rest ≡ after)
+
 -- no front of the octets spells a tag
 pub record NoTag (octets : List ℕ) : Type 0 where
   pub none : (front rest : List ℕ) (t : PlainTag) → SpellsTag front t → octets ≡ front ++ rest → ⊥

@@ -1,7 +1,8 @@
 //! Reading tags from left to right (20.2.1).
 
 ghost use Rattle.std.specs.Prelude.{◌≡◌, ◌↔◌, [], IsTrue, IfOk, IfErr, IfSome, IfNone, OnErr};
-ghost use Rattle.tags.specs.Tag.{plain_tag, TakesTag, NoTag, RefusesTag};
+ghost use Rattle.std.specs.Bool.{OnTrue};
+ghost use Rattle.tags.specs.Tag.{plain_tag, TakesTag, OnlyTag, NoTag, RefusesTag};
 ghost use Rattle.tags.specs.TagReading.{Gives, number_at, length_at, contents_at, application_at, context_at, tag_at};
 
 use crate::fault::Fault;
@@ -32,8 +33,10 @@ impl<'a> Reader<'a> {
     }
 
     /// Whether no octet is left.
+    #[tactic(auto, using(crate::proofs::OneTag::no_tag_at_end))]
     pub fn is_at_end(&self) -> bool
-        ensures { IsTrue result ↔ (self.now ≡ []) }
+        ensures end { IsTrue result ↔ (self.now ≡ []) }
+        ensures none { OnTrue result (NoTag self.now) }
     {
         self.rest.is_empty()
     }
@@ -43,8 +46,10 @@ impl<'a> Reader<'a> {
     /// # Errors
     /// `Short` where more octets would complete a tag, `BadTag` for a reserved form, `BadLength`
     /// for a Null or Boolean with another length. The reader is then as it was.
+    #[tactic(auto, using(crate::proofs::OneTag::only_tag))]
     pub fn next(&mut self) -> Result<Option<Tag<'a>>, Fault>
         ensures read { IfOk result (λ found. IfSome found (λ tag. TakesTag self.old (plain_tag tag) self.new)) }
+        ensures only { IfOk result (λ found. IfSome found (λ tag. OnlyTag self.old (plain_tag tag) self.new)) }
         ensures end { IfOk result (λ found. IfNone found ((self.old ≡ []) × (self.new ≡ []))) }
         ensures at_end { self.old ≡ [] → result ≡ Ok None }
         ensures refused { OnErr result (NoTag self.old) }
