@@ -1,3 +1,4 @@
 pub mod ReadLaws
 pub mod AskLaws
 pub mod Lengths
+pub mod HexLaws

@@ -1,2 +1,4 @@
 pub mod ReadProperty
 pub mod Respond
+pub mod HexText
+pub mod Answer

@@ -6,8 +6,13 @@ use Rattle.npdu.specs.Header as network
 use Rattle.npdu.specs.declared.priority.Priority.TheVariants.{Normal}
 use Rattle.objects.specs.declared.plain_data.Request.{Request}
 use Rattle.objects.specs.declared.plain_data.Reply.{Reply}
-use Rattle.objects.specs.Machine.{PlainTable, reply}
+use Rattle.objects.specs.declared.object.BinaryPresentValue.TheVariants.{Active}
+use Rattle.objects.specs.Machine.{PlainTable, opening_table, reply}
 use Rattle.bacsite.specs.ReadProperty.{SpellsRead, answer_apdu}
+
+-- the opening table of the built-in device: Binary Value 1, whose Relinquish_Default is active
+abbrev pub builtin_table : {A : Type 0} → PlainTable A
+builtin_table = opening_table (record { instance = 1; relinquish_default = Active } ∷ [])
 
 -- the header of an APDU from a station on this network to this station (6.2.2)
 pub record IsLocal (h : Header) (apdu : List ℕ) : Type 0 where

@@ -1,11 +1,18 @@
 //! `bacsite answer`: what the built-in device says to one datagram.
 
+ghost use Rattle.std.specs.Prelude.{◌≡◌, ◌≤◌, IfOk, OnOk, map, string_bytes};
+ghost use Rattle.std.specs.List.{join_with_byte};
+ghost use Rattle.bacsite.specs.Answer.{printed, PrintsAnswer};
+ghost use Rattle.std.specs.Io.KnownBytes.{Appends};
+ghost use Rattle.bacsite.specs.Respond.{Responds, builtin_table};
+
 use crate::device::{Builtin, respond};
-use crate::hex_text::{read_hex, write_hex_line};
+use crate::hex_text::{push_pairs, read_hex};
 use npdu::Mac;
 use std::alloc::{AllocError, Allocator};
 use std::io;
 use std::io::Write;
+use tags::{Fault, Items, Octets};
 
 /// Where the datagram comes from: 127.0.0.1:47809.
 const FROM: Mac = Mac::Six([127, 0, 0, 1, 0xBA, 0xC1]);
@@ -18,7 +25,10 @@ pub fn answer_line<A: Allocator + Copy, W: Write, E: Write>(
     words: &[String],
     out: &mut W,
     err: &mut E,
-) -> u8 {
+) -> u8
+    ensures status { result ≤ 1 }
+    ensures answered { result ≡ 0 → PrintsAnswer (builtin_table {A = A}) (join_with_byte 32 (map string_bytes words.now)) (W.contents out.old) (W.contents out.new) }
+{
     answer(alloc, words, out, err).unwrap_or(1)
 }
 
@@ -27,18 +37,48 @@ fn answer<A: Allocator + Copy, W: Write, E: Write>(
     words: &[String],
     out: &mut W,
     err: &mut E,
-) -> io::Result<u8> {
+) -> io::Result<u8>
+    ensures status { IfOk result (λ status. status ≤ 1) }
+    ensures answered { IfOk result (λ status. status ≡ 0 → PrintsAnswer (builtin_table {A = A}) (join_with_byte 32 (map string_bytes words.now)) (W.contents out.old) (W.contents out.new)) }
+{
     let Some(datagram) = read_hex(alloc, words)? else {
         writeln!(err, "bacsite: hex")?;
         return Ok(1);
     };
-    let mut device = Builtin::new(alloc).map_err(|_| AllocError)?;
-    let said = respond(alloc, &mut device, FROM, datagram.as_slice()).map_err(|_| AllocError)?;
-    if said.is_empty() {
-        writeln!(out, "none")?;
-    }
-    for octets in said.as_slice() {
-        write_hex_line(out, octets.as_slice())?;
-    }
+    let Ok(said) = said_to(alloc, datagram.as_slice()) else {
+        return Ok(1);
+    };
+    print(alloc, said.as_slice(), out)?;
     Ok(0)
+}
+
+/// What the built-in device says to a datagram, as it opens.
+fn said_to<A: Allocator + Copy>(alloc: A, datagram: &[u8]) -> Result<Items<Octets<A>, A>, Fault>
+    ensures { IfOk result (λ said. Responds datagram.now (builtin_table {A = A}) said) }
+{
+    let mut device = Builtin::new(alloc)?;
+    respond(alloc, &mut device, FROM, datagram)
+}
+
+/// Prints the datagrams that are said.
+fn print<A: Allocator + Copy, W: Write>(alloc: A, said: &[Octets<A>], out: &mut W) -> io::Result<()>
+    ensures { OnOk result (Appends (W.contents out.old) (W.contents out.new) (printed said.now)) }
+{
+    let text = printed(alloc, said)?;
+    out.write_all(text.as_slice())
+}
+
+/// What is printed of the datagrams that are said.
+fn printed<A: Allocator + Copy>(alloc: A, said: &[Octets<A>]) -> Result<Vec<u8, A>, AllocError>
+    ensures { IfOk result (λ text. text.items ≡ printed said.now) }
+{
+    if said.is_empty() {
+        return Vec::from_slice(alloc, b"none\n");
+    }
+    let mut text = Vec::new(alloc);
+    for octets in said {
+        push_pairs(octets.as_slice(), &mut text)?;
+        text.push(b'\n')?;
+    }
+    Ok(text)
 }

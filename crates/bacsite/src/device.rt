@@ -36,15 +36,15 @@ const BINARY_VALUE_1: BinaryValue = BinaryValue {
 };
 
 impl<A: Allocator + Copy> Builtin<A> {
-    ghost use Rattle.std.specs.Prelude.{◌≡◌, ◌∷◌, [], IfOk, IfErr};
-    ghost use Rattle.objects.specs.Machine.{opening_table, reply, IsSoundReply};
+    ghost use Rattle.std.specs.Prelude.{◌≡◌, IfOk, IfErr};
+    ghost use Rattle.bacsite.specs.Respond.{builtin_table};
 
     /// The device as it opens.
     ///
     /// # Errors
     /// `Memory` alone.
     pub fn new(alloc: A) -> Result<Self, Fault>
-        ensures opened { IfOk result (λ device. device ≡ opening_table (BINARY_VALUE_1 ∷ [])) }
+        ensures opened { IfOk result (λ device. device ≡ builtin_table) }
         ensures memory { IfErr result (λ fault. fault ≡ Fault.Memory) }
     {
         Ok(Builtin {

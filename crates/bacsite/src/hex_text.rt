@@ -1,20 +1,45 @@
 //! Octets as pairs of hexadecimal digits.
 
-ghost use Rattle.std.specs.Prelude.{◌≡◌, ◌≤◌, ◌+◌, IfSome, length};
+ghost use Rattle.std.specs.Prelude.{◌≡◌, ◌<◌, ◌++◌, IfOk, IfSome, OnOk, map, string_bytes};
+ghost use Rattle.std.specs.List.{join_with_byte};
+ghost use Rattle.bacsite.specs.HexText.{TakesPair, HasSpacesBefore, SpellsHex, digit, pairs_of};
 
 use std::alloc::{AllocError, Allocator};
-use std::io;
-use std::io::Write;
 
 /// The octets that words spell as pairs of digits of either case, with any number of spaces
 /// between the pairs and none elsewhere; `None` for any other text.
 pub(crate) fn read_hex<A: Allocator + Copy>(
     alloc: A,
     words: &[String],
-) -> Result<Option<Vec<u8, A>>, AllocError> {
+) -> Result<Option<Vec<u8, A>>, AllocError>
+    ensures { IfOk result (λ found. IfSome found (λ octets. SpellsHex (join_with_byte 32 (map string_bytes words.now)) octets.items)) }
+{
     let text = joined(alloc, words)?;
+    octets_of(alloc, text.as_slice())
+}
+
+/// The words with a space between each and the next.
+fn joined<A: Allocator>(alloc: A, words: &[String]) -> Result<Vec<u8, A>, AllocError>
+    ensures { IfOk result (λ text. text.items ≡ join_with_byte 32 (map string_bytes words.now)) }
+{
+    let mut text = Vec::new(alloc);
+    let mut left = words;
+    while let [word, rest @ ..] = left {
+        text.extend_from_slice(word.as_bytes())?;
+        if !rest.is_empty() {
+            text.push(b' ')?;
+        }
+        left = rest;
+    }
+    Ok(text)
+}
+
+/// The octets that a text spells.
+fn octets_of<A: Allocator>(alloc: A, text: &[u8]) -> Result<Option<Vec<u8, A>>, AllocError>
+    ensures { IfOk result (λ found. IfSome found (λ octets. SpellsHex text.now octets.items)) }
+{
     let mut octets = Vec::new(alloc);
-    let mut rest = text.as_slice();
+    let mut rest = text;
     while let Some((octet, after)) = front_pair(rest) {
         octets.push(octet)?;
         if after.is_empty() {
@@ -25,21 +50,9 @@ pub(crate) fn read_hex<A: Allocator + Copy>(
     Ok(None)
 }
 
-/// The words with a space between each and the next.
-fn joined<A: Allocator>(alloc: A, words: &[String]) -> Result<Vec<u8, A>, AllocError> {
-    let mut text = Vec::new(alloc);
-    for (i, word) in words.iter().enumerate() {
-        if i > 0 {
-            text.push(b' ')?;
-        }
-        text.extend_from_slice(word.as_bytes())?;
-    }
-    Ok(text)
-}
-
 /// The octet that two digits at the front spell, and what follows them.
 fn front_pair(text: &[u8]) -> Option<(u8, &[u8])>
-    ensures { IfSome result (λ pair. length pair.1.now + 2 ≡ length text.now) }
+    ensures { IfSome result (λ found. TakesPair text.now found.0 found.1.now) }
 {
     if text.len() < 2 {
         return None;
@@ -52,22 +65,45 @@ fn front_pair(text: &[u8]) -> Option<(u8, &[u8])>
 
 /// The text from its first octet on that is no space.
 fn without_spaces(text: &[u8]) -> &[u8]
-    ensures { length result.now ≤ length text.now }
+    ensures { HasSpacesBefore text.now result.now }
 {
     let mut rest = text;
-    while let [b' ', after @ ..] = rest {
+    while let [first, after @ ..] = rest {
+        if *first != b' ' {
+            break;
+        }
         rest = after;
     }
     rest
 }
 
-/// Writes octets as two upper-case digits each, with single spaces between them, and a line end.
-pub(crate) fn write_hex_line<W: Write>(out: &mut W, octets: &[u8]) -> io::Result<()> {
-    for (i, octet) in octets.iter().enumerate() {
-        if i > 0 {
-            out.write_all(b" ")?;
+/// Appends octets as two upper-case digits each, with single spaces between them.
+pub(crate) fn push_pairs<A: Allocator>(
+    octets: &[u8],
+    out: &mut Vec<u8, A>,
+) -> Result<(), AllocError>
+    ensures { OnOk result (out.new.items ≡ out.old.items ++ pairs_of octets.now) }
+{
+    let mut left = octets;
+    while let [octet, rest @ ..] = left {
+        out.push(digit_of(*octet >> 4))?;
+        out.push(digit_of(*octet & 15))?;
+        if !rest.is_empty() {
+            out.push(b' ')?;
         }
-        write!(out, "{octet:02X}")?;
+        left = rest;
     }
-    out.write_all(b"\n")
+    Ok(())
+}
+
+/// A hexadecimal digit, from A on in upper case.
+fn digit_of(number: u8) -> u8
+    requires { number < 16 }
+    ensures { result ≡ digit number }
+{
+    if number < 10 {
+        48 + number
+    } else {
+        55 + number
+    }
 }

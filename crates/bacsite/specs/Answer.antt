@@ -1,0 +1,20 @@
+-- What `bacsite answer` prints.
+use Rattle.std.specs.Prelude.{◌≡◌, ℕ, List, [], ◌∷◌, ◌++◌, Option, map, string_bytes, codes, flat_map}
+use Rattle.std.specs.List.{join_with_byte}
+use Rattle.std.specs.Io.KnownBytes.{Appends}
+use Rattle.objects.specs.Machine.{PlainTable}
+use Rattle.bacsite.specs.HexText.{SpellsHex, pairs_of}
+use Rattle.bacsite.specs.Respond.{Responds}
+
+-- what is printed of the datagrams that are said: each on a line, or the word none
+abbrev pub printed : List (List ℕ) → List ℕ
+printed [] = codes "none\n"
+printed (d ∷ ds) = flat_map (λ octets. pairs_of octets ++ 10 ∷ []) (d ∷ ds)
+
+-- the text spells a datagram, and what the device says to it is printed
+pub record PrintsAnswer {A : Type 0} (table : PlainTable A) (text : List ℕ) (old new : Option (List ℕ)) : Type 0 where
+  pub datagram : List ℕ
+  pub said : List (List ℕ)
+  pub spelled : SpellsHex text datagram
+  pub responds : Responds datagram table said
+  pub appended : Appends old new (printed said)
