@@ -1,6 +1,6 @@
 //! `bacsite answer`: what the built-in device says to one datagram.
 
-ghost use Rattle.std.specs.Prelude.{◌≡◌, ◌≤◌, IfOk, OnOk, map, string_bytes};
+ghost use Rattle.std.specs.Prelude.{◌≡◌, ◌≤◌, IfOk, IfErr, OnOk, map, string_bytes};
 ghost use Rattle.std.specs.List.{join_with_byte};
 ghost use Rattle.bacsite.specs.Answer.{printed, PrintsAnswer};
 ghost use Rattle.std.specs.Io.KnownBytes.{Appends};
@@ -54,7 +54,8 @@ fn answer<A: Allocator + Copy, W: Write, E: Write>(
 
 /// What the built-in device says to a datagram, as it opens.
 fn said_to<A: Allocator + Copy>(alloc: A, datagram: &[u8]) -> Result<Items<Octets<A>, A>, Fault>
-    ensures { IfOk result (λ said. Responds datagram.now (builtin_table {A = A}) said) }
+    ensures responds { IfOk result (λ said. Responds datagram.now (builtin_table {A = A}) said) }
+    ensures memory { IfErr result (λ fault. fault ≡ Fault.Memory) }
 {
     let mut device = Builtin::new(alloc)?;
     respond(alloc, &mut device, FROM, datagram)
