@@ -14,21 +14,31 @@ mod program;
 mod service;
 
 use std::alloc::Global;
-use std::env;
+use std::io::Write;
 use std::process::ExitCode;
+use std::{env, io};
 
 fn main(rt: HostRuntime) -> ExitCode {
     let alloc: Global = rt.alloc();
     let mut out = rt.stdout();
     let mut err = rt.stderr();
-    let words: Vec<String> = match env::args(&rt) {
-        Ok(words) => match words.collect(alloc) {
-            Ok(words) => words,
-            Err(_) => return ExitCode::from(1),
-        },
-        Err(_) => return ExitCode::from(2),
-    };
-    ExitCode::from(program::run(alloc, words.as_slice(), &mut out, &mut err))
+    match words_of(&rt) {
+        Ok(words) => ExitCode::from(program::run(alloc, words.as_slice(), &mut out, &mut err)),
+        Err(error) if error.kind() == io::ErrorKind::OutOfMemory => {
+            let _ = writeln!(err, "bacsite: refused 1 Memory");
+            ExitCode::from(1)
+        }
+        Err(error) => {
+            let _ = writeln!(err, "bacsite: {error}");
+            ExitCode::from(2)
+        }
+    }
+}
+
+/// The words of the command line, the first of them being the program's name.
+fn words_of(rt: &HostRuntime) -> io::Result<Vec<String>> {
+    let words = env::args(rt)?.collect(rt.alloc())?;
+    Ok(words)
 }
 
 #[cfg(test)]
