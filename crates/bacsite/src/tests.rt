@@ -1,6 +1,7 @@
 use super::*;
 use crate::answer::answer_line;
 use crate::device::{Builtin, respond};
+use crate::hex_text::read_hex;
 use bvll::Bvll;
 use npdu::{Mac, View};
 use refusing::Refusing;
@@ -81,6 +82,18 @@ const ROWS: [(&str, &str); 17] = [
         "81 0A 00 1A 01 0C 00 01 06 7F 00 00 01 BA C2 02 65 00 0C 0C 01 40 00 01 19 55",
         "none\n",
     ),
+];
+
+/// Datagrams between clients, routers and devices, whose BVLL carries a whole NPDU.
+const CARRIED: [&str; 8] = [
+    "81 0A 00 16 01 24 00 02 01 05 FF 02 65 01 0C 0C 01 40 00 01 19 55",
+    "81 0A 00 1B 01 24 00 02 06 7F 00 00 01 BA C3 FF 02 65 00 0C 0C 01 40 00 01 19 55",
+    "81 0A 00 1A 01 0C 00 01 06 7F 00 00 01 BA C2 02 65 00 0C 0C 01 40 00 01 19 55",
+    "81 0B 00 09 01 80 01 00 02",
+    "81 0B 00 09 01 80 01 00 01",
+    "81 0B 00 09 01 80 00 00 09",
+    "81 0A 00 0A 01 80 03 01 00 09",
+    "81 0B 00 0C 01 20 FF FF 00 FF 10 08",
 ];
 
 /// Words as a command line has them.
@@ -254,4 +267,32 @@ fn refuses_headers_by_their_first_fault(rt: HostRuntime) {
             Err(Fault::BadVersion)
         )
     );
+}
+
+#[test]
+fn writes_again_what_it_reads(rt: HostRuntime) -> Result<(), Fail> {
+    for text in CARRIED {
+        let words = words(&rt, text)?;
+        let octets = read_hex(rt.alloc(), words.as_slice())?.ok_or("digits")?;
+        let (carried, is_broadcast) = match Bvll::read(octets.as_slice())? {
+            Bvll::OriginalUnicastNpdu(npdu) => (npdu, false),
+            Bvll::OriginalBroadcastNpdu(npdu) => (npdu, true),
+            _ => return Err("another function".into()),
+        };
+        let mut npdu = Vec::new(rt.alloc());
+        let view = View::read(carried)?;
+        assert!(rt; view.is_sound(), "{text}");
+        npdu::write(&view, &mut npdu)?;
+        assert_eq!(rt; npdu.as_slice(), carried, "{text}");
+        let written = if is_broadcast {
+            Bvll::OriginalBroadcastNpdu(npdu.as_slice())
+        } else {
+            Bvll::OriginalUnicastNpdu(npdu.as_slice())
+        };
+        assert!(rt; written.whole_length().is_some(), "{text}");
+        let mut again = Vec::new(rt.alloc());
+        written.write(&mut again)?;
+        assert_eq!(rt; again.as_slice(), octets.as_slice(), "{text}");
+    }
+    Ok(())
 }
