@@ -1,6 +1,6 @@
 -- Spaces and pairs of digits, one after another.
-use Rattle.std.proofs.Common.{◌≡◌, ℕ, zero, suc, List, [], ◌∷◌, ◌++◌, length, replicate, refl, ap, sym, ◌∙◌, append_assoc}
-use Rattle.bacsite.specs.HexText.{IsPair, TakesPair, HasSpacesBefore, SpellsHex}
+use Rattle.std.proofs.Common.{◌≡◌, ℕ, zero, suc, List, ◌∷◌, ◌++◌, replicate, refl, ap, ◌∙◌}
+use Rattle.bacsite.specs.HexText.{HasSpacesBefore}
 
 one_more : (spaces : ℕ) (after : List ℕ) → replicate spaces 32 ++ (32 ∷ after) ≡ replicate (suc spaces) 32 ++ after
 one_more zero after = refl

@@ -2,7 +2,7 @@
 use Rattle.std.proofs.Common.{◌≡◌, ℕ, ◌<◌, List, [], length, Option, Some, None, refl, sym, ap, subst, ◌∙◌, arith}
 use Rattle.std.specs.Prelude.{IfSome, IfNone}
 use Rattle.tags.specs.declared.object_id.ObjectId.{ObjectId}
-use Rattle.tags.specs.Tag.{PlainTag, contents, TakesTag, OnlyTag, NoTag}
+use Rattle.tags.specs.Tag.{PlainTag, contents, OnlyTag, NoTag}
 use Rattle.tags.specs.Element.{context}
 use Rattle.tags.specs.Number.{SpellsObject, SpellsUnsigned}
 use Rattle.bacsite.specs.ReadProperty.{OnlyObject, NoObject, TakesNumber, OnlyNumber, NoNumber, OnlyContents, NoContents, HasNoContents, SpellsIndex, OnlyIndex, NoIndex, SpellsBody, OnlyBody, NoBody}

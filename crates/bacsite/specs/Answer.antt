@@ -1,6 +1,5 @@
 -- What `bacsite answer` prints.
-use Rattle.std.specs.Prelude.{◌≡◌, ℕ, List, [], ◌∷◌, ◌++◌, Option, map, string_bytes, codes, flat_map}
-use Rattle.std.specs.List.{join_with_byte}
+use Rattle.std.specs.Prelude.{ℕ, List, [], ◌∷◌, ◌++◌, Option, codes, flat_map}
 use Rattle.std.specs.Io.KnownBytes.{Appends}
 use Rattle.objects.specs.Machine.{PlainTable}
 use Rattle.bacsite.specs.HexText.{SpellsHex, pairs_of}

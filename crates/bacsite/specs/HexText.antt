@@ -18,7 +18,7 @@ pub record HasSpacesBefore (text rest : List ℕ) : Type 0 where
   pub spaces : ℕ
   pub parts : text ≡ replicate spaces 32 ++ rest
 
--- a text is pairs of digits, with any number of spaces between one and the next
+-- a text is a pair of digits, any number of spaces, and a text of the others
 pub record ThenPairs (text : List ℕ) (octet : ℕ) (Rest : List ℕ → Type 0) : Type 0 where
   pub pair : List ℕ
   pub spaces : ℕ
@@ -27,6 +27,7 @@ pub record ThenPairs (text : List ℕ) (octet : ℕ) (Rest : List ℕ → Type 0
   pub parts : text ≡ pair ++ (replicate spaces 32 ++ rest)
   pub others : Rest rest
 
+-- a text spells octets, one at least: a pair of digits for each, with spaces between them alone
 abbrev pub SpellsHex : List ℕ → List ℕ → Type 0
 SpellsHex text [] = ⊥
 SpellsHex text (o ∷ []) = IsPair text o

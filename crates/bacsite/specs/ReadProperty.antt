@@ -38,11 +38,12 @@ pub record SpellsReadProperty (body : List ℕ) (object : ObjectId) (property : 
   pub property_taken : TakesNumber at_property 1 property at_index
   pub index_is : SpellsIndex at_index index
 
+-- the parameters of a request (21)
 abbrev pub SpellsBody : List ℕ → Request → Type 0
 SpellsBody body (Read object property index) = SpellsReadProperty body object property index
 
 -- an unsegmented Confirmed-Request of service 12 under this invoke ID (20.1.2): type 0 in the high
--- nibble and no SEG bit, the largest answer, the invoke ID, the service, its parameters
+-- nibble and no SEG bit, the octet of the sizes that are accepted, the invoke ID, the service, its parameters
 pub record SpellsRead (apdu : List ℕ) (invoke_id : ℕ) (request : Request) : Type 0 where
   pub flags : ℕ
   pub sizes : ℕ
@@ -51,7 +52,7 @@ pub record SpellsRead (apdu : List ℕ) (invoke_id : ℕ) (request : Request) : 
   pub whole : flags < 8
   pub asked : SpellsBody body request
 
--- what is taken is the only thing that stands there
+-- what is taken is the only thing of its kind that stands there, for each part of a request
 pub record OnlyContents (octets : List ℕ) (number : ℕ) (inner rest : List ℕ) : Type 0 where
   pub only : (other after : List ℕ) → TakesTag octets (context number (contents other)) after → (inner ≡ other) × (rest ≡ after)
 
@@ -74,7 +75,7 @@ pub record OnlyRead (apdu : List ℕ) (invoke_id : ℕ) (request : Request) : Ty
 pub record HasNoContents (t : PlainTag) (number : ℕ) : Type 0 where
   pub none : (inner : List ℕ) → t ≡ context number (contents inner) → ⊥
 
--- nothing of the kind stands there
+-- nothing of the kind stands there, for each part of a request
 pub record NoContents (octets : List ℕ) (number : ℕ) : Type 0 where
   pub none : (inner rest : List ℕ) → TakesTag octets (context number (contents inner)) rest → ⊥
 
@@ -98,6 +99,7 @@ pub record NoRead (apdu : List ℕ) : Type 0 where
 abbrev pub IsSoundRequest : Request → Type 0
 IsSoundRequest (Read object property index) = IsSoundObject object.object_type object.instance
 
+-- an array index as it is repeated, where one was asked (15.5.1)
 abbrev pub index_octets : Option ℕ → List ℕ
 index_octets None = []
 index_octets (Some n) = tagged Context 2 (unsigned_octets n)

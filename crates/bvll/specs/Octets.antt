@@ -1,5 +1,5 @@
 -- Octets, and the number in two of them, with its laws.
-use Rattle.std.proofs.Common.{◌≡◌, ℕ, ◌+◌, ◌<◌, ◌≤◌, ◌^◌, List, [], ◌∷◌, ◌++◌, length, drop, take, get_or, refl, arith}
+use Rattle.std.proofs.Common.{◌≡◌, ℕ, ◌+◌, ◌<◌, ◌≤◌, ◌^◌, List, [], ◌∷◌, length, drop, take, get_or, refl, arith}
 use Rattle.std.proofs.lemmas.List.{get_or-drop}
 use Rattle.byteorder.specs.Endian.{big_bytes, big_number}
 
@@ -21,8 +21,3 @@ two_octets (a ∷ b ∷ rest) fits le = cell _ _ _ _ (omega (arith, fits 0, fits
 
 pub two_octets-lt : (octets : List ℕ) → IsBytes octets → big_number 2 octets < 2 ^ 16
 two_octets-lt octets fits = omega (arith, fits 0, fits 1)
-
--- the list has grown at its end, or not at all
-pub record Extends (old new : List ℕ) : Type 0 where
-  pub more : List ℕ
-  pub grown : new ≡ old ++ more

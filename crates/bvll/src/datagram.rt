@@ -49,7 +49,7 @@ impl<'a> Bvll<'a> {
     ghost use Rattle.byteorder.specs.Endian.{big_bytes};
     ghost use Rattle.bvll.specs.Address.{TakesAddress};
     ghost use Rattle.bvll.specs.Datagram.{canonical, contents, datagram_of, function, header, whole_length, HasFields, HasNamedCode, Spells, OnlyDatagram, NoDatagram};
-    ghost use Rattle.bvll.specs.Octets.{Extends};
+    ghost use Rattle.tags.specs.Canonical.{Extends};
     ghost use Rattle.bvll.specs.Refusal.{HasContents, IsLength, Refuses};
 
     /// The datagram that the octets spell, all of them. Takes no memory.

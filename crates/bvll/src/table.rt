@@ -23,7 +23,7 @@ pub struct Iter<'a, E> {
 impl<'a, E: Entry> Table<'a, E> {
     ghost use Rattle.bvll.specs.Table.{entries_at, entries_of, rest_of, SpellsTable};
     ghost use Rattle.std.specs.List.{AllByRecursion};
-    ghost use Rattle.bvll.specs.Octets.{Extends};
+    ghost use Rattle.tags.specs.Canonical.{Extends};
 
     /// The table that the octets spell, all of them. Takes no memory.
     ///

@@ -5,4 +5,3 @@ pub mod Mac
 pub mod Message
 pub mod Priority
 pub mod Refusals
-pub mod Writing

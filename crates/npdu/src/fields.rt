@@ -5,7 +5,7 @@ ghost use Rattle.byteorder.specs.Endian.{big_bytes};
 ghost use Rattle.npdu.specs.Message.{IsMessage, message_type, type_octets};
 ghost use Rattle.npdu.specs.Header.{IsDestination, IsSource, dnet_octets, destination_of, source_of, snet_octets, hop_octets, message_octets};
 ghost use Rattle.npdu.specs.Fields.{Takes, Only, Lacks, Begins, IsNet, IsMac, IsAddress, address_octets, place_of, place_octets, IsPlaceIf, IsSourceIf, IsDestinationAt, IsMessageIf};
-ghost use Rattle.npdu.specs.Writing.{Extends};
+ghost use Rattle.tags.specs.Canonical.{Extends};
 ghost use Rattle.npdu.specs.Refusals.{RefusesPlace, RefusesSource};
 
 use crate::message::Message;

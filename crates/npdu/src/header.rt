@@ -4,7 +4,7 @@ ghost use Rattle.std.specs.Prelude.{◌≡◌, ◌==◌, ◌/◌, ◌%◌, ◌++
 ghost use Rattle.npdu.specs.Fields.{SpellsFields, NoFields};
 ghost use Rattle.npdu.specs.Header.{IsSound, Spells, OnlyHeader, NoHeader, header_of, control_of, canonical};
 ghost use Rattle.npdu.specs.Priority.{priority_number};
-ghost use Rattle.npdu.specs.Writing.{Extends};
+ghost use Rattle.tags.specs.Canonical.{Extends};
 ghost use Rattle.npdu.specs.Refusals.{Refuses, RefusesFields};
 
 use crate::fields::{

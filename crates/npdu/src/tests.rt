@@ -1,5 +1,6 @@
 use super::*;
 use refusing::Refusing;
+use std::process::Abort;
 use std::test::*;
 use tags::{Fault, Items};
 
@@ -33,21 +34,45 @@ fn from<'a>(net: u16, mac: &'a [u8]) -> Option<Source<'a>> {
     Some(Source { net, mac })
 }
 
-const READ_PROPERTY: [u8; 11] = [
+/// Requests for Present_Value of Binary Value 1 under the invoke IDs 1 and 0.
+const READ_1: [u8; 11] = [
     0x02, 0x65, 0x01, 0x0C, 0x0C, 0x01, 0x40, 0x00, 0x01, 0x19, 0x55,
 ];
 
-/// Headers between a client on BACnet/IP, routers and an MS/TP device, behind the four octets of BVLL.
+const READ_0: [u8; 11] = [
+    0x02, 0x65, 0x00, 0x0C, 0x0C, 0x01, 0x40, 0x00, 0x01, 0x19, 0x55,
+];
+
+/// The stations at 127.0.0.1:47810 and :47811.
+const CLIENT: [u8; 6] = [127, 0, 0, 1, 0xBA, 0xC2];
+
+const DEVICE: [u8; 6] = [127, 0, 0, 1, 0xBA, 0xC3];
+
+/// Octets are read as the view, and the view is written as the octets.
+fn assert_spells(
+    rt: &(impl Abort + AllocGlobal),
+    octets: &[u8],
+    expected: View<'_>,
+) -> Result<(), Fail> {
+    let view = View::read(octets)?;
+    assert_eq!(rt; view, expected);
+    assert!(rt; view.is_sound());
+    let mut out = Vec::new(rt.alloc());
+    write(&view, &mut out)?;
+    assert_eq!(rt; out.as_slice(), octets);
+    Ok(())
+}
+
+/// Requests between a client on BACnet/IP, a router and an MS/TP device, and a global Who-Is.
 #[test]
-fn headers_are_read_and_written(rt: HostRuntime) -> Result<(), Fail> {
-    let rows: [(&[u8], View<'_>); 11] = [
+fn application_messages_are_read_and_written(rt: HostRuntime) -> Result<(), Fail> {
+    let rows: [(&[u8], View<'_>); 5] = [
         (
-            // a ReadProperty to node 5 of network 2
             &[
                 0x01, 0x24, 0x00, 0x02, 0x01, 0x05, 0xFF, 0x02, 0x65, 0x01, 0x0C, 0x0C, 0x01, 0x40,
                 0x00, 0x01, 0x19, 0x55,
             ],
-            header(true, to(Dnet::Network(2), &[5]), None, None, &READ_PROPERTY),
+            header(true, to(Dnet::Network(2), &[5]), None, None, &READ_1),
         ),
         (
             // the same as the router passes it on
@@ -55,123 +80,78 @@ fn headers_are_read_and_written(rt: HostRuntime) -> Result<(), Fail> {
                 0x01, 0x0C, 0x00, 0x01, 0x06, 0x7F, 0x00, 0x00, 0x01, 0xBA, 0xC2, 0x02, 0x65, 0x01,
                 0x0C, 0x0C, 0x01, 0x40, 0x00, 0x01, 0x19, 0x55,
             ],
-            header(
-                true,
-                None,
-                from(1, &[127, 0, 0, 1, 0xBA, 0xC2]),
-                None,
-                &READ_PROPERTY,
-            ),
+            header(true, None, from(1, &CLIENT), None, &READ_1),
         ),
         (
-            // a ReadProperty to a station of six octets
             &[
                 0x01, 0x24, 0x00, 0x02, 0x06, 0x7F, 0x00, 0x00, 0x01, 0xBA, 0xC3, 0xFF, 0x02, 0x65,
                 0x00, 0x0C, 0x0C, 0x01, 0x40, 0x00, 0x01, 0x19, 0x55,
             ],
-            header(
-                true,
-                to(Dnet::Network(2), &[127, 0, 0, 1, 0xBA, 0xC3]),
-                None,
-                None,
-                &[
-                    0x02, 0x65, 0x00, 0x0C, 0x0C, 0x01, 0x40, 0x00, 0x01, 0x19, 0x55,
-                ],
-            ),
+            header(true, to(Dnet::Network(2), &DEVICE), None, None, &READ_0),
         ),
         (
             &[
                 0x01, 0x0C, 0x00, 0x01, 0x06, 0x7F, 0x00, 0x00, 0x01, 0xBA, 0xC2, 0x02, 0x65, 0x00,
                 0x0C, 0x0C, 0x01, 0x40, 0x00, 0x01, 0x19, 0x55,
             ],
-            header(
-                true,
-                None,
-                from(1, &[127, 0, 0, 1, 0xBA, 0xC2]),
-                None,
-                &[
-                    0x02, 0x65, 0x00, 0x0C, 0x0C, 0x01, 0x40, 0x00, 0x01, 0x19, 0x55,
-                ],
-            ),
+            header(true, None, from(1, &CLIENT), None, &READ_0),
         ),
         (
-            // what a router says of its networks
-            &[0x01, 0x80, 0x01, 0x00, 0x02],
-            header(
-                false,
-                None,
-                None,
-                Some(Message::IAmRouterToNetwork),
-                &[0, 2],
-            ),
-        ),
-        (
-            &[0x01, 0x80, 0x01, 0x00, 0x01],
-            header(
-                false,
-                None,
-                None,
-                Some(Message::IAmRouterToNetwork),
-                &[0, 1],
-            ),
-        ),
-        (
-            // who has a route to network 9, and the refusal
-            &[0x01, 0x80, 0x00, 0x00, 0x09],
-            header(
-                false,
-                None,
-                None,
-                Some(Message::WhoIsRouterToNetwork),
-                &[0, 9],
-            ),
-        ),
-        (
-            &[0x01, 0x80, 0x03, 0x01, 0x00, 0x09],
-            header(
-                false,
-                None,
-                None,
-                Some(Message::RejectMessageToNetwork),
-                &[1, 0, 9],
-            ),
-        ),
-        (
-            // a global Who-Is
             &[0x01, 0x20, 0xFF, 0xFF, 0x00, 0xFF, 0x10, 0x08],
             header(false, to(Dnet::Global, &[]), None, None, &[0x10, 0x08]),
         ),
-        (
-            // a vendor's own message with life safety priority, and another of the standard's types
-            &[0x01, 0x83, 0x80, 0x01, 0x04, 0xAA],
-            View {
-                priority: Priority::LifeSafety,
-                ..header(
-                    false,
-                    None,
-                    None,
-                    Some(Message::Proprietary {
-                        kind: 0x80,
-                        vendor: 0x0104,
-                    }),
-                    &[0xAA],
-                )
-            },
-        ),
-        (
-            &[0x01, 0x80, 0x7F],
-            header(false, None, None, Some(Message::Other(0x7F)), &[]),
-        ),
     ];
     for (octets, expected) in &rows {
-        let view = View::read(octets)?;
-        assert_eq!(rt; view, *expected);
-        assert!(rt; view.is_sound());
-        let mut out = Vec::new(rt.alloc());
-        write(&view, &mut out)?;
-        assert_eq!(rt; out.as_slice(), *octets);
+        assert_spells(&rt, octets, *expected)?;
     }
     Ok(())
+}
+
+/// What routers say to each other, and messages that this product doesn't know.
+#[test]
+fn network_messages_are_read_and_written(rt: HostRuntime) -> Result<(), Fail> {
+    let vendors = Message::Proprietary {
+        kind: 0x80,
+        vendor: 0x0104,
+    };
+    let rows: [(&[u8], Message, &[u8]); 6] = [
+        (
+            &[0x01, 0x80, 0x01, 0x00, 0x02],
+            Message::IAmRouterToNetwork,
+            &[0, 2],
+        ),
+        (
+            &[0x01, 0x80, 0x01, 0x00, 0x01],
+            Message::IAmRouterToNetwork,
+            &[0, 1],
+        ),
+        (
+            &[0x01, 0x80, 0x00, 0x00, 0x09],
+            Message::WhoIsRouterToNetwork,
+            &[0, 9],
+        ),
+        (
+            &[0x01, 0x80, 0x03, 0x01, 0x00, 0x09],
+            Message::RejectMessageToNetwork,
+            &[1, 0, 9],
+        ),
+        (&[0x01, 0x80, 0x80, 0x01, 0x04, 0xAA], vendors, &[0xAA]),
+        (&[0x01, 0x80, 0x7F], Message::Other(0x7F), &[]),
+    ];
+    for (octets, message, body) in &rows {
+        let expected = header(false, None, None, Some(*message), body);
+        assert_spells(&rt, octets, expected)?;
+    }
+    Ok(())
+}
+
+#[test]
+fn a_priority_is_read_and_written(rt: HostRuntime) -> Result<(), Fail> {
+    let expected = View {
+        priority: Priority::LifeSafety,
+        ..header(false, None, None, None, &[0x10, 0x08])
+    };
+    assert_spells(&rt, &[0x01, 0x03, 0x10, 0x08], expected)
 }
 
 /// Control bits 6 and 4 are not looked at, and written as 0.

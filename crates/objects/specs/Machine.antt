@@ -1,5 +1,5 @@
 -- The object machine: what a device answers to the reading of a property (15.5).
-use Rattle.std.specs.Prelude.{◌≡◌, ℕ, ◌<◌, ◌&&◌, Bool, true, false, List, [], ◌∷◌, map, Option, Some, None, ◌==◌, if◌then◌else◌, ◌⊎◌}
+use Rattle.std.specs.Prelude.{◌≡◌, ℕ, ◌<◌, ◌&&◌, Bool, List, [], ◌∷◌, map, Option, Some, None, ◌==◌, if◌then◌else◌}
 use Rattle.tags.specs.declared.object_id.ObjectId.{ObjectId}
 use Rattle.tags.specs.declared.value.Value.{Value}
 use Rattle.tags.specs.declared.value.Value.TheVariants as value
@@ -53,12 +53,13 @@ abbrev pub value_of : {A : Type 0} → List (PropertyValue A) → ℕ → Option
 value_of [] property = None
 value_of (p ∷ ps) property = if property == p.property then Some p.value else value_of ps property
 
--- a property that is no array, with or without an index
+-- reading a property that is no array, with or without an index (15.5.2)
 abbrev pub read_value_of : {A : Type 0} → Option (Value A) → Option ℕ → Reply A
 read_value_of None index = Error class.Property code.UnknownProperty
 read_value_of (Some v) (Some i) = Error class.Property code.PropertyIsNotAnArray
 read_value_of (Some v) None = Values (v ∷ [])
 
+-- reading an object that is there or not (15.5.2)
 abbrev pub read_properties : {A : Type 0} → Option (List (PropertyValue A)) → ℕ → Option ℕ → Reply A
 read_properties None property index = Error class.Object code.UnknownObject
 read_properties (Some properties) property index = read_value_of (value_of properties property) index

@@ -1,5 +1,5 @@
 -- Which objects a site may give a device (12.1.1).
-use Rattle.std.specs.Prelude.{ℕ, ◌<◌, ◌≡◌, List, [], ◌∷◌, Any}
+use Rattle.std.specs.Prelude.{◌<◌, ◌≡◌, List, [], ◌∷◌, Any}
 use Rattle.objects.specs.declared.object.BinaryValue.{BinaryValue}
 
 -- each instance is below 4194303, and no two objects have the same

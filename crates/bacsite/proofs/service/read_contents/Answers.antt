@@ -1,4 +1,3 @@
-use Rattle.std.proofs.Common.{Bor, List, ℕ}
 use Rattle.tags.specs.Tag.{plain_tag, OnlyTag}
 use Rattle.bacsite.proofs.ReadLaws.{only_contents, no_contents_of_other, where_some, where_none}
 use Rattle.bacsite.proofs.service.read_contents.Goals as goal
