@@ -1,21 +1,17 @@
--- Each answer is short, so that its datagram's length fits two octets.
-use Rattle.std.proofs.Common.{◌≡◌, ℕ, ◌+◌, ◌<◌, ◌≤◌, List, [], ◌∷◌, ◌++◌, length, Option, Some, None, refl, sym, subst, arith, inl, inr}
+-- The device's I-Am is short, so that its datagram's length fits two octets.
+use Rattle.std.proofs.Common.{◌≡◌, ℕ, ◌<◌, ◌≤◌, List, ◌++◌, length, refl, arith, inl, inr}
 use Rattle.std.proofs.lemmas.Bool.{cases_lt, lt-ltb, le-ltb}
 use Rattle.std.proofs.lemmas.List.{length-append}
 use Rattle.byteorder.specs.Numbers.{length-bytes_high_first}
 use Rattle.tags.specs.declared.tag.Class.{Class}
-use Rattle.tags.specs.declared.tag.Class.TheVariants.{Application, Context}
-use Rattle.tags.specs.declared.value.Value.{Value}
-use Rattle.tags.specs.declared.value.Value.TheVariants as value
+use Rattle.tags.specs.declared.tag.Class.TheVariants.{Application}
 use Rattle.tags.specs.Number.{width, unsigned_octets, object_octets}
 use Rattle.tags.specs.Canonical.{shortest, tag_front, tagged}
-use Rattle.objects.specs.declared.plain_data.Request.{Request}
-use Rattle.objects.specs.declared.plain_data.Request.TheVariants.{Read}
-use Rattle.objects.specs.declared.plain_data.Reply.{Reply}
-use Rattle.objects.specs.declared.plain_data.Reply.TheVariants.{Values, Error}
-use Rattle.objects.specs.Machine.{IsSoundReply}
-use Rattle.objects.specs.Numbers.{class_number, code_number}
-use Rattle.bacsite.specs.ReadProperty.{index_octets, asked_octets, value_octets, answer_apdu}
+use Rattle.services.specs.Apdu.{unconfirmed}
+use Rattle.services.specs.ApduWriting as application
+use Rattle.services.specs.Unconfirmed.{i_am_octets, segmentation_number}
+use Rattle.services.specs.declared.unconfirmed.IAm.{IAm}
+use Rattle.bacsite.specs.Builtin.{builtin_i_am}
 
 width-le : (n : ℕ) → width n ≤ 4
 unfolding width
@@ -43,32 +39,25 @@ length-tagged class number octets small short =
 length-unsigned : (class : Class) (number n : ℕ) → number < 15 → length (tagged class number (unsigned_octets n)) ≤ 5
 length-unsigned class number n small = length-tagged class number (unsigned_octets n) small (omega (arith, length-bytes_high_first (width n) n, width-le n))
 
-length-index : (index : Option ℕ) → length (index_octets index) ≤ 5
-length-index None = omega arith
-length-index (Some n) = length-unsigned Context 2 n (omega arith)
+length-i_am : (i : IAm) → length (i_am_octets i) ≤ 20
+length-i_am i =
+    let a = tagged Application 12 (object_octets 8 i.instance) in
+    let b = tagged Application 2 (unsigned_octets i.max_apdu) in
+    let c = tagged Application 9 (unsigned_octets (segmentation_number i.segmentation)) in
+    let d = tagged Application 2 (unsigned_octets i.vendor) in
+    omega (
+      arith,
+      length-tagged Application 12 (object_octets 8 i.instance) (omega arith) (omega arith),
+      length-unsigned Application 2 i.max_apdu (omega arith),
+      length-unsigned Application 9 (segmentation_number i.segmentation) (omega arith),
+      length-unsigned Application 2 i.vendor (omega arith),
+      length-append a (b ++ (c ++ d)),
+      length-append b (c ++ d),
+      length-append c d,
+    )
 
-length-asked : (request : Request) → length (asked_octets request) ≤ 15
-length-asked (Read object property index) =
-    let a = length-tagged Context 0 (object_octets object.object_type object.instance) (omega arith) (omega arith) in
-    let b = length-unsigned Context 1 property (omega arith) in
-    let c = length-index index in
-    let x = tagged Context 0 (object_octets object.object_type object.instance) in
-    let y = tagged Context 1 (unsigned_octets property) in
-    omega (arith, a, b, c, length-append (x ++ y) (index_octets index), length-append x y)
+-- the I-Am is short
+pub i_am_short : length (application.canonical (unconfirmed 0 (i_am_octets builtin_i_am))) ≤ 1476
+i_am_short = omega (arith, length-i_am builtin_i_am)
 
-length-values : (A : Type 0) (n : ℕ) → length (value_octets {A = A} (value.Enum n ∷ [])) ≤ 7
-length-values A n =
-    let v = tagged Application 9 (unsigned_octets n) in
-    omega (arith, length-unsigned Application 9 n (omega arith), length-append (62 ∷ (v ++ [])) (63 ∷ []), length-append v [])
-
--- an answer fits the smallest of APDUs
-pub length-answer : {A : Type 0} (invoke_id : ℕ) (request : Request) (answer : Reply A) → IsSoundReply answer → length (answer_apdu invoke_id request answer) ≤ 50
-length-answer {A} invoke_id request (Values values) sound =
-    let short : length (value_octets values) ≤ 7 = subst (λ (vs : List (Value A)). length (value_octets vs) ≤ 7) (sym sound.is) (length-values A sound.number) in
-    omega (arith, short, length-asked request, length-append (asked_octets request) (value_octets values))
-length-answer invoke_id request (Error c e) sound =
-    let x = tagged Application 9 (unsigned_octets (class_number c)) in
-    let y = tagged Application 9 (unsigned_octets (code_number e)) in
-    omega (arith, length-unsigned Application 9 (class_number c) (omega arith), length-unsigned Application 9 (code_number e) (omega arith), length-append x y)
-
-pub ruleset length_laws = (length-answer, length-append)
+pub ruleset i_am_rules = (i_am_short)

@@ -1,4 +1,7 @@
-pub mod ReadLaws
-pub mod AskLaws
-pub mod Lengths
 pub mod HexLaws
+pub mod HearLaws
+pub mod SizeLaws
+pub mod Lengths
+pub mod SiteLaws
+pub mod AnswerLaws
+pub mod ExplainLaws

@@ -1,7 +1,9 @@
 -- What `bacsite answer` prints.
 use Rattle.std.specs.Prelude.{ℕ, List, [], ◌∷◌, ◌++◌, Option, codes, flat_map}
 use Rattle.std.specs.Io.KnownBytes.{Appends}
-use Rattle.objects.specs.Machine.{PlainTable}
+use Rattle.npdu.specs.declared.mac.Mac.{Mac}
+use Rattle.npdu.specs.declared.mac.Mac.TheVariants.{Six}
+use Rattle.objects.specs.Objects.{PlainTable}
 use Rattle.bacsite.specs.HexText.{SpellsHex, pairs_of}
 use Rattle.bacsite.specs.Respond.{Responds}
 
@@ -10,10 +12,19 @@ abbrev pub printed : List (List ℕ) → List ℕ
 printed [] = codes "none\n"
 printed (d ∷ ds) = flat_map (λ octets. pairs_of octets ++ 10 ∷ []) (d ∷ ds)
 
+-- the link address that the datagram comes from: 127.0.0.1:47809
+abbrev pub sender : Mac
+sender = Six (127 ∷ 0 ∷ 0 ∷ 1 ∷ 186 ∷ 193 ∷ [])
+
+-- the device responds to a datagram from there, and leaves some objects
+pub record SomeResponse {A : Type 0} (datagram : List ℕ) (table : PlainTable A) (said : List (List ℕ)) : Type 0 where
+  pub left : PlainTable A
+  pub responds : Responds sender datagram table left said
+
 -- the text spells a datagram, and what the device says to it is printed
 pub record PrintsAnswer {A : Type 0} (table : PlainTable A) (text : List ℕ) (old new : Option (List ℕ)) : Type 0 where
   pub datagram : List ℕ
   pub said : List (List ℕ)
   pub spelled : SpellsHex text datagram
-  pub responds : Responds datagram table said
+  pub response : SomeResponse datagram table said
   pub appended : Appends old new (printed said)

@@ -1,4 +1,7 @@
-pub mod ReadProperty
+pub mod Builtin
+pub mod Hearing
+pub mod Heard
 pub mod Respond
 pub mod HexText
 pub mod Answer
+pub mod Explain

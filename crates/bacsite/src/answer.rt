@@ -2,9 +2,10 @@
 
 ghost use Rattle.std.specs.Prelude.{◌≡◌, ◌≤◌, IfOk, IfErr, OnOk, map, string_bytes};
 ghost use Rattle.std.specs.List.{join_with_byte};
-ghost use Rattle.bacsite.specs.Answer.{printed, PrintsAnswer};
+ghost use Rattle.bacsite.specs.Answer.{printed, sender, PrintsAnswer, SomeResponse};
 ghost use Rattle.std.specs.Io.KnownBytes.{Appends};
-ghost use Rattle.bacsite.specs.Respond.{Responds, builtin_table};
+ghost use Rattle.bacsite.specs.Builtin.{builtin_table};
+ghost use Rattle.bacsite.specs.Respond.{Responds};
 
 use crate::device::{Builtin, respond};
 use crate::hex_text::{push_pairs, read_hex};
@@ -54,11 +55,12 @@ fn answer<A: Allocator + Copy, W: Write, E: Write>(
 
 /// What the built-in device says to a datagram, as it opens.
 fn said_to<A: Allocator + Copy>(alloc: A, datagram: &[u8]) -> Result<Items<Octets<A>, A>, Fault>
-    ensures responds { IfOk result (λ said. Responds datagram.now (builtin_table {A = A}) said) }
+    ensures responds { IfOk result (λ said. SomeResponse datagram.now (builtin_table {A = A}) said) }
     ensures memory { IfErr result (λ fault. fault ≡ Fault.Memory) }
 {
     let mut device = Builtin::new(alloc)?;
-    respond(alloc, &mut device, FROM, datagram)
+    let said = respond(alloc, &mut device, FROM, datagram)?;
+    Ok(said)
 }
 
 /// Prints the datagrams that are said.

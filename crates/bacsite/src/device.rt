@@ -1,18 +1,32 @@
 //! The built-in device of `answer`, from octets to octets.
 
-ghost use Rattle.std.specs.Prelude.{◌≡◌, IfOk, IfErr, IfSome, IfNone};
-ghost use Rattle.objects.specs.Machine.{IsSoundReply};
-ghost use Rattle.bacsite.specs.ReadProperty.{IsSoundRequest};
-ghost use Rattle.npdu.specs.Header.{header_of};
-ghost use Rattle.bacsite.specs.Respond.{IsLocal, IsElsewhere, Asks, OnlyAsks, AsksNothing, answer_datagram, Responds};
+ghost use Rattle.std.specs.Prelude.{◌≡◌, ◌⊎◌, ◌∷◌, ◌<◌, ◌^◌, [], None, ◌≤◌, IfOk, IfErr, IfSome, IsTrue, IsFalse, OnErr, option_map, length};
+ghost use Rattle.npdu.specs.Header.{destination_of, source_of, IsDestination, IsSource};
+ghost use Rattle.npdu.specs.Mac.{mac_octets};
+ghost use Rattle.objects.specs.Answers.{IsAnswerTo};
+ghost use Rattle.objects.specs.Sound.{IsSoundReply, IsSoundRequest};
+ghost use Rattle.services.specs.Apdu.{apdu_of, reject_pdu, HasNamedNumbers};
+ghost use Rattle.services.specs.Sizes.{apdu_code, IsNamedSize};
+ghost use Rattle.bacsite.specs.Builtin.{builtin_site};
+ghost use Rattle.bacsite.specs.Heard.{heard_of};
+ghost use Rattle.bacsite.specs.Hearing.{request_body};
+ghost use Rattle.bacsite.specs.Respond.{Responds, Says, Executes, Rejects, AsksWho, AsksOther, i_am_datagram, answer_datagram, answer_octets, answer_apdu};
+ghost use Rattle.services.specs.ApduWriting.{CanBeWritten, canonical};
+ghost use Rattle.services.specs.Numbers.{reject_number};
+ghost use Rattle.services.specs.CanonicalReply.{canonical_reply};
+ghost use Rattle.objects.specs.Machine.{reply};
 
-use crate::service::{Confirmed, read_request, write_answer};
-use bvll::Bvll;
-use npdu::{Mac, Priority, View};
-use objects::{BinaryPresentValue, BinaryValue, Reply, Table};
-use std::alloc::Allocator;
+use crate::hearing::{Heard, hear};
+use crate::saying::{answer_datagram, apdu_octets, global_datagram, way_back, whole_or_abort};
+use npdu::{Destination, Mac};
+use objects::{DataLink, Reply, Request, SiteObject, SiteObjects, Table, ValueKind};
+use services::{
+    Apdu, IAm, MaxApdu, ObjectPropertyReference, RejectReason, Segmentation, ServiceError,
+    UnconfirmedService, decode_request, encode_reply, service_of, who_is_from, write_i_am,
+};
+use std::alloc::{AllocError, Allocator};
 use std::marker::Model;
-use tags::{Fault, Items, Octets};
+use tags::{Fault, Items, Octets, Value};
 
 /// The built-in device: instance 99 on network 1 at 127.0.0.1:47808, with one Binary Value 1 whose
 /// Relinquish_Default is active.
@@ -22,114 +36,304 @@ pub struct Builtin<A: Allocator> {
 }
 
 impl<A: Allocator> Model for Builtin<A> {
-    ghost use Rattle.objects.specs.Machine.{PlainTable};
+    ghost use Rattle.objects.specs.Objects.{PlainTable};
 
     ghost Value = { PlainTable A };
 
     ghost view = { λ s. s.table };
 }
 
-/// The only object of the built-in device besides itself.
-const BINARY_VALUE_1: BinaryValue = BinaryValue {
-    instance: 1,
-    relinquish_default: BinaryPresentValue::Active,
+/// The instance of the built-in device.
+const INSTANCE: u32 = 99;
+
+/// What the built-in device says of itself.
+const I_AM: IAm = IAm {
+    instance: INSTANCE,
+    max_apdu: 1476,
+    segmentation: Segmentation::Both,
+    vendor: 0,
 };
 
 impl<A: Allocator + Copy> Builtin<A> {
-    ghost use Rattle.std.specs.Prelude.{◌≡◌, IfOk, IfErr};
-    ghost use Rattle.bacsite.specs.Respond.{builtin_table};
+    ghost use Rattle.std.specs.Prelude.{◌≡◌, IfOk, IfErr, OnOk, OnErr};
+    ghost use Rattle.objects.specs.Machine.{after};
+    ghost use Rattle.bacsite.specs.Builtin.{builtin_table};
 
     /// The device as it opens.
     ///
     /// # Errors
     /// `Memory` alone.
+    #[tactic(auto, using(crate::proofs::SiteLaws::site_rules))]
     pub fn new(alloc: A) -> Result<Self, Fault>
         ensures opened { IfOk result (λ device. device ≡ builtin_table) }
         ensures memory { IfErr result (λ fault. fault ≡ Fault.Memory) }
     {
         Ok(Builtin {
-            table: Table::new(alloc, &[BINARY_VALUE_1])?,
+            table: Table::new(alloc, builtin_site(alloc)?)?,
         })
+    }
+
+    /// Does what a request asks of the objects, after its reply was said.
+    fn execute(&mut self, request: &Request<A>) -> Result<(), AllocError>
+        ensures done { OnOk result (self.new ≡ after self.old request.now) }
+        ensures unchanged { OnErr result (self.new ≡ self.old) }
+    {
+        match request {
+            Request::Read { .. } | Request::ReadMany(_) => Ok(()),
+            Request::Write { .. } | Request::WriteMany(_) => {
+                self.table.apply(request)?;
+                Ok(())
+            }
+        }
     }
 }
 
-/// What the device says when it hears a datagram from a station: one datagram to that station, or
-/// none.
+/// The device as its site has it.
+fn builtin_site<A: Allocator + Copy>(alloc: A) -> Result<SiteObjects<A>, AllocError>
+    ensures { IfOk result (λ site. site ≡ builtin_site) }
+{
+    let mut objects = Items::new(alloc);
+    objects.push(SiteObject {
+        kind: ValueKind::Binary,
+        instance: 1,
+        name: Octets::from_slice(alloc, b"BV1")?,
+        default: Value::Enum(1),
+        description: Octets::new(alloc),
+    })?;
+    Ok(SiteObjects {
+        name: Octets::from_slice(alloc, b"device")?,
+        instance: INSTANCE,
+        vendor: 0,
+        data_link: DataLink::BacnetIp,
+        objects,
+    })
+}
+
+/// What the device says when it hears a datagram from a station: one datagram or none (5.4.5,
+/// 16.10.2).
 ///
 /// # Errors
-/// `Memory` alone. The device stays as it is.
+/// `Memory` alone. The device is then as it was.
 pub fn respond<A: Allocator + Copy>(
     alloc: A,
     device: &mut Builtin<A>,
-    _from: Mac,
+    from: Mac,
     datagram: &[u8],
 ) -> Result<Items<Octets<A>, A>, Fault>
-    ensures responds { IfOk result (λ said. Responds datagram.now device.old said) }
+    ensures responds { IfOk result (λ said. Responds from datagram.now device.old device.new said) }
     ensures memory { IfErr result (λ fault. fault ≡ Fault.Memory) }
-    ensures unchanged { device.new ≡ device.old }
+    ensures unchanged { OnErr result (device.new ≡ device.old) }
+{
+    let Some(heard) = hear(datagram) else {
+        return Ok(Items::new(alloc));
+    };
+    let way = way_back(from, heard.source);
+    say(alloc, device, way, heard.alone, heard.apdu)
+}
+
+/// What the device says to an APDU.
+fn say<'a, A: Allocator + Copy>(
+    alloc: A,
+    device: &mut Builtin<A>,
+    way: Option<Destination<'a>>,
+    alone: bool,
+    apdu: Apdu<'a>,
+) -> Result<Items<Octets<A>, A>, Fault>
+    requires way { IfSome (option_map destination_of way) IsDestination }
+    requires short { length (request_body (apdu_of apdu)) < 2 ^ 31 }
+    requires named { HasNamedNumbers apdu }
+    ensures says { IfOk result (λ said. Says device.old (option_map destination_of way.entry) alone (apdu_of apdu.entry) device.new said) }
+    ensures memory { IfErr result (λ fault. fault ≡ Fault.Memory) }
+    ensures unchanged { OnErr result (device.new ≡ device.old) }
+{
+    match apdu {
+        Apdu::ConfirmedRequest {
+            segment: None,
+            max_apdu,
+            invoke_id,
+            service,
+            data,
+            ..
+        } if alone => answer(alloc, device, way, max_apdu, invoke_id, service, data),
+        Apdu::UnconfirmedRequest { service, data } => say_who(alloc, service, data),
+        _ => Ok(Items::new(alloc)),
+    }
+}
+
+/// What the device answers to a whole confirmed request (5.4.5).
+#[tactic(auto, using(crate::proofs::AnswerLaws::request_rules))]
+fn answer<'a, A: Allocator + Copy>(
+    alloc: A,
+    device: &mut Builtin<A>,
+    way: Option<Destination<'a>>,
+    size: MaxApdu,
+    invoke_id: u8,
+    service: u8,
+    data: &'a [u8],
+) -> Result<Items<Octets<A>, A>, Fault>
+    requires way { IfSome (option_map destination_of way) IsDestination }
+    requires short { length data.now < 2 ^ 31 }
+    requires named { IsNamedSize size }
+    ensures answered { IfOk result (λ said. Executes device.old (option_map destination_of way.entry) (apdu_code size) invoke_id service data.now device.new said ⊎ Rejects device.old (option_map destination_of way.entry) invoke_id service data.now device.new said) }
+    ensures memory { IfErr result (λ fault. fault ≡ Fault.Memory) }
+    ensures unchanged { OnErr result (device.new ≡ device.old) }
+{
+    match decode_request(alloc, service, data)? {
+        Ok(request) => {
+            let octets = reply_octets(alloc, device, size, invoke_id, &request)?;
+            let said = one(alloc, answer_datagram(alloc, way, octets.as_slice())?)?;
+            device.execute(&request)?;
+            Ok(said)
+        }
+        Err(reason) => {
+            let said = reject(alloc, way, invoke_id, reason)?;
+            Ok(said)
+        }
+    }
+}
+
+/// The datagram that rejects a request.
+fn reject<'a, A: Allocator + Copy>(
+    alloc: A,
+    way: Option<Destination<'a>>,
+    invoke_id: u8,
+    reason: RejectReason,
+) -> Result<Items<Octets<A>, A>, Fault>
+    requires { IfSome (option_map destination_of way) IsDestination }
+    ensures said { IfOk result (λ said. said ≡ answer_datagram (option_map destination_of way.entry) (canonical (reject_pdu invoke_id (reject_number reason))) ∷ []) }
+    ensures memory { IfErr result (λ fault. fault ≡ Fault.Memory) }
+{
+    let octets = apdu_octets(alloc, &Apdu::Reject { invoke_id, reason })?;
+    let datagram = answer_datagram(alloc, way, octets.as_slice())?;
+    one(alloc, datagram)
+}
+
+/// The octets of the APDU that answers a request.
+fn reply_octets<A: Allocator + Copy>(
+    alloc: A,
+    device: &Builtin<A>,
+    size: MaxApdu,
+    invoke_id: u8,
+    request: &Request<A>,
+) -> Result<Octets<A>, Fault>
+    requires sound { IsSoundRequest request.now }
+    requires named { IsNamedSize size }
+    ensures octets { IfOk result (λ octets. octets ≡ answer_octets (apdu_code size) invoke_id request.now (reply device.now request.now)) }
+    ensures few { IfOk result (λ octets. length octets ≤ 1476) }
+    ensures memory { IfErr result (λ fault. fault ≡ Fault.Memory) }
+{
+    let reply = device.table.reply(request)?;
+    let mut body = Vec::new(alloc);
+    encode_reply(request, &reply, &mut body)?;
+    let apdu = answer_apdu(invoke_id, request, &reply, body.as_slice());
+    whole_or_abort(alloc, size, invoke_id, &apdu)
+}
+
+/// The APDU that answers a request with this reply.
+fn answer_apdu<'a, A: Allocator>(
+    invoke_id: u8,
+    request: &Request<A>,
+    reply: &Reply<A>,
+    body: &'a [u8],
+) -> Apdu<'a>
+    requires answers { IsAnswerTo request.now reply.now }
+    requires sound { IsSoundReply reply.now }
+    requires body { body.now ≡ canonical_reply request.now reply.now }
+    ensures apdu { apdu_of result ≡ answer_apdu invoke_id request.now reply.now }
+    ensures sound { CanBeWritten (apdu_of result) }
+{
+    let service = u8::from(service_of(request));
+    match reply {
+        Reply::Values(_) | Reply::Many(_) => Apdu::ComplexAck {
+            segment: None,
+            invoke_id,
+            service,
+            data: body,
+        },
+        Reply::Done => Apdu::SimpleAck { invoke_id, service },
+        Reply::Error(class, code) => Apdu::Error {
+            invoke_id,
+            service,
+            error: ServiceError {
+                class: *class,
+                code: *code,
+                first_failed: None,
+            },
+        },
+        Reply::ErrorAt {
+            class,
+            code,
+            object,
+            property,
+            index,
+        } => Apdu::Error {
+            invoke_id,
+            service,
+            error: ServiceError {
+                class: *class,
+                code: *code,
+                first_failed: Some(ObjectPropertyReference {
+                    object: *object,
+                    property: *property,
+                    index: *index,
+                }),
+            },
+        },
+    }
+}
+
+/// What the device says to an unconfirmed request: an I-Am where it is asked who it is.
+fn say_who<A: Allocator + Copy>(
+    alloc: A,
+    service: u8,
+    data: &[u8],
+) -> Result<Items<Octets<A>, A>, Fault>
+    ensures said { IfOk result (λ said. (AsksWho service data.now × (said ≡ i_am_datagram ∷ [])) ⊎ (AsksOther service data.now × (said ≡ []))) }
+    ensures memory { IfErr result (λ fault. fault ≡ Fault.Memory) }
+{
+    if asks_who(service, data) {
+        one(alloc, i_am(alloc)?)
+    } else {
+        Ok(Items::new(alloc))
+    }
+}
+
+/// Whether an unconfirmed request is a Who-Is for this device.
+fn asks_who(service: u8, data: &[u8]) -> bool
+    ensures asks { IsTrue result → AsksWho service data.now }
+    ensures other { IsFalse result → AsksOther service data.now }
+{
+    if service != u8::from(UnconfirmedService::WhoIs) {
+        return false;
+    }
+    match who_is_from(data) {
+        Some(who_is) => who_is.covers(INSTANCE),
+        None => false,
+    }
+}
+
+/// The datagram of the device's I-Am.
+#[tactic(auto, using(crate::proofs::Lengths::i_am_rules))]
+fn i_am<A: Allocator + Copy>(alloc: A) -> Result<Octets<A>, Fault>
+    ensures datagram { IfOk result (λ octets. octets ≡ i_am_datagram) }
+    ensures memory { IfErr result (λ fault. fault ≡ Fault.Memory) }
+{
+    let mut data = Vec::new(alloc);
+    write_i_am(&I_AM, &mut data)?;
+    let apdu = Apdu::UnconfirmedRequest {
+        service: u8::from(UnconfirmedService::IAm),
+        data: data.as_slice(),
+    };
+    let octets = apdu_octets(alloc, &apdu)?;
+    global_datagram(alloc, octets.as_slice())
+}
+
+/// A list of one datagram.
+fn one<A: Allocator + Copy>(alloc: A, octets: Octets<A>) -> Result<Items<Octets<A>, A>, Fault>
+    ensures list { IfOk result (λ said. said ≡ octets ∷ []) }
+    ensures memory { IfErr result (λ fault. fault ≡ Fault.Memory) }
 {
     let mut said = Items::new(alloc);
-    if let Some(asked) = read_datagram(datagram) {
-        let reply = device.table.reply(&asked.request)?;
-        said.push(write_datagram(alloc, &asked, &reply)?)?;
-    }
+    said.push(octets)?;
     Ok(said)
-}
-
-/// The request in a datagram to this device alone, from a station on its network.
-#[tactic(auto, using(crate::proofs::AskLaws::ask_laws))]
-fn read_datagram(datagram: &[u8]) -> Option<Confirmed>
-    ensures read { IfSome result (λ asked. Asks datagram.now asked.invoke_id asked.request) }
-    ensures only { IfSome result (λ asked. OnlyAsks datagram.now asked.invoke_id asked.request) }
-    ensures sound { IfSome result (λ asked. IsSoundRequest asked.request) }
-    ensures refused { IfNone result (AsksNothing datagram.now) }
-{
-    let Ok(Bvll::OriginalUnicastNpdu(npdu)) = Bvll::read(datagram) else {
-        return None;
-    };
-    let Ok(view) = View::read(npdu) else {
-        return None;
-    };
-    let apdu = local_apdu(view)?;
-    read_request(apdu)
-}
-
-/// The APDU behind a header without destination, source and network message.
-fn local_apdu<'a>(view: View<'a>) -> Option<&'a [u8]>
-    ensures read { IfSome result (λ apdu. IsLocal (header_of view.entry) apdu.now) }
-    ensures refused { IfNone result (IsElsewhere (header_of view.entry)) }
-{
-    if view.destination.is_some() || view.source.is_some() || view.message.is_some() {
-        return None;
-    }
-    Some(view.body)
-}
-
-/// The datagram that answers a request.
-#[tactic(auto, using(crate::proofs::Lengths::length_laws))]
-fn write_datagram<A: Allocator + Copy>(
-    alloc: A,
-    asked: &Confirmed,
-    reply: &Reply<A>,
-) -> Result<Octets<A>, Fault>
-    requires request_is_sound { IsSoundRequest asked.now.request }
-    requires reply_is_sound { IsSoundReply reply.now }
-    ensures written { IfOk result (λ octets. octets ≡ answer_datagram asked.now.invoke_id asked.now.request reply.now) }
-    ensures memory { IfErr result (λ fault. fault ≡ Fault.Memory) }
-{
-    let mut apdu = Vec::new(alloc);
-    write_answer(asked.invoke_id, &asked.request, reply, &mut apdu)?;
-    let view = View {
-        expects_reply: false,
-        priority: Priority::Normal,
-        destination: None,
-        source: None,
-        message: None,
-        body: apdu.as_slice(),
-    };
-    let mut npdu = Vec::new(alloc);
-    npdu::write(&view, &mut npdu)?;
-    let mut datagram = Vec::new(alloc);
-    Bvll::OriginalUnicastNpdu(npdu.as_slice()).write(&mut datagram)?;
-    Ok(Octets::from_vec(datagram))
 }

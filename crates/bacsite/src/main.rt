@@ -2,16 +2,18 @@
 //!
 //! - `order`, `program`: the command line and what is done for it.
 //! - `answer`, `hex_text`: one datagram as hexadecimal digits, and what is said to it.
-//! - `device`: the built-in device, from octets to octets.
-//! - `service`: ReadProperty requests and their answers.
+//! - `hearing`, `device`, `saying`: the built-in device, from octets to octets.
+//! - `explain`: one datagram taken apart.
 #![tactic(auto)]
 
 mod answer;
 mod device;
+mod explain;
+mod hearing;
 mod hex_text;
 mod order;
 mod program;
-mod service;
+mod saying;
 
 use std::alloc::Global;
 use std::io::Write;
@@ -41,5 +43,7 @@ fn words_of(rt: &HostRuntime) -> io::Result<Vec<String>> {
     Ok(words)
 }
 
+#[cfg(test)]
+mod explain_tests;
 #[cfg(test)]
 mod tests;

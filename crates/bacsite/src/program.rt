@@ -3,6 +3,7 @@
 ghost use Rattle.std.specs.Prelude.{◌≤◌, IfOk};
 
 use crate::answer::answer_line;
+use crate::explain::explain_line;
 use crate::order::{Order, order_of};
 use clap::Error;
 use clap::error::ErrorKind;
@@ -18,6 +19,7 @@ pub fn run<W: Write, E: Write>(alloc: Global, words: &[String], out: &mut W, err
 {
     match order_of(alloc, words) {
         Ok(Order::Answer(words)) => answer_line(alloc, words.as_slice(), out, err),
+        Ok(Order::Explain(words)) => explain_line(alloc, words.as_slice(), out, err),
         Err(error) => show(&error, out, err).unwrap_or(1),
     }
 }

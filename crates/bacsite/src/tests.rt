@@ -7,6 +7,7 @@ use npdu::{Mac, View};
 use refusing::Refusing;
 use std::io;
 use std::io::Write;
+use std::process::Abort;
 use std::test::*;
 use tags::Fault;
 
@@ -15,8 +16,8 @@ const ASKED: &str = "81 0A 00 11 01 04 02 65 01 0C 0C 01 40 00 01 19 55";
 
 const ANSWERED: &str = "81 0A 00 14 01 00 30 01 0C 0C 01 40 00 01 19 55 3E 91 01 3F\n";
 
-/// Datagrams for the built-in device, and what is printed of what it says.
-const ROWS: [(&str, &str); 17] = [
+/// ReadProperty of the built-in device's Binary Value 1, and what is no request: digits, headers.
+const READ_ROWS: [(&str, &str); 14] = [
     (ASKED, ANSWERED),
     // a property number with a needless octet in front
     (
@@ -62,27 +63,98 @@ const ROWS: [(&str, &str); 17] = [
     ),
     // a segment
     (
-        "81 0A 00 11 01 04 0A 65 01 0C 0C 01 40 00 01 19 55",
+        "81 0A 00 13 01 04 08 65 01 00 04 0C 0C 01 40 00 01 19 55",
         "none\n",
     ),
-    // octets behind the last parameter
-    (
-        "81 0A 00 12 01 04 02 65 01 0C 0C 01 40 00 01 19 55 00",
-        "none\n",
-    ),
-    // an object identifier of three octets
-    ("81 0A 00 10 01 04 02 65 01 0C 0B 01 40 00 19 55", "none\n"),
-    // another service
-    (
-        "81 0A 00 11 01 04 02 65 01 0D 0C 01 40 00 01 19 55",
-        "none\n",
-    ),
-    // from another network
+    // from another station: the answer names it in DNET and DADR
     (
         "81 0A 00 1A 01 0C 00 01 06 7F 00 00 01 BA C2 02 65 00 0C 0C 01 40 00 01 19 55",
-        "none\n",
+        "81 0A 00 1E 01 20 00 01 06 7F 00 00 01 BA C2 FF 30 00 0C 0C 01 40 00 01 19 55 3E 91 01 3F\n",
     ),
 ];
+
+/// The other services, their errors and rejects.
+const SERVICE_ROWS: [(&str, &str); 18] = [
+    // present value, and the priority array at 17
+    (
+        "81 0A 00 17 01 04 02 65 04 0E 0C 01 40 00 01 1E 09 55 09 57 19 11 1F",
+        "81 0A 00 20 01 00 30 04 0E 0C 01 40 00 01 1E 29 55 4E 91 01 4F 29 57 39 11 5E 91 02 91 2A 5F 1F\n",
+    ),
+    // a write at 8, at 6 and at 17
+    (
+        "81 0A 00 17 01 04 00 05 02 0F 0C 01 40 00 01 19 55 3E 91 00 3F 49 08",
+        "81 0A 00 09 01 00 20 02 0F\n",
+    ),
+    (
+        "81 0A 00 17 01 04 00 05 02 0F 0C 01 40 00 01 19 55 3E 91 00 3F 49 06",
+        "81 0A 00 0D 01 00 50 02 0F 91 02 91 28\n",
+    ),
+    (
+        "81 0A 00 17 01 04 00 05 02 0F 0C 01 40 00 01 19 55 3E 91 00 3F 49 11",
+        "81 0A 00 09 01 00 60 02 06\n",
+    ),
+    // service 26
+    (
+        "81 0A 00 0A 01 04 02 65 03 1A",
+        "81 0A 00 09 01 00 60 03 09\n",
+    ),
+    // Protocol_Services_Supported
+    (
+        "81 0A 00 11 01 04 02 65 05 0C 0C 02 00 00 63 19 61",
+        "81 0A 00 1A 01 00 30 05 0C 0C 02 00 00 63 19 61 3E 85 06 05 00 0B 80 00 20 3F\n",
+    ),
+    // a list of references without one
+    (
+        "81 0A 00 11 01 04 02 65 04 0E 0C 01 40 00 01 1E 1F",
+        "81 0A 00 09 01 00 60 04 05\n",
+    ),
+    // an empty body
+    (
+        "81 0A 00 0A 01 04 02 65 01 0C",
+        "81 0A 00 09 01 00 60 01 05\n",
+    ),
+    // context tag 1 where the object must stand
+    (
+        "81 0A 00 11 01 04 02 65 01 0C 1C 01 40 00 01 19 55",
+        "81 0A 00 09 01 00 60 01 04\n",
+    ),
+    // an object identifier of three octets
+    (
+        "81 0A 00 10 01 04 02 65 01 0C 0B 01 40 00 19 55",
+        "81 0A 00 09 01 00 60 01 03\n",
+    ),
+    // an octet behind the last parameter
+    (
+        "81 0A 00 12 01 04 02 65 01 0C 0C 01 40 00 01 19 55 00",
+        "81 0A 00 09 01 00 60 01 07\n",
+    ),
+    // two writes, of which the second fails, and the first alone
+    (
+        "81 0A 00 1F 01 04 00 05 03 10 0C 01 40 00 01 1E 09 55 2E 91 00 2F 39 08 09 4D 2E 71 00 2F 1F",
+        "81 0A 00 18 01 00 50 03 10 0E 91 02 91 28 0F 1E 0C 01 40 00 01 19 4D 1F\n",
+    ),
+    (
+        "81 0A 00 19 01 04 00 05 03 10 0C 01 40 00 01 1E 09 55 2E 91 00 2F 39 08 1F",
+        "81 0A 00 09 01 00 20 03 10\n",
+    ),
+    // all properties of the Device object, more than the 50 octets that the requester takes
+    (
+        "81 0A 00 13 01 04 00 00 05 0E 0C 02 00 00 63 1E 09 08 1F",
+        "81 0A 00 09 01 00 71 05 04\n",
+    ),
+    // Who-Is without limits, and with 1 to 98 and 1 to 99
+    ("81 0B 00 0C 01 20 FF FF 00 FF 10 08", I_AM),
+    ("81 0B 00 10 01 20 FF FF 00 FF 10 08 09 01 19 62", "none\n"),
+    ("81 0B 00 10 01 20 FF FF 00 FF 10 08 09 01 19 63", I_AM),
+    // the same, forwarded by a broadcast manager
+    (
+        "81 04 00 12 7F 00 00 01 BA C2 01 20 FF FF 00 FF 10 08",
+        I_AM,
+    ),
+];
+
+/// What the built-in device says of itself.
+const I_AM: &str = "81 0B 00 18 01 20 FF FF 00 FF 10 00 C4 02 00 00 63 22 05 C4 91 00 21 00\n";
 
 /// Datagrams between clients, routers and devices, whose BVLL carries a whole NPDU.
 const CARRIED: [&str; 8] = [
@@ -105,10 +177,10 @@ fn words(rt: &(impl AllocGlobal), text: &str) -> Result<Vec<String>, Fail> {
     Ok(words)
 }
 
-#[test]
-fn answers_rows(rt: HostRuntime) -> Result<(), Fail> {
-    for (asked, answered) in ROWS {
-        let words = words(&rt, asked)?;
+/// Each datagram is answered as its row says.
+fn answers(rt: &(impl Abort + AllocGlobal), rows: &[(&str, &str)]) -> Result<(), Fail> {
+    for (asked, answered) in rows {
+        let words = words(rt, asked)?;
         let mut out = Vec::new(rt.alloc());
         let mut err = Vec::new(rt.alloc());
         assert_eq!(rt;
@@ -118,6 +190,63 @@ fn answers_rows(rt: HostRuntime) -> Result<(), Fail> {
         );
         assert_eq!(rt; out.as_slice(), answered.as_bytes(), "{asked}");
         assert!(rt; err.is_empty(), "{asked}");
+    }
+    Ok(())
+}
+
+#[test]
+fn answers_read_property(rt: HostRuntime) -> Result<(), Fail> {
+    answers(&rt, &READ_ROWS)
+}
+
+#[test]
+fn answers_every_service(rt: HostRuntime) -> Result<(), Fail> {
+    answers(&rt, &SERVICE_ROWS)
+}
+
+#[test]
+fn walks_deep_values(rt: HostRuntime) -> Result<(), Fail> {
+    let from = Mac::Six([127, 0, 0, 1, 0xBA, 0xC1]);
+    let front = [
+        0x81, 0x0A, 0x05, 0x89, 0x01, 0x04, 0x00, 0x05, 0x02, 0x0F, 0x0C, 0x01, 0x40, 0x00, 0x01,
+        0x19, 0x55,
+    ];
+    // 1400 opening tags, and 700 of them closed again
+    for (opened, said_last) in [(1400, 0x04), (700, 0x09)] {
+        let mut octets = Vec::from_slice(rt.alloc(), &front)?;
+        for place in 0..1400u32 {
+            octets.push(if place < opened { 0x3E } else { 0x3F })?;
+        }
+        let mut device = Builtin::new(rt.alloc())?;
+        let said = respond(rt.alloc(), &mut device, from, octets.as_slice())?;
+        assert_eq!(rt; said.len(), 1);
+        for answer in said.as_slice() {
+            assert_eq!(rt; answer.as_slice().last().copied(), Some(said_last));
+        }
+    }
+    Ok(())
+}
+
+#[test]
+fn a_write_is_read_again(rt: HostRuntime) -> Result<(), Fail> {
+    let from = Mac::Six([127, 0, 0, 1, 0xBA, 0xC1]);
+    let mut device = Builtin::new(rt.alloc())?;
+    let rows = [
+        (SERVICE_ROWS[1].0, SERVICE_ROWS[1].1),
+        (
+            ASKED,
+            "81 0A 00 14 01 00 30 01 0C 0C 01 40 00 01 19 55 3E 91 00 3F\n",
+        ),
+    ];
+    for (asked, answered) in rows {
+        let asked = read_hex(rt.alloc(), words(&rt, asked)?.as_slice())?.ok_or("digits")?;
+        let answered = words(&rt, answered.trim_end())?;
+        let answered = read_hex(rt.alloc(), answered.as_slice())?.ok_or("digits")?;
+        let said = respond(rt.alloc(), &mut device, from, asked.as_slice())?;
+        assert_eq!(rt; said.len(), 1);
+        for datagram in said.as_slice() {
+            assert_eq!(rt; datagram.as_slice(), answered.as_slice());
+        }
     }
     Ok(())
 }

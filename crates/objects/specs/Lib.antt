@@ -1,3 +1,14 @@
+pub mod Errors
 pub mod Numbers
+pub mod Sound
+pub mod Answers
+pub mod Identifiers
+pub mod Levels
+pub mod Objects
+pub mod Reading
+pub mod Writing
 pub mod Machine
 pub mod Site
+pub mod Places
+pub mod Failure
+pub mod Laws

@@ -1,80 +1,41 @@
--- The object machine: what a device answers to the reading of a property (15.5).
-use Rattle.std.specs.Prelude.{◌≡◌, ℕ, ◌<◌, ◌&&◌, Bool, List, [], ◌∷◌, map, Option, Some, None, ◌==◌, if◌then◌else◌}
-use Rattle.tags.specs.declared.object_id.ObjectId.{ObjectId}
+-- The object machine: what a device replies to a request, and what the request leaves (12, 15, 19).
+use Rattle.std.specs.Prelude.{List, map, Option, Some, None, Result, Ok, Err}
 use Rattle.tags.specs.declared.value.Value.{Value}
-use Rattle.tags.specs.declared.value.Value.TheVariants as value
-use Rattle.objects.specs.declared.object.BinaryValue.{BinaryValue}
-use Rattle.objects.specs.declared.plain_data.Request.{Request}
-use Rattle.objects.specs.declared.plain_data.Request.TheVariants.{Read}
 use Rattle.objects.specs.declared.plain_data.Reply.{Reply}
-use Rattle.objects.specs.declared.plain_data.Reply.TheVariants.{Values, Error}
-use Rattle.objects.specs.declared.plain_data.ErrorClass.TheVariants as class
-use Rattle.objects.specs.declared.plain_data.ErrorCode.TheVariants as code
-use Rattle.objects.specs.Numbers.{present_value_number}
+use Rattle.objects.specs.declared.plain_data.Reply.TheVariants.{Values, Many, Done, Error}
+use Rattle.objects.specs.declared.plain_data.Request.{Request}
+use Rattle.objects.specs.declared.plain_data.Request.TheVariants.{Read, ReadMany, Write, WriteMany}
+use Rattle.objects.specs.Objects.{PlainTable}
+use Rattle.objects.specs.Reading.{Refusal, read, results_of}
+use Rattle.objects.specs.Writing.{Outcome, write, write_all, in_order}
 
--- a property's number and its value
-pub record PropertyValue (A : Type 0) : Type 0 where
-  pub property : ℕ
-  pub value : Value A
+-- the reply to a ReadProperty: what was read, or the error (15.5.2)
+abbrev pub reading_reply : {A : Type 0} → Result (List (Value A)) Refusal → Reply A
+reading_reply (Ok values) = Values values
+reading_reply (Err e) = Error (e.0) (e.1)
 
--- an object: its identifier, and its properties in the order of the standard's table (12)
-pub record PlainObject (A : Type 0) : Type 0 where
-  pub object_type : ℕ
-  pub instance : ℕ
-  pub properties : List (PropertyValue A)
+-- the reply to a WriteProperty that is refused or not (15.9.1)
+abbrev pub written_reply : {A : Type 0} → Option Refusal → Reply A
+written_reply None = Done
+written_reply (Some e) = Error (e.0) (e.1)
 
--- the objects of a device in the order of its site: a finite map from object and property to a value
-abbrev pub PlainTable : Type 0 → Type 0
-PlainTable A = List (PlainObject A)
+-- the outcome of a WriteProperty: an error changes nothing (15.9.2)
+abbrev pub write_outcome : {A : Type 0} → PlainTable A → Result (PlainTable A) Refusal → Outcome A
+write_outcome t (Ok written) = record { table = written; reply = Done }
+write_outcome t (Err e) = record { table = t; reply = Error (e.0) (e.1) }
 
--- a Binary Value that nothing commands: its Present_Value is its Relinquish_Default (12.8)
-abbrev pub opening_properties : {A : Type 0} → BinaryValue → List (PropertyValue A)
-opening_properties o = record { property = 85; value = value.Enum (present_value_number o.relinquish_default) } ∷ []
+-- the outcome of a request, by its service; reading leaves the table as it is (15.5.2, 15.7.2, 15.9.2, 15.10.2)
+abbrev pub outcome : {A : Type 0} → PlainTable A → Request A → Outcome A
+outcome t (Read object property index) = record { table = t; reply = reading_reply (read t object property index) }
+outcome t (ReadMany asked) = record { table = t; reply = Many (map (results_of t) asked) }
+outcome t (Write object property index values priority) =
+    write_outcome t (write t object (record { property = property; index = index; values = values; priority = priority }))
+outcome t (WriteMany asked) = write_all t (in_order asked)
 
--- the object that a site's Binary Value opens as
-abbrev pub opening_object : {A : Type 0} → BinaryValue → PlainObject A
-opening_object o = record { object_type = 5; instance = o.instance; properties = opening_properties o }
+-- what the device replies
+abbrev pub reply : {A : Type 0} → PlainTable A → Request A → Reply A
+reply t q = (outcome t q).reply
 
--- the opening table of a site's objects
-abbrev pub opening_table : {A : Type 0} → List BinaryValue → PlainTable A
-opening_table objects = map opening_object objects
-
--- whether an identifier names the object of this type and instance
-abbrev pub is_named : ℕ → ℕ → ObjectId → Bool
-is_named object_type instance object = (object.object_type == object_type) && (object.instance == instance)
-
--- the properties of an object, if the table has it
-abbrev pub properties_of : {A : Type 0} → PlainTable A → ObjectId → Option (List (PropertyValue A))
-properties_of [] object = None
-properties_of (o ∷ os) object = if is_named o.object_type o.instance object then Some o.properties else properties_of os object
-
--- the value of a property, if it is among these
-abbrev pub value_of : {A : Type 0} → List (PropertyValue A) → ℕ → Option (Value A)
-value_of [] property = None
-value_of (p ∷ ps) property = if property == p.property then Some p.value else value_of ps property
-
--- reading a property that is no array, with or without an index (15.5.2)
-abbrev pub read_value_of : {A : Type 0} → Option (Value A) → Option ℕ → Reply A
-read_value_of None index = Error class.Property code.UnknownProperty
-read_value_of (Some v) (Some i) = Error class.Property code.PropertyIsNotAnArray
-read_value_of (Some v) None = Values (v ∷ [])
-
--- reading an object that is there or not (15.5.2)
-abbrev pub read_properties : {A : Type 0} → Option (List (PropertyValue A)) → ℕ → Option ℕ → Reply A
-read_properties None property index = Error class.Object code.UnknownObject
-read_properties (Some properties) property index = read_value_of (value_of properties property) index
-
--- what the device answers: the first rule that holds (15.5.2)
-abbrev pub reply : {A : Type 0} → PlainTable A → Request → Reply A
-reply t (Read object property index) = read_properties (properties_of t object) property index
-
--- one Enumerated, 0 or 1 (21, BACnetBinaryPV)
-pub record IsBinary {A : Type 0} (values : List (Value A)) : Type 0 where
-  pub number : ℕ
-  pub is : values ≡ value.Enum number ∷ []
-  pub fits : number < 2
-
--- what this product's objects answer so far: one binary value, or an error
-abbrev pub IsSoundReply : {A : Type 0} → Reply A → Type 0
-IsSoundReply (Values values) = IsBinary values
-IsSoundReply (Error c e) = Unit {0}
+-- what the request leaves
+abbrev pub after : {A : Type 0} → PlainTable A → Request A → PlainTable A
+after t q = (outcome t q).table

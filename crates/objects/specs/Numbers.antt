@@ -1,36 +1,56 @@
--- The standard's numbers of object types, properties and values (clause 21).
-use Rattle.std.specs.Prelude.{ℕ}
-use Rattle.objects.specs.declared.object.ObjectType.{ObjectType}
-use Rattle.objects.specs.declared.object.ObjectType.TheVariants.{BinaryValue}
-use Rattle.objects.specs.declared.object.Property.{Property}
-use Rattle.objects.specs.declared.object.Property.TheVariants.{PresentValue}
-use Rattle.objects.specs.declared.object.BinaryPresentValue.{BinaryPresentValue}
-use Rattle.objects.specs.declared.object.BinaryPresentValue.TheVariants.{Inactive, Active}
-use Rattle.objects.specs.declared.plain_data.ErrorClass.{ErrorClass}
-use Rattle.objects.specs.declared.plain_data.ErrorClass.TheVariants as class
-use Rattle.objects.specs.declared.plain_data.ErrorCode.{ErrorCode}
-use Rattle.objects.specs.declared.plain_data.ErrorCode.TheVariants as code
+-- The standard's numbers of object types and properties (21).
+use Rattle.std.specs.Prelude.{◌≡◌, ℕ}
+use Rattle.objects.specs.declared.object_type.ObjectType.{ObjectType}
+use Rattle.objects.specs.declared.object_type.ObjectType.TheVariants as type
+use Rattle.objects.specs.declared.property.Property.{Property}
+use Rattle.objects.specs.declared.property.Property.TheVariants as property
 
--- BACnetObjectTypesSupported (21)
-abbrev pub object_type_number : ObjectType → ℕ
-object_type_number BinaryValue = 5
+-- BACnetObjectType (21)
+abbrev pub type_number : ObjectType → ℕ
+type_number type.BinaryValue = 5
+type_number type.Device = 8
+type_number type.MultiStateValue = 19
+type_number type.CharacterStringValue = 40
+type_number type.IntegerValue = 45
+
+-- no object type has this number
+pub record NoObjectType (number : ℕ) : Type 0 where
+  pub none : (t : ObjectType) → type_number t ≡ number → ⊥
 
 -- BACnetPropertyIdentifier (21)
 abbrev pub property_number : Property → ℕ
-property_number PresentValue = 85
+property_number property.ApduSegmentTimeout = 10
+property_number property.ApduTimeout = 11
+property_number property.ApplicationSoftwareVersion = 12
+property_number property.Description = 28
+property_number property.DeviceAddressBinding = 30
+property_number property.EventState = 36
+property_number property.FirmwareRevision = 44
+property_number property.MaxApduLengthAccepted = 62
+property_number property.ModelName = 70
+property_number property.NumberOfApduRetries = 73
+property_number property.NumberOfStates = 74
+property_number property.ObjectIdentifier = 75
+property_number property.ObjectList = 76
+property_number property.ObjectName = 77
+property_number property.ObjectType = 79
+property_number property.OutOfService = 81
+property_number property.PresentValue = 85
+property_number property.PriorityArray = 87
+property_number property.ProtocolObjectTypesSupported = 96
+property_number property.ProtocolServicesSupported = 97
+property_number property.ProtocolVersion = 98
+property_number property.RelinquishDefault = 104
+property_number property.SegmentationSupported = 107
+property_number property.StatusFlags = 111
+property_number property.SystemStatus = 112
+property_number property.Units = 117
+property_number property.VendorIdentifier = 120
+property_number property.VendorName = 121
+property_number property.ProtocolRevision = 139
+property_number property.DatabaseRevision = 155
+property_number property.MaxSegmentsAccepted = 167
 
--- BACnetBinaryPV (21)
-abbrev pub present_value_number : BinaryPresentValue → ℕ
-present_value_number Inactive = 0
-present_value_number Active = 1
-
--- the error classes (18.1, 21)
-abbrev pub class_number : ErrorClass → ℕ
-class_number class.Object = 1
-class_number class.Property = 2
-
--- the error codes (18.1, 21)
-abbrev pub code_number : ErrorCode → ℕ
-code_number code.UnknownObject = 31
-code_number code.UnknownProperty = 32
-code_number code.PropertyIsNotAnArray = 50
+-- no property has this number
+pub record NoProperty (number : ℕ) : Type 0 where
+  pub none : (p : Property) → property_number p ≡ number → ⊥

@@ -1,20 +1,60 @@
 //! The objects of a device and what it answers for them: the object machine (ANSI/ASHRAE 135,
-//! clauses 12 and 15).
+//! clauses 12, 15, 18 and 19.2).
 //!
-//! So far it has Binary Values with their Present_Value, and the reading of one property. To the
-//! layers above it promises that a table answers exactly what the object machine says.
+//! To the layer above it promises: a table answers each request as the object machine does, with
+//! the first error that applies; its reply answers the request, and has a spelling where the
+//! request has one; what a request leaves is what the machine leaves; a write that is refused and
+//! want of memory change nothing; a WritePropertyMultiple ends at its first failure, and what was
+//! written before stays. Requests and replies are plain data, without octets.
 //!
-//! - `object`: object types, properties and Binary Values.
-//! - `plain_data`: requests, replies and errors as plain data.
-//! - `table`: the objects of one device.
+//! - `plain_data`: requests, replies and what they are made of.
+//! - `soundness`: whether a request has a spelling.
+//! - `error`: error classes and codes.
+//! - `object_type`: the object types, with the standard's numbers.
+//! - `property`: the properties, with the standard's numbers.
+//! - `site`: the objects that a site gives a device.
+//! - `object`: what an object holds.
+//! - `identity`: what an object is called, and which properties it has.
+//! - `commands`: the sixteen slots of a value object.
+//! - `places`: where an object stands in the table, found in the logarithm of their number.
+//! - `opening`: which objects a site may give, and how they open.
+//! - `table`: the objects of a device, opening, copying and reading them.
+//! - `reading`: where a property is, and what it holds.
+//! - `writing`: whether a value is taken, and what it leaves.
+//! - `answering`: what a table replies to a request.
+//! - `applying`: what a request leaves of a table.
+//! - `copying`: equal copies.
+//! - `laws`: what holds of every table and every request, for the proofs of the layers above.
 #![tactic(auto)]
 
+mod answering;
+mod applying;
+mod commands;
+mod copying;
+mod error;
+mod identity;
+pub mod laws;
 mod object;
+mod object_type;
+mod opening;
+mod places;
 mod plain_data;
+mod property;
+mod reading;
+mod site;
+mod soundness;
 mod table;
+mod writing;
 
-pub use object::{BinaryPresentValue, BinaryValue, ObjectType, Property};
-pub use plain_data::{ErrorClass, ErrorCode, Reply, Request};
+pub use error::{ErrorClass, ErrorCode};
+pub use object::ValueKind;
+pub use object_type::ObjectType;
+pub use plain_data::{
+    ObjectRefs, ObjectResults, ObjectWrites, PropertyReference, PropertyResult, PropertyWrite,
+    Reply, Request, Values,
+};
+pub use property::Property;
+pub use site::{DataLink, SiteObject, SiteObjects};
 pub use table::Table;
 
 #[cfg(test)]

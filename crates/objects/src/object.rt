@@ -1,60 +1,88 @@
-//! Object types, properties and the Binary Value object (clause 12.8).
+//! The objects of a device: what each holds (clauses 12.8, 12.11, 12.20, 12.37 and 12.43).
 
-ghost use Rattle.std.specs.Prelude.{◌≡◌};
-ghost use Rattle.objects.specs.Numbers.{object_type_number, property_number, present_value_number};
+use crate::commands::Commands;
+use crate::site::DataLink;
+use std::alloc::Allocator;
+use tags::{Octets, Value};
 
-/// The object types that this product has (clause 21, BACnetObjectTypesSupported).
+/// What sets one type of value object off from the others. It never changes.
 #[derive(Clone, Copy, Debug, PartialEq, Eq)]
-pub enum ObjectType {
-    /// Binary Value.
-    BinaryValue = 5,
+pub enum ValueKind {
+    /// Binary Value (12.8).
+    Binary,
+    /// Multi-state Value (12.20), with its number of states, 1 to 65535.
+    MultiState { number_of_states: u16 },
+    /// CharacterString Value (12.37).
+    CharacterString,
+    /// Integer Value (12.43), with its units as the standard numbers them.
+    Integer { units: u32 },
 }
 
-impl From<ObjectType> for u16 {
-    ghost from_gives = { λ object_type n. n ≡ object_type_number object_type };
-
-    fn from(object_type: ObjectType) -> u16 {
-        object_type as u16
-    }
-}
-
-/// The properties that this product has (clause 21, BACnetPropertyIdentifier).
+/// What may be written into a property.
 #[derive(Clone, Copy, Debug, PartialEq, Eq)]
-pub enum Property {
-    /// Present_Value.
-    PresentValue = 85,
+pub enum Datatype {
+    /// A Boolean.
+    Boolean,
+    /// Enumerated 0 or 1 (21, BACnetBinaryPV).
+    Binary,
+    /// Unsigned, from 1 to the number of states (12.20.4).
+    MultiState { number_of_states: u16 },
+    /// A text of UTF-8, of at most 128 octets.
+    CharacterString,
+    /// Any Signed.
+    Integer,
 }
 
-impl From<Property> for u32 {
-    ghost from_gives = { λ property n. n ≡ property_number property };
-
-    fn from(property: Property) -> u32 {
-        property as u32
-    }
-}
-
-/// The Present_Value of a binary object (clause 21, BACnetBinaryPV).
+/// Whether and how a property is written (15.9).
 #[derive(Clone, Copy, Debug, PartialEq, Eq)]
-pub enum BinaryPresentValue {
-    /// Inactive.
-    Inactive = 0,
-    /// Active.
-    Active = 1,
+pub enum Access {
+    /// Not at all.
+    ReadOnly,
+    /// By a value of this type; the priority is not looked at.
+    Writable(Datatype),
+    /// By a value of this type, or Null, at a priority (19.2).
+    Commandable(Datatype),
 }
 
-impl From<BinaryPresentValue> for u32 {
-    ghost from_gives = { λ value n. n ≡ present_value_number value };
-
-    fn from(value: BinaryPresentValue) -> u32 {
-        value as u32
-    }
-}
-
-/// A Binary Value object (clause 12.8).
-#[derive(Clone, Copy, Debug, PartialEq, Eq)]
-pub struct BinaryValue {
+/// A value object: a Binary, Multi-state, CharacterString or Integer Value.
+#[derive(Drop)]
+pub struct ValueObject<A: Allocator> {
+    /// Its type, and what belongs to it.
+    pub kind: ValueKind,
     /// Its instance number, 0 to 4194302.
     pub instance: u32,
-    /// Its Relinquish_Default, which is its Present_Value while nothing commands it.
-    pub relinquish_default: BinaryPresentValue,
+    /// Object_Name, a text of at most 128 octets.
+    pub name: Octets<A>,
+    /// Priority_Array (19.2).
+    pub slots: Commands<A>,
+    /// Relinquish_Default, the value in force while all slots are empty.
+    pub default: Value<A>,
+    /// Out_Of_Service.
+    pub out_of_service: bool,
+    /// Description, a text of at most 128 octets.
+    pub description: Octets<A>,
+}
+
+/// The Device object (12.11).
+#[derive(Drop)]
+pub struct DeviceObject<A: Allocator> {
+    /// Its instance number, 0 to 4194302.
+    pub instance: u32,
+    /// Object_Name, which is the name of the station.
+    pub name: Octets<A>,
+    /// Vendor_Identifier.
+    pub vendor: u16,
+    /// The data link, which sets Max_APDU_Length_Accepted.
+    pub data_link: DataLink,
+    /// Description, a text of at most 128 octets.
+    pub description: Octets<A>,
+}
+
+/// An object of a device.
+#[derive(Drop)]
+pub enum Object<A: Allocator> {
+    /// The Device object.
+    Device(DeviceObject<A>),
+    /// A value object.
+    Value(ValueObject<A>),
 }

@@ -1,20 +1,77 @@
-//! Requests, replies and errors as plain data, without octets (clauses 15 and 18).
+//! Requests and replies as plain data, without octets (clauses 15 and 18).
 
-ghost use Rattle.std.specs.Prelude.{◌≡◌};
-ghost use Rattle.objects.specs.Numbers.{class_number, code_number};
-
+use crate::error::{ErrorClass, ErrorCode};
 use std::alloc::Allocator;
 use tags::{Items, ObjectId, Value};
 
-/// What a client asks of a device.
-#[derive(Clone, Copy, Debug, PartialEq, Eq)]
-pub enum Request {
+/// A list of values.
+pub type Values<A> = Items<Value<A>, A>;
+
+/// What a client asks of a device (clause 15).
+#[derive(Drop)]
+#[derive_where(PartialEq, Eq, Debug)]
+pub enum Request<A: Allocator> {
     /// ReadProperty (15.5): a property of an object, or one element of it. Index 0 is the length.
     Read {
         object: ObjectId,
         property: u32,
         index: Option<u32>,
     },
+    /// ReadPropertyMultiple (15.7): one or more objects, each with one or more properties.
+    ReadMany(Items<ObjectRefs<A>, A>),
+    /// WriteProperty (15.9): the values for a property, at a priority from 1 to 16.
+    Write {
+        object: ObjectId,
+        property: u32,
+        index: Option<u32>,
+        values: Values<A>,
+        priority: Option<u8>,
+    },
+    /// WritePropertyMultiple (15.10): one or more objects, each with one or more writes.
+    WriteMany(Items<ObjectWrites<A>, A>),
+}
+
+/// Properties of one object that are to be read (15.7.3.1, ReadAccessSpecification).
+#[derive(Drop)]
+#[derive_where(PartialEq, Eq, Debug)]
+pub struct ObjectRefs<A: Allocator> {
+    /// The object.
+    pub object: ObjectId,
+    /// The properties.
+    pub refs: Items<PropertyReference, A>,
+}
+
+/// A property, or one element of it (21, BACnetPropertyReference).
+#[derive(Clone, Copy, Debug, PartialEq, Eq)]
+pub struct PropertyReference {
+    /// The property's number.
+    pub property: u32,
+    /// The index of the element, 0 for the length of an array.
+    pub index: Option<u32>,
+}
+
+/// Writes to one object (15.10.3.1, WriteAccessSpecification).
+#[derive(Drop)]
+#[derive_where(PartialEq, Eq, Debug)]
+pub struct ObjectWrites<A: Allocator> {
+    /// The object.
+    pub object: ObjectId,
+    /// The writes, in the order in which they are to be done.
+    pub writes: Items<PropertyWrite<A>, A>,
+}
+
+/// One write to a property (21, BACnetPropertyValue).
+#[derive(Drop)]
+#[derive_where(PartialEq, Eq, Debug)]
+pub struct PropertyWrite<A: Allocator> {
+    /// The property's number.
+    pub property: u32,
+    /// The index of the element, 0 for the length of an array.
+    pub index: Option<u32>,
+    /// The values.
+    pub values: Values<A>,
+    /// The priority, 1 to 16, which counts for Present_Value alone; without one it is 16.
+    pub priority: Option<u8>,
 }
 
 /// What a device answers.
@@ -22,43 +79,41 @@ pub enum Request {
 #[derive_where(PartialEq, Eq, Debug)]
 pub enum Reply<A: Allocator> {
     /// The values of the property that was read.
-    Values(Items<Value<A>, A>),
+    Values(Values<A>),
+    /// What was read of each object.
+    Many(Items<ObjectResults<A>, A>),
+    /// All was written.
+    Done,
     /// Why the request was not done.
     Error(ErrorClass, ErrorCode),
+    /// Why a WritePropertyMultiple stopped, and at which write (15.10.1.3).
+    ErrorAt {
+        class: ErrorClass,
+        code: ErrorCode,
+        object: ObjectId,
+        property: u32,
+        index: Option<u32>,
+    },
 }
 
-/// The error classes that this product answers (18.1).
-#[derive(Clone, Copy, Debug, PartialEq, Eq)]
-pub enum ErrorClass {
-    /// An error of the object.
-    Object = 1,
-    /// An error of the property.
-    Property = 2,
+/// What was read of one object (15.7.3.2, ReadAccessResult).
+#[derive(Drop)]
+#[derive_where(PartialEq, Eq, Debug)]
+pub struct ObjectResults<A: Allocator> {
+    /// The object.
+    pub object: ObjectId,
+    /// What was read of each property.
+    pub results: Items<PropertyResult<A>, A>,
 }
 
-impl From<ErrorClass> for u32 {
-    ghost from_gives = { λ class n. n ≡ class_number class };
-
-    fn from(class: ErrorClass) -> u32 {
-        class as u32
-    }
-}
-
-/// The error codes that this product answers (18.1).
-#[derive(Clone, Copy, Debug, PartialEq, Eq)]
-pub enum ErrorCode {
-    /// The device has no such object.
-    UnknownObject = 31,
-    /// The object has no such property.
-    UnknownProperty = 32,
-    /// An index was given, and the property is no array.
-    PropertyIsNotAnArray = 50,
-}
-
-impl From<ErrorCode> for u32 {
-    ghost from_gives = { λ code n. n ≡ code_number code };
-
-    fn from(code: ErrorCode) -> u32 {
-        code as u32
-    }
+/// What was read of one property, or why nothing was (15.7.3.2).
+#[derive(Drop)]
+#[derive_where(PartialEq, Eq, Debug)]
+pub struct PropertyResult<A: Allocator> {
+    /// The property's number.
+    pub property: u32,
+    /// The index of the element, 0 for the length of an array.
+    pub index: Option<u32>,
+    /// The values, or the class and code of the error.
+    pub result: Result<Values<A>, (ErrorClass, ErrorCode)>,
 }

@@ -1,118 +1,123 @@
-//! The table of a device: its objects, and what it answers for them (15.5).
+//! The table of a device: its objects, what it answers for them, and what a request leaves of
+//! them (clause 15).
 
-ghost use Rattle.std.specs.Prelude.{◌≡◌, ◌↔◌, Any, IsTrue, OnOk, IfErr};
-ghost use Rattle.objects.specs.Site.{IsSite, IsFaultySite};
+ghost use Rattle.std.specs.Prelude.{◌≡◌, ◌<◌, ◌^◌, Some, IfOk, length};
+ghost use Rattle.objects.specs.Reading.{read_place, locate_property};
 
-use crate::object::{BinaryValue, ObjectType, Property};
-use crate::plain_data::{ErrorClass, ErrorCode, Reply, Request};
+use crate::copying::copy_objects;
+use crate::object::Object;
+use crate::opening::{is_site, open, places_of};
+use crate::places::Places;
+use crate::plain_data::Values;
+use crate::reading::{self, Refusal, UNKNOWN_OBJECT, locate, object_at};
+use crate::site::SiteObjects;
 use std::alloc::{AllocError, Allocator};
 use std::marker::Model;
-use tags::{Fault, Items, ObjectId, Value};
+use tags::{Fault, ObjectId};
 
 /// The objects of a device. A contract sees the object machine's table.
 #[derive(Drop)]
 pub struct Table<A: Allocator> {
-    objects: Vec<BinaryValue, A>,
+    pub(crate) objects: Vec<Object<A>, A>,
+    pub(crate) places: Places<A>,
 }
 
 impl<A: Allocator> Model for Table<A> {
-    ghost use Rattle.objects.specs.Machine.{PlainTable, opening_table};
+    ghost use Rattle.std.specs.Prelude.{◌≡◌, map};
+    ghost use Rattle.objects.specs.Objects.{PlainTable, identifier};
+    ghost use Rattle.objects.specs.Site.{IsSoundTable};
 
     ghost Value = { PlainTable A };
 
-    ghost view = { λ s. opening_table s.objects.items };
+    ghost view = { λ s. s.objects.items };
+
+    ghost invariant = { λ s. (s.places ≡ map identifier s.objects.items) × IsSoundTable s.objects.items };
 }
 
 impl<A: Allocator + Copy> Table<A> {
-    ghost use Rattle.std.specs.Prelude.{◌≡◌, ◌⊎◌, OnOk, IfOk, IfErr, option_map};
-    ghost use Rattle.objects.specs.Site.{IsSite, IsFaultySite};
-    ghost use Rattle.objects.specs.Machine.{opening_table, opening_properties, properties_of, reply, IsSoundReply};
+    ghost use Rattle.std.specs.Prelude.{◌≡◌, ◌⊎◌, OnOk, IfOk, IfErr, MatchOption, option_copied, Ok, Err};
+    ghost use Rattle.objects.specs.Answers.{IsAnswerTo};
+    ghost use Rattle.objects.specs.Machine.{reply, after};
+    ghost use Rattle.objects.specs.Reading.{object_at, read};
+    ghost use Rattle.objects.specs.Site.{opening_table, IsSite, IsFaultySite};
+    ghost use Rattle.objects.specs.Sound.{IsSoundRequest, IsSoundReply};
 
-    /// The table of these objects, as it opens.
+    /// The table of a site's objects, as it opens (12).
     ///
     /// # Errors
-    /// `BadSite` where an instance occurs twice or is over 4194302, or `Memory`.
-    pub fn new(alloc: A, objects: &[BinaryValue]) -> Result<Self, Fault>
-        ensures opened { IfOk result (λ table. table ≡ opening_table objects.now) }
-        ensures sound { OnOk result (IsSite objects.now) }
-        ensures refused { IfErr result (λ fault. (fault ≡ Fault.Memory) ⊎ ((fault ≡ Fault.BadSite) × IsFaultySite objects.now)) }
+    /// `BadSite` where an instance is over 4194302, there are over 512 value objects, two objects
+    /// have one identifier or one name, a text is over 128 octets or no UTF-8, a Multi-state Value
+    /// has no state, or a default is no value of its object; or `Memory`.
+    pub fn new(alloc: A, site: SiteObjects<A>) -> Result<Self, Fault>
+        ensures opened { IfOk result (λ table. table ≡ opening_table site) }
+        ensures sound { OnOk result (IsSite site) }
+        ensures refused { IfErr result (λ fault. (fault ≡ Fault.Memory) ⊎ ((fault ≡ Fault.BadSite) × IsFaultySite site)) }
     {
-        check_site(objects)?;
-        Ok(Table {
-            objects: Vec::from_slice(alloc, objects)?,
-        })
+        if !is_site(&site) {
+            return Err(Fault::BadSite);
+        }
+        let objects = open(alloc, site)?;
+        let places = places_of(alloc, &objects)?;
+        Ok(Table { objects, places })
     }
 
-    /// What the object machine answers to a request. The table stays as it is (15.5.2).
+    /// An equal table, in memory of the same allocator.
     ///
     /// # Errors
     /// Want of memory.
-    pub fn reply(&self, request: &Request) -> Result<Reply<A>, AllocError>
-        ensures machine { IfOk result (λ answer. answer ≡ reply self.now request.now) }
-        ensures sound { IfOk result IsSoundReply }
+    pub fn copy(&self) -> Result<Self, AllocError>
+        ensures { IfOk result (λ copy. copy ≡ self.now) }
     {
-        let Request::Read {
-            object,
-            property,
-            index,
-        } = *request;
-        let Some(found) = self.find(object) else {
-            return Ok(Reply::Error(ErrorClass::Object, ErrorCode::UnknownObject));
-        };
-        if property != u32::from(Property::PresentValue) {
-            return Ok(Reply::Error(ErrorClass::Property, ErrorCode::UnknownProperty));
-        }
-        if index.is_some() {
-            return Ok(Reply::Error(ErrorClass::Property, ErrorCode::PropertyIsNotAnArray));
-        }
-        let mut values = Items::new(*self.objects.allocator());
-        values.push(Value::Enum(u32::from(found.relinquish_default)))?;
-        Ok(Reply::Values(values))
+        let alloc = *self.objects.allocator();
+        let objects = copy_objects(alloc, &self.objects)?;
+        let places = places_of(alloc, &objects)?;
+        Ok(Table { objects, places })
+    }
+
+    /// The allocator of the table's memory.
+    pub(crate) fn alloc(&self) -> A {
+        *self.objects.allocator()
     }
 
     /// The object of this identifier.
-    fn find(&self, object: ObjectId) -> Option<BinaryValue>
-        ensures { properties_of self.now object ≡ option_map opening_properties result }
+    pub(crate) fn find(&self, id: ObjectId) -> Option<&Object<A>>
+        ensures { option_copied result ≡ object_at self.now id }
     {
-        for held in &self.objects {
-            if held.is_named(object) {
-                return Some(*held);
-            }
+        match self.places.find(id) {
+            Some(place) => object_at(&self.objects, place),
+            None => None,
         }
-        None
     }
-}
 
-/// Refuses an instance that occurs twice or is out of range.
-fn check_site(objects: &[BinaryValue]) -> Result<(), Fault>
-    ensures sound { OnOk result (IsSite objects.now) }
-    ensures refused { IfErr result (λ fault. (fault ≡ Fault.BadSite) × IsFaultySite objects.now) }
-{
-    let mut left = objects;
-    while let [first, rest @ ..] = left {
-        if first.instance > 4_194_302 || has_instance(rest, first.instance) {
-            return Err(Fault::BadSite);
-        }
-        left = rest;
-    }
-    Ok(())
-}
-
-impl BinaryValue {
-    ghost use Rattle.std.specs.Prelude.{◌≡◌};
-    ghost use Rattle.objects.specs.Machine.{is_named};
-
-    /// Whether this is the object of that identifier.
-    fn is_named(&self, object: ObjectId) -> bool
-        ensures { result ≡ is_named 5 self.now.instance object }
+    /// What is read of a property: its values, or why there are none (15.5.2).
+    pub(crate) fn read(
+        &self,
+        id: ObjectId,
+        number: u32,
+        index: Option<u32>,
+    ) -> Result<Result<Values<A>, Refusal>, AllocError>
+        ensures { IfOk result (λ reading. reading ≡ read self.now id number index) }
     {
-        object.object_type == u16::from(ObjectType::BinaryValue) && object.instance == self.instance
+        let Some(object) = self.find(id) else {
+            return Ok(Err(UNKNOWN_OBJECT));
+        };
+        read_found(self.alloc(), &self.objects, object, number, index)
     }
 }
 
-/// Whether one of the objects has this instance.
-fn has_instance(objects: &[BinaryValue], instance: u32) -> bool
-    ensures { IsTrue result ↔ Any (λ object. object.instance ≡ instance) objects.now }
+/// What is read of an object's property.
+fn read_found<A: Allocator + Copy>(
+    alloc: A,
+    objects: &[Object<A>],
+    object: &Object<A>,
+    number: u32,
+    index: Option<u32>,
+) -> Result<Result<Values<A>, Refusal>, AllocError>
+    requires { length objects.now < 2 ^ 31 }
+    ensures { IfOk result (λ reading. reading ≡ read_place objects.now (locate_property objects.now (Some object.now) number index) index) }
 {
-    objects.iter().any(|object| object.instance == instance)
+    match locate(objects, object, number, index) {
+        Ok(property) => Ok(Ok(reading::read(alloc, objects, object, property, index)?)),
+        Err(refusal) => Ok(Err(refusal)),
+    }
 }

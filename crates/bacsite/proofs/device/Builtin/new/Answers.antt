@@ -1,0 +1,14 @@
+use Rattle.std.proofs.Common.{◌∙◌, subst, inl, inr}
+use Rattle.std.proofs.lemmas.Result.{err_from_is_err_and}
+use Rattle.objects.specs.declared.site.SiteObjects.{SiteObjects}
+use Rattle.objects.specs.Site.{IsFaultySite}
+use Rattle.bacsite.proofs.SiteLaws.{not_faulty}
+use Rattle.bacsite.proofs.device.Builtin.new.Goals as goal
+
+pub returns-in_err-new-clause-memory : goal.returns-in_err-new-clause-memory
+returns-in_err-new-clause-memory g c =
+    let p = err_from_is_err_and c.from_residual-in_err-new.result c.from_residual-in_err-new.ensures.1 in
+    rw (p.1) (elim c.in_err-new.ensures.refused [
+      | inl memory ↦ p.2 ∙ memory
+      | inr faulty ↦ absurd (not_faulty (subst (λ (s : SiteObjects _). IsFaultySite s) c.in_ok-builtin_site.ensures faulty.1))
+    ])

@@ -1,0 +1,27 @@
+-- The built-in device of the program (12.8, 12.11).
+use Rattle.std.specs.Prelude.{[], ◌∷◌, codes}
+use Rattle.tags.specs.declared.value.Value.TheVariants as value
+use Rattle.objects.specs.declared.object.ValueKind.TheVariants as kind
+use Rattle.objects.specs.declared.site.DataLink.TheVariants.{BacnetIp}
+use Rattle.objects.specs.declared.site.SiteObject.{SiteObject}
+use Rattle.objects.specs.declared.site.SiteObjects.{SiteObjects}
+use Rattle.objects.specs.Objects.{PlainTable}
+use Rattle.objects.specs.Site.{opening_table}
+use Rattle.services.specs.declared.unconfirmed.IAm.{IAm}
+use Rattle.services.specs.declared.unconfirmed.Segmentation.TheVariants.{Both}
+
+-- Binary Value 1, named BV1, whose Relinquish_Default is active
+abbrev pub builtin_value : {A : Type 0} → SiteObject A
+builtin_value = record { kind = kind.Binary; instance = 1; name = codes "BV1"; default = value.Enum 1; description = [] }
+
+-- Device 99 on BACnet/IP, of vendor 0, with that object
+abbrev pub builtin_site : {A : Type 0} → SiteObjects A
+builtin_site = record { name = codes "device"; instance = 99; vendor = 0; data_link = BacnetIp; objects = builtin_value ∷ [] }
+
+-- its table as it opens
+abbrev pub builtin_table : {A : Type 0} → PlainTable A
+builtin_table = opening_table builtin_site
+
+-- what it says of itself: its instance, the longest APDU, segments both ways, and its vendor (16.10.3)
+abbrev pub builtin_i_am : IAm
+builtin_i_am = record { instance = 99; max_apdu = 1476; segmentation = Both; vendor = 0 }

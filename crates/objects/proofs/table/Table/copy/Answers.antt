@@ -1,0 +1,8 @@
+use Rattle.std.proofs.Common.{◌∙◌, ap}
+use Rattle.std.specs.Prelude.{map}
+use Rattle.objects.specs.Objects.{PlainTable, identifier}
+use Rattle.objects.proofs.table.Table.copy.Goals as goal
+
+pub invariant_of-result : goal.invariant_of-result
+invariant_of-result g c =
+    (c.in_ok-places.ensures ∙ ap (λ (t : PlainTable _). map identifier t) c.deref-2.ensures.value, rw (c.in_ok-objects.ensures, c.deref.ensures.value) c.self.invariant.1)

@@ -1,0 +1,232 @@
+//! What is read (12, 15.5, 15.7).
+
+use super::*;
+use std::test::*;
+
+/// Rows of ReadProperty and their replies.
+const READ: [(ObjectId, u32, Option<u32>, &str); 27] = [
+    (UNKNOWN, 85, None, "error 1 31"),
+    (UNKNOWN, 117, Some(1), "error 1 31"),
+    (
+        ObjectId {
+            object_type: 8,
+            instance: 1,
+        },
+        75,
+        None,
+        "error 1 31",
+    ),
+    (LAMP, 117, None, "error 2 32"),
+    (LAMP, 117, Some(1), "error 2 32"),
+    (LAMP, 8, None, "error 2 32"),
+    (LAMP, 80, None, "error 2 32"),
+    (LAMP, 105, None, "error 2 32"),
+    (LAMP, 85, Some(1), "error 2 50"),
+    (LAMP, 85, Some(0), "error 2 50"),
+    (LEVEL, 77, Some(1), "error 2 50"),
+    (DEVICE, 97, Some(1), "error 2 50"),
+    (LEVEL, 87, Some(17), "error 2 42"),
+    (LEVEL, 87, Some(4_294_967_295), "error 2 42"),
+    (DEVICE, 76, Some(6), "error 2 42"),
+    (LAMP, 85, None, "values enum 1"),
+    (MODE, 85, None, "values unsigned 2"),
+    (LABEL, 85, None, "values text on"),
+    (LEVEL, 85, None, "values signed 7"),
+    (LEVEL, 87, Some(0), "values unsigned 16"),
+    (LEVEL, 87, Some(1), "values null"),
+    (LEVEL, 87, Some(16), "values null"),
+    (DEVICE, 76, Some(0), "values unsigned 5"),
+    (DEVICE, 76, Some(1), "values object 8:99"),
+    (DEVICE, 76, Some(5), "values object 45:1"),
+    (DEVICE, 30, None, "values "),
+    (DEVICE, 97, None, "values bits 5 [0, 11, 128, 0, 32]"),
+];
+
+#[test]
+fn a_property_is_read_or_the_first_rule_refuses(rt: HostRuntime) -> Result<(), Fail> {
+    let alloc = rt.alloc();
+    let table = Table::new(alloc, site(alloc)?)?;
+    for (object, property, index, answer) in &READ {
+        let reply = table.reply(&read(*object, *property, *index))?;
+        assert_eq!(rt; shown(alloc, &reply)?.as_str(), *answer);
+    }
+    Ok(())
+}
+
+/// The empty Priority_Array.
+const EMPTY: &str =
+    "null, null, null, null, null, null, null, null, null, null, null, null, null, null, null, null";
+
+/// All properties of each value object.
+#[test]
+fn all_properties_are_read_in_order(rt: HostRuntime) -> Result<(), Fail> {
+    let alloc = rt.alloc();
+    let table = Table::new(alloc, site(alloc)?)?;
+    let lamp = format!(in alloc;
+        " [5:1 75 = object 5:1; 77 = text lamp; 79 = enum 5; 85 = enum 1; 111 = bits 4 [0]; 36 = enum 0; 81 = bool false; 87 = {EMPTY}; 104 = enum 1; 28 = text as found]"
+    )?;
+    let mode = format!(in alloc;
+        " [19:1 75 = object 19:1; 77 = text mode; 79 = enum 19; 85 = unsigned 2; 111 = bits 4 [0]; 36 = enum 0; 81 = bool false; 74 = unsigned 3; 87 = {EMPTY}; 104 = unsigned 2; 28 = text as found]"
+    )?;
+    let label = format!(in alloc;
+        " [40:1 75 = object 40:1; 77 = text label; 79 = enum 40; 85 = text on; 111 = bits 4 [0]; 36 = enum 0; 81 = bool false; 87 = {EMPTY}; 104 = text on; 28 = text as found]"
+    )?;
+    let level = format!(in alloc;
+        " [45:1 75 = object 45:1; 77 = text level; 79 = enum 45; 85 = signed 7; 111 = bits 4 [0]; 36 = enum 0; 81 = bool false; 117 = enum 95; 87 = {EMPTY}; 104 = signed 7; 28 = text as found]"
+    )?;
+    let reply = table.reply(&read_many(alloc, &[LAMP, MODE, LABEL, LEVEL], &[whole(8)])?)?;
+    let all = format!(in alloc; "many{lamp}{mode}{label}{level}")?;
+    assert_eq!(rt; shown(alloc, &reply)?, all);
+    Ok(())
+}
+
+/// All properties of the Device object.
+const DEVICE_ALL: &str =
+    "many [8:99 75 = object 8:99; 77 = text station; 79 = enum 8; 112 = enum 0; 121 = text bacsite; 120 = unsigned 260; 70 = text site device; 44 = text 1; 12 = text 1; 98 = unsigned 1; 139 = unsigned 14; 97 = bits 5 [0, 11, 128, 0, 32]; 96 = bits 2 [4, 128, 16, 0, 0, 132]; 76 = object 8:99, object 5:1, object 19:1, object 40:1, object 45:1; 62 = unsigned 1476; 107 = enum 0; 167 = unsigned 64; 10 = unsigned 2000; 11 = unsigned 3000; 73 = unsigned 3; 30 = ; 155 = unsigned 1; 28 = text ]";
+
+#[test]
+fn the_device_object_is_read(rt: HostRuntime) -> Result<(), Fail> {
+    let alloc = rt.alloc();
+    let table = Table::new(alloc, site(alloc)?)?;
+    let reply = table.reply(&read_many(alloc, &[DEVICE], &[whole(8)])?)?;
+    assert_eq!(rt; shown(alloc, &reply)?.as_str(), DEVICE_ALL);
+    let mut bus = site(alloc)?;
+    bus.data_link = DataLink::MsTp;
+    let reply = Table::new(alloc, bus)?.reply(&read(DEVICE, 62, None))?;
+    assert_eq!(rt; shown(alloc, &reply)?.as_str(), "values unsigned 480");
+    Ok(())
+}
+
+/// Rows of one reference to an object in ReadPropertyMultiple and the replies.
+const MANY: [(ObjectId, PropertyReference, &str); 13] = [
+    (
+        LAMP,
+        PropertyReference {
+            property: 105,
+            index: None,
+        },
+        "many [5:1 75 = object 5:1; 77 = text lamp; 79 = enum 5; 85 = enum 1; 111 = bits 4 [0]; 36 = enum 0; 81 = bool false]",
+    ),
+    (
+        MODE,
+        PropertyReference {
+            property: 105,
+            index: None,
+        },
+        "many [19:1 75 = object 19:1; 77 = text mode; 79 = enum 19; 85 = unsigned 2; 111 = bits 4 [0]; 36 = enum 0; 81 = bool false; 74 = unsigned 3]",
+    ),
+    (
+        LABEL,
+        PropertyReference {
+            property: 105,
+            index: None,
+        },
+        "many [40:1 75 = object 40:1; 77 = text label; 79 = enum 40; 85 = text on; 111 = bits 4 [0]; 36 = enum 0; 81 = bool false]",
+    ),
+    (
+        LEVEL,
+        PropertyReference {
+            property: 105,
+            index: None,
+        },
+        "many [45:1 75 = object 45:1; 77 = text level; 79 = enum 45; 85 = signed 7; 111 = bits 4 [0]; 36 = enum 0; 81 = bool false; 117 = enum 95]",
+    ),
+    (
+        LEVEL,
+        PropertyReference {
+            property: 80,
+            index: None,
+        },
+        "many [45:1 87 = null, null, null, null, null, null, null, null, null, null, null, null, null, null, null, null; 104 = signed 7; 28 = text as found]",
+    ),
+    (
+        DEVICE,
+        PropertyReference {
+            property: 80,
+            index: None,
+        },
+        "many [8:99 28 = text ]",
+    ),
+    (
+        UNKNOWN,
+        PropertyReference {
+            property: 8,
+            index: None,
+        },
+        "many [5:2 8 ! 1 31]",
+    ),
+    (
+        UNKNOWN,
+        PropertyReference {
+            property: 105,
+            index: Some(3),
+        },
+        "many [5:2 105/3 ! 1 31]",
+    ),
+    (
+        LAMP,
+        PropertyReference {
+            property: 80,
+            index: Some(0),
+        },
+        "many [5:1 80/0 ! 2 50]",
+    ),
+    (
+        LAMP,
+        PropertyReference {
+            property: 87,
+            index: Some(17),
+        },
+        "many [5:1 87/17 ! 2 42]",
+    ),
+    (
+        LAMP,
+        PropertyReference {
+            property: 117,
+            index: None,
+        },
+        "many [5:1 117 ! 2 32]",
+    ),
+    (
+        LAMP,
+        PropertyReference {
+            property: 85,
+            index: Some(1),
+        },
+        "many [5:1 85/1 ! 2 50]",
+    ),
+    (
+        UNKNOWN,
+        PropertyReference {
+            property: 85,
+            index: None,
+        },
+        "many [5:2 85 ! 1 31]",
+    ),
+];
+
+#[test]
+fn each_reference_has_its_entries(rt: HostRuntime) -> Result<(), Fail> {
+    let alloc = rt.alloc();
+    let table = Table::new(alloc, site(alloc)?)?;
+    for (object, reference, answer) in &MANY {
+        let reply = table.reply(&read_many(alloc, &[*object], &[*reference])?)?;
+        assert_eq!(rt; shown(alloc, &reply)?.as_str(), *answer);
+    }
+    Ok(())
+}
+
+#[test]
+fn references_are_answered_in_their_order(rt: HostRuntime) -> Result<(), Fail> {
+    let alloc = rt.alloc();
+    let table = Table::new(alloc, site(alloc)?)?;
+    let request = read_many(
+        alloc,
+        &[LEVEL, UNKNOWN, LAMP],
+        &[whole(85), element(87, 17)],
+    )?;
+    let answer =
+        "many [45:1 85 = signed 7; 87/17 ! 2 42] [5:2 85 ! 1 31; 87/17 ! 1 31] [5:1 85 = enum 1; 87/17 ! 2 42]";
+    assert_eq!(rt; shown(alloc, &table.reply(&request)?)?.as_str(), answer);
+    Ok(())
+}

@@ -1,0 +1,2 @@
+mod apdu;
+mod unconfirmed;

@@ -1,0 +1,58 @@
+//! Lists of values between an opening and a closing tag (clause 20.2.1.3.2).
+
+ghost use Rattle.std.specs.Prelude.{◌≡◌, ◌<◌, ◌^◌, IfOk, IfErr, IfSome, IfNone, length};
+ghost use Rattle.tags.specs.Value.{IsSound, TakesValue};
+ghost use Rattle.objects.specs.Sound.{AreSound};
+ghost use Rattle.services.specs.Fields.{TakesClosing, TakesInside, RejectsValue, RejectsInside};
+ghost use Rattle.services.specs.Stop.{StopsFor};
+
+use crate::fields::read_closing;
+use crate::numbers::RejectReason;
+use crate::stop::Stop;
+use objects::Values;
+use std::alloc::Allocator;
+use tags::{Fault, Items, Reader, Value, read_value};
+
+/// The values up to the closing tag of this number, which is read too (20.2.1.3.2).
+///
+/// # Errors
+/// `InvalidTag` where a tag is cut or not well formed, or closes another list,
+/// `InvalidParameterDataType` for contents that are no value of their tag; want of memory.
+#[tactic(auto, using(crate::proofs::ValueLists::list_laws))]
+pub(crate) fn read_values<A: Allocator + Copy>(
+    alloc: A,
+    reader: &mut Reader<'_>,
+    number: u8,
+) -> Result<Values<A>, Stop>
+    ensures read { IfOk result (λ values. TakesInside reader.old number values reader.new) }
+    ensures sound { IfOk result (λ values. length reader.old < 2 ^ 31 → AreSound values) }
+    ensures rejected { IfErr result (λ stop. StopsFor (λ reason. RejectsInside A reason reader.old number) stop) }
+{
+    let mut values = Items::new(alloc);
+    while let Some(value) = next_value(alloc, reader, number)? {
+        values.push(value)?;
+    }
+    Ok(values)
+}
+
+/// The value that stands next, or `None` behind the closing tag of this number.
+fn next_value<A: Allocator + Copy>(
+    alloc: A,
+    reader: &mut Reader<'_>,
+    number: u8,
+) -> Result<Option<Value<A>>, Stop>
+    ensures read { IfOk result (λ found. IfSome found (λ v. TakesValue reader.old v reader.new)) }
+    ensures sound { IfOk result (λ found. IfSome found (λ v. length reader.old < 2 ^ 31 → IsSound v)) }
+    ensures closed { IfOk result (λ found. IfNone found (TakesClosing reader.old number reader.new)) }
+    ensures rejected { IfErr result (λ stop. StopsFor (λ reason. RejectsValue reason reader.old number) stop) }
+{
+    match read_value(alloc, reader) {
+        Ok(value) => Ok(Some(value)),
+        Err(Fault::Memory) => Err(Stop::Memory),
+        Err(Fault::BadLength) => Err(Stop::Reject(RejectReason::InvalidParameterDataType)),
+        Err(_) => {
+            read_closing(reader, number)?;
+            Ok(None)
+        }
+    }
+}
