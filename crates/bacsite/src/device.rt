@@ -21,8 +21,8 @@ use crate::saying::{answer_datagram, apdu_octets, global_datagram, way_back, who
 use npdu::{Destination, Mac};
 use objects::{DataLink, Reply, Request, SiteObject, SiteObjects, Table, ValueKind};
 use services::{
-    Apdu, IAm, MaxApdu, ObjectPropertyReference, RejectReason, Segmentation, ServiceError,
-    UnconfirmedService, decode_request, encode_reply, service_of, who_is_from, write_i_am,
+    Answer, Apdu, IAm, MaxApdu, RejectReason, Segmentation, UnconfirmedService, answer_of,
+    decode_request, encode_reply, service_of, who_is_from, write_i_am,
 };
 use std::alloc::{AllocError, Allocator};
 use std::marker::Model;
@@ -243,41 +243,18 @@ fn answer_apdu<'a, A: Allocator>(
     ensures sound { CanBeWritten (apdu_of result) }
 {
     let service = u8::from(service_of(request));
-    match reply {
-        Reply::Values(_) | Reply::Many(_) => Apdu::ComplexAck {
+    match answer_of(reply, body) {
+        Answer::Simple => Apdu::SimpleAck { invoke_id, service },
+        Answer::Complex(data) => Apdu::ComplexAck {
             segment: None,
             invoke_id,
             service,
-            data: body,
+            data,
         },
-        Reply::Done => Apdu::SimpleAck { invoke_id, service },
-        Reply::Error(class, code) => Apdu::Error {
+        Answer::Error(error) => Apdu::Error {
             invoke_id,
             service,
-            error: ServiceError {
-                class: *class,
-                code: *code,
-                first_failed: None,
-            },
-        },
-        Reply::ErrorAt {
-            class,
-            code,
-            object,
-            property,
-            index,
-        } => Apdu::Error {
-            invoke_id,
-            service,
-            error: ServiceError {
-                class: *class,
-                code: *code,
-                first_failed: Some(ObjectPropertyReference {
-                    object: *object,
-                    property: *property,
-                    index: *index,
-                }),
-            },
+            error,
         },
     }
 }
