@@ -11,14 +11,14 @@ use Rattle.services.specs.Numbers.{reject_number}
 use Rattle.services.specs.Request.{SpellsRequest, RejectsRequest}
 use Rattle.services.specs.declared.numbers.RejectReason.{RejectReason}
 use Rattle.bacsite.specs.Answer.{printed, sender, SomeResponse, PrintsAnswer}
-use Rattle.bacsite.specs.HexText.{SpellsHex}
+use Rattle.bacsite.specs.HexText.{SpellsHex, OnlyHex}
 use Rattle.bacsite.specs.Respond.{Responds, Executes, Rejects, answer_datagram, answer_octets}
 
 pub some_response : {A : Type 0} (datagram : List ℕ) (table left : PlainTable A) (said : List (List ℕ)) → Responds sender datagram table left said → SomeResponse datagram table said
 some_response datagram table left said r = record { left = left; responds = r }
 
-pub prints_answer : {A : Type 0} (table : PlainTable A) (text : List ℕ) (old new : Option (List ℕ)) (datagram : List ℕ) (said : List (List ℕ)) → SpellsHex text datagram → SomeResponse datagram table said → Appends old new (printed said) → PrintsAnswer table text old new
-prints_answer table text old new datagram said spelled response appended = record { datagram = datagram; said = said; spelled = spelled; response = response; appended = appended }
+pub prints_answer : {A : Type 0} (table : PlainTable A) (text : List ℕ) (old new : Option (List ℕ)) (datagram : List ℕ) (said : List (List ℕ)) → SpellsHex text datagram → OnlyHex text datagram → SomeResponse datagram table said → Appends old new (printed said) → PrintsAnswer table text old new
+prints_answer table text old new datagram said spelled only response appended = record { datagram = datagram; said = said; spelled = spelled; only = only; response = response; appended = appended }
 
 -- a request that is spelled is executed
 pub is_executed : {A : Type 0} (t left : PlainTable A) (way : Option PlainDestination) (size invoke service : ℕ) (body : List ℕ) (said : List (List ℕ)) (request : Request A) →

@@ -4,7 +4,7 @@ use Rattle.std.specs.Io.KnownBytes.{Appends}
 use Rattle.npdu.specs.declared.mac.Mac.{Mac}
 use Rattle.npdu.specs.declared.mac.Mac.TheVariants.{Six}
 use Rattle.objects.specs.Objects.{PlainTable}
-use Rattle.bacsite.specs.HexText.{SpellsHex, pairs_of}
+use Rattle.bacsite.specs.HexText.{SpellsHex, OnlyHex, pairs_of}
 use Rattle.bacsite.specs.Respond.{Responds}
 
 -- what is printed of the datagrams that are said: each on a line, or the word none
@@ -21,10 +21,11 @@ pub record SomeResponse {A : Type 0} (datagram : List ℕ) (table : PlainTable A
   pub left : PlainTable A
   pub responds : Responds sender datagram table left said
 
--- the text spells a datagram, and what the device says to it is printed
+-- the text spells a datagram and no other, and what the device says to it is printed
 pub record PrintsAnswer {A : Type 0} (table : PlainTable A) (text : List ℕ) (old new : Option (List ℕ)) : Type 0 where
   pub datagram : List ℕ
   pub said : List (List ℕ)
   pub spelled : SpellsHex text datagram
+  pub only : OnlyHex text datagram
   pub response : SomeResponse datagram table said
   pub appended : Appends old new (printed said)

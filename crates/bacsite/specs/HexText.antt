@@ -13,10 +13,18 @@ pub record TakesPair (text : List ℕ) (octet : ℕ) (after : List ℕ) : Type 0
   pub two : length pair ≡ 2
   pub parts : text ≡ pair ++ after
 
+-- the front of a text is no pair of digits
+pub record TakesNoPair (text : List ℕ) : Type 0 where
+  pub none : (octet : ℕ) (after : List ℕ) → TakesPair text octet after → ⊥
+
 -- a text is some spaces, and then the rest
 pub record HasSpacesBefore (text rest : List ℕ) : Type 0 where
   pub spaces : ℕ
   pub parts : text ≡ replicate spaces 32 ++ rest
+
+-- a text begins with no space
+pub record BeginsWithoutSpace (text : List ℕ) : Type 0 where
+  pub none : (after : List ℕ) → text ≡ 32 ∷ after → ⊥
 
 -- a text is a pair of digits, any number of spaces, and a text of the others
 pub record ThenPairs (text : List ℕ) (octet : ℕ) (Rest : List ℕ → Type 0) : Type 0 where
@@ -32,6 +40,14 @@ abbrev pub SpellsHex : List ℕ → List ℕ → Type 0
 SpellsHex text [] = ⊥
 SpellsHex text (o ∷ []) = IsPair text o
 SpellsHex text (o ∷ p ∷ os) = ThenPairs text o (λ rest. SpellsHex rest (p ∷ os))
+
+-- the text spells no other octets
+pub record OnlyHex (text octets : List ℕ) : Type 0 where
+  pub only : (other : List ℕ) → SpellsHex text other → other ≡ octets
+
+-- the text spells no octets
+pub record NoHex (text : List ℕ) : Type 0 where
+  pub none : (octets : List ℕ) → SpellsHex text octets → ⊥
 
 -- a digit, from A on in upper case
 abbrev pub digit : ℕ → ℕ

@@ -9,6 +9,7 @@ ghost use Rattle.bacsite.specs.Respond.{Responds};
 
 use crate::device::{Builtin, respond};
 use crate::hex_text::{push_pairs, read_hex};
+use crate::refusal::say_failed;
 use npdu::Mac;
 use std::alloc::{AllocError, Allocator};
 use std::io;
@@ -30,7 +31,10 @@ pub fn answer_line<A: Allocator + Copy, W: Write, E: Write>(
     ensures status { result ≤ 1 }
     ensures answered { result ≡ 0 → PrintsAnswer (builtin_table {A = A}) (join_with_byte 32 (map string_bytes words.now)) (W.contents out.old) (W.contents out.new) }
 {
-    answer(alloc, words, out, err).unwrap_or(1)
+    match answer(alloc, words, out, err) {
+        Ok(status) => status,
+        Err(error) => say_failed(&error, err),
+    }
 }
 
 fn answer<A: Allocator + Copy, W: Write, E: Write>(
@@ -47,7 +51,7 @@ fn answer<A: Allocator + Copy, W: Write, E: Write>(
         return Ok(1);
     };
     let Ok(said) = said_to(alloc, datagram.as_slice()) else {
-        return Ok(1);
+        return Err(io::ErrorKind::OutOfMemory.into());
     };
     print(alloc, said.as_slice(), out)?;
     Ok(0)

@@ -21,8 +21,9 @@ use crate::saying::{answer_datagram, apdu_octets, global_datagram, way_back, who
 use npdu::{Destination, Mac};
 use objects::{DataLink, Reply, Request, SiteObject, SiteObjects, Table, ValueKind};
 use services::{
-    Answer, Apdu, IAm, MaxApdu, RejectReason, Segmentation, UnconfirmedService, answer_of,
-    decode_request, encode_reply, service_of, who_is_from, write_i_am,
+    Answer, Apdu, Executor, IAm, MaxApdu, ObjectExecutor, RejectReason, Segmentation,
+    UnconfirmedService, answer_of, decode_request, encode_reply, service_of, who_is_from,
+    write_i_am,
 };
 use std::alloc::{AllocError, Allocator};
 use std::marker::Model;
@@ -32,7 +33,7 @@ use tags::{Fault, Items, Octets, Value};
 /// Relinquish_Default is active.
 #[derive(Drop)]
 pub struct Builtin<A: Allocator> {
-    table: Table<A>,
+    executor: ObjectExecutor<A>,
 }
 
 impl<A: Allocator> Model for Builtin<A> {
@@ -40,7 +41,7 @@ impl<A: Allocator> Model for Builtin<A> {
 
     ghost Value = { PlainTable A };
 
-    ghost view = { λ s. s.table };
+    ghost view = { λ s. s.executor.table };
 }
 
 /// The instance of the built-in device.
@@ -68,8 +69,9 @@ impl<A: Allocator + Copy> Builtin<A> {
         ensures opened { IfOk result (λ device. device ≡ builtin_table) }
         ensures memory { IfErr result (λ fault. fault ≡ Fault.Memory) }
     {
+        let table = Table::new(alloc, builtin_site(alloc)?)?;
         Ok(Builtin {
-            table: Table::new(alloc, builtin_site(alloc)?)?,
+            executor: ObjectExecutor { table },
         })
     }
 
@@ -78,13 +80,7 @@ impl<A: Allocator + Copy> Builtin<A> {
         ensures done { OnOk result (self.new ≡ after self.old request.now) }
         ensures unchanged { OnErr result (self.new ≡ self.old) }
     {
-        match request {
-            Request::Read { .. } | Request::ReadMany(_) => Ok(()),
-            Request::Write { .. } | Request::WriteMany(_) => {
-                self.table.apply(request)?;
-                Ok(())
-            }
-        }
+        self.executor.run(request)
     }
 }
 
@@ -222,7 +218,7 @@ fn reply_octets<A: Allocator + Copy>(
     ensures few { IfOk result (λ octets. length octets ≤ 1476) }
     ensures memory { IfErr result (λ fault. fault ≡ Fault.Memory) }
 {
-    let reply = device.table.reply(request)?;
+    let reply = device.executor.reply(request)?;
     let mut body = Vec::new(alloc);
     encode_reply(request, &reply, &mut body)?;
     let apdu = answer_apdu(invoke_id, request, &reply, body.as_slice());

@@ -6,6 +6,7 @@ ghost use Rattle.bacsite.specs.Explain.{AreTags, HasTags, IsWholeApdu, IsWholeNp
 ghost use Rattle.services.specs.Apdu.{apdu_of};
 
 use crate::hex_text::read_hex;
+use crate::refusal::say_failed;
 use bvll::Bvll;
 use npdu::{Message, View};
 use services::{Apdu, PduType, Segment};
@@ -64,7 +65,10 @@ pub fn explain_line<A: Allocator + Copy, W: Write, E: Write>(
     ensures status { result ≤ 1 }
     ensures whole { result ≡ 0 → SpellsWhole (join_with_byte 32 (map string_bytes words.now)) }
 {
-    explain(alloc, words, out, err).unwrap_or(1)
+    match explain(alloc, words, out, err) {
+        Ok(status) => status,
+        Err(error) => say_failed(&error, err),
+    }
 }
 
 fn explain<A: Allocator + Copy, W: Write, E: Write>(

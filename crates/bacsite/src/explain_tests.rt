@@ -15,7 +15,7 @@ const READ_TEXT: &str =
 /// Whole datagrams, and their texts. Each text is made by hand: the datagram's octets are parted by
 /// the tables of 6.2, 20.1, 20.2.1 and Annex J, and each part is written down as the line of its
 /// field, lengths and numbers in decimal, all else as the digits of its octets.
-const WHOLE: [(&str, &str); 30] = [
+const WHOLE: [(&str, &str); 33] = [
     (READ, READ_TEXT),
     // spaces between pairs or none, digits of both cases
     ("810a0011 01040265 01   0C0c 01400001 1955", READ_TEXT),
@@ -79,6 +79,12 @@ const WHOLE: [(&str, &str); 30] = [
     ("81 05 00 06 00 3C", "bvll 05 6\noctets 003C\n"),
     ("81 00 00 06 00 60", "bvll 00 6\noctets 0060\n"),
     ("81 06 00 04", "bvll 06 4\n"),
+    ("81 01 00 04", "bvll 01 4\n"),
+    ("81 02 00 04", "bvll 02 4\n"),
+    (
+        "81 08 00 0A 7F 00 00 01 BA D0",
+        "bvll 08 10\noctets 7F000001BAD0\n",
+    ),
     (
         "81 07 00 0E 7F 00 00 01 BA D0 00 3C 00 50",
         "bvll 07 14\noctets 7F000001BAD0003C0050\n",
@@ -487,7 +493,11 @@ fn each_allocation_refused_in_turn(rt: HostRuntime) -> Result<(), Fail> {
         refusals = n;
         assert_eq!(rt; status, 1, "at {n}");
         assert!(rt; out.is_empty(), "at {n}");
-        assert!(rt; err.is_empty(), "at {n}");
+        assert_eq!(rt;
+            err.as_slice(),
+            b"bacsite: refused 1 Memory\n".as_slice(),
+            "at {n}"
+        );
         assert_eq!(rt;
             explain_line(&memory, words.as_slice(), &mut out, &mut err),
             0,

@@ -1,8 +1,8 @@
 //! Octets as pairs of hexadecimal digits.
 
-ghost use Rattle.std.specs.Prelude.{◌≡◌, ◌<◌, ◌++◌, IfOk, IfSome, OnOk, map, string_bytes};
+ghost use Rattle.std.specs.Prelude.{◌≡◌, ◌<◌, ◌++◌, IfOk, IfSome, IfNone, OnOk, map, string_bytes};
 ghost use Rattle.std.specs.List.{join_with_byte};
-ghost use Rattle.bacsite.specs.HexText.{TakesPair, HasSpacesBefore, SpellsHex, digit, pairs_of};
+ghost use Rattle.bacsite.specs.HexText.{TakesPair, TakesNoPair, HasSpacesBefore, BeginsWithoutSpace, SpellsHex, OnlyHex, NoHex, digit, pairs_of};
 
 use std::alloc::{AllocError, Allocator};
 
@@ -12,7 +12,9 @@ pub(crate) fn read_hex<A: Allocator + Copy>(
     alloc: A,
     words: &[String],
 ) -> Result<Option<Vec<u8, A>>, AllocError>
-    ensures { IfOk result (λ found. IfSome found (λ octets. SpellsHex (join_with_byte 32 (map string_bytes words.now)) octets.items)) }
+    ensures read { IfOk result (λ found. IfSome found (λ octets. SpellsHex (join_with_byte 32 (map string_bytes words.now)) octets.items)) }
+    ensures only { IfOk result (λ found. IfSome found (λ octets. OnlyHex (join_with_byte 32 (map string_bytes words.now)) octets.items)) }
+    ensures faulty { IfOk result (λ found. IfNone found (NoHex (join_with_byte 32 (map string_bytes words.now)))) }
 {
     let text = joined(alloc, words)?;
     octets_of(alloc, text.as_slice())
@@ -35,8 +37,11 @@ fn joined<A: Allocator>(alloc: A, words: &[String]) -> Result<Vec<u8, A>, AllocE
 }
 
 /// The octets that a text spells.
+#[tactic(auto, using(crate::proofs::HexLaws::text_laws))]
 fn octets_of<A: Allocator>(alloc: A, text: &[u8]) -> Result<Option<Vec<u8, A>>, AllocError>
-    ensures { IfOk result (λ found. IfSome found (λ octets. SpellsHex text.now octets.items)) }
+    ensures read { IfOk result (λ found. IfSome found (λ octets. SpellsHex text.now octets.items)) }
+    ensures only { IfOk result (λ found. IfSome found (λ octets. OnlyHex text.now octets.items)) }
+    ensures faulty { IfOk result (λ found. IfNone found (NoHex text.now)) }
 {
     let mut octets = Vec::new(alloc);
     let mut rest = text;
@@ -51,21 +56,26 @@ fn octets_of<A: Allocator>(alloc: A, text: &[u8]) -> Result<Option<Vec<u8, A>>, 
 }
 
 /// The octet that two digits at the front spell, and what follows them.
+#[tactic(auto, using(crate::proofs::HexLaws::pair_laws))]
 fn front_pair(text: &[u8]) -> Option<(u8, &[u8])>
-    ensures { IfSome result (λ found. TakesPair text.now found.0 found.1.now) }
+    ensures taken { IfSome result (λ found. TakesPair text.now found.0 found.1.now) }
+    ensures none { IfNone result (TakesNoPair text.now) }
 {
     if text.len() < 2 {
         return None;
     }
     let (pair, after) = text.split_at(2);
     let mut octet = [0u8];
-    hex::decode_to_slice(pair, &mut octet).ok()?;
-    Some((octet[0], after))
+    match hex::decode_to_slice(pair, &mut octet) {
+        Ok(()) => Some((octet[0], after)),
+        Err(_) => None,
+    }
 }
 
 /// The text from its first octet on that is no space.
 fn without_spaces(text: &[u8]) -> &[u8]
-    ensures { HasSpacesBefore text.now result.now }
+    ensures spaces { HasSpacesBefore text.now result.now }
+    ensures all { BeginsWithoutSpace result.now }
 {
     let mut rest = text;
     while let [first, after @ ..] = rest {

@@ -1,6 +1,6 @@
 //! The program `bacsite`: BACnet devices at work, from the command line.
 //!
-//! - `order`, `program`: the command line and what is done for it.
+//! - `order`, `program`, `refusal`: the command line, what is done for it, and why it isn't.
 //! - `answer`, `hex_text`: one datagram as hexadecimal digits, and what is said to it.
 //! - `hearing`, `device`, `saying`: the built-in device, from octets to octets.
 //! - `explain`: one datagram taken apart.
@@ -13,12 +13,15 @@ mod hearing;
 mod hex_text;
 mod order;
 mod program;
+mod refusal;
 mod saying;
 
+use refusal::say_refused;
 use std::alloc::Global;
 use std::io::Write;
 use std::process::ExitCode;
 use std::{env, io};
+use tags::Fault;
 
 fn main(rt: HostRuntime) -> ExitCode {
     let alloc: Global = rt.alloc();
@@ -27,8 +30,7 @@ fn main(rt: HostRuntime) -> ExitCode {
     match words_of(&rt) {
         Ok(words) => ExitCode::from(program::run(alloc, words.as_slice(), &mut out, &mut err)),
         Err(error) if error.kind() == io::ErrorKind::OutOfMemory => {
-            let _ = writeln!(err, "bacsite: refused 1 Memory");
-            ExitCode::from(1)
+            ExitCode::from(say_refused(Fault::Memory, &mut err))
         }
         Err(error) => {
             let _ = writeln!(err, "bacsite: {error}");

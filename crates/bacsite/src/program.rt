@@ -5,11 +5,13 @@ ghost use Rattle.std.specs.Prelude.{◌≤◌, IfOk};
 use crate::answer::answer_line;
 use crate::explain::explain_line;
 use crate::order::{Order, order_of};
+use crate::refusal::say_refused;
 use clap::Error;
 use clap::error::ErrorKind;
 use std::alloc::Global;
 use std::io;
 use std::io::Write;
+use tags::Fault;
 
 /// Does what the words ask for, the first of them being the program's name, and answers the exit
 /// status: 0, also for help, which is printed on `out`; 1 for what a command refuses; 2 for a
@@ -29,8 +31,7 @@ fn show<W: Write, E: Write>(error: &Error, out: &mut W, err: &mut E) -> io::Resu
     ensures status { IfOk result (λ status. status ≤ 2) }
 {
     if error.kind() == ErrorKind::OutOfMemory {
-        writeln!(err, "bacsite: refused 1 Memory")?;
-        return Ok(1);
+        return Ok(say_refused(Fault::Memory, err));
     }
     if error.use_stderr() {
         write!(err, "{error}")?;

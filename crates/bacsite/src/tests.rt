@@ -74,7 +74,7 @@ const READ_ROWS: [(&str, &str); 14] = [
 ];
 
 /// The other services, their errors and rejects.
-const SERVICE_ROWS: [(&str, &str); 18] = [
+const SERVICE_ROWS: [(&str, &str); 19] = [
     // present value, and the priority array at 17
     (
         "81 0A 00 17 01 04 02 65 04 0E 0C 01 40 00 01 1E 09 55 09 57 19 11 1F",
@@ -136,6 +136,11 @@ const SERVICE_ROWS: [(&str, &str); 18] = [
     (
         "81 0A 00 19 01 04 00 05 03 10 0C 01 40 00 01 1E 09 55 2E 91 00 2F 39 08 1F",
         "81 0A 00 09 01 00 20 03 10\n",
+    ),
+    // writes to two objects, of which there is no second
+    (
+        "81 0A 00 26 01 04 00 05 05 10 0C 01 40 00 01 1E 09 55 2E 91 00 2F 39 08 1F 0C 01 40 00 02 1E 09 55 2E 91 00 2F 1F",
+        "81 0A 00 18 01 00 50 05 10 0E 91 01 91 1F 0F 1E 0C 01 40 00 02 19 55 1F\n",
     ),
     // all properties of the Device object, more than the 50 octets that the requester takes
     (
@@ -212,7 +217,19 @@ fn walks_deep_values(rt: HostRuntime) -> Result<(), Fail> {
         0x19, 0x55,
     ];
     // 1400 opening tags, and 700 of them closed again
-    for (opened, said_last) in [(1400, 0x04), (700, 0x09)] {
+    let rows: [(u32, &[u8]); 2] = [
+        (
+            1400,
+            &[0x81, 0x0A, 0x00, 0x09, 0x01, 0x00, 0x60, 0x02, 0x04],
+        ),
+        (
+            700,
+            &[
+                0x81, 0x0A, 0x00, 0x0D, 0x01, 0x00, 0x50, 0x02, 0x0F, 0x91, 0x02, 0x91, 0x09,
+            ],
+        ),
+    ];
+    for (opened, answer) in rows {
         let mut octets = Vec::from_slice(rt.alloc(), &front)?;
         for place in 0..1400u32 {
             octets.push(if place < opened { 0x3E } else { 0x3F })?;
@@ -220,8 +237,8 @@ fn walks_deep_values(rt: HostRuntime) -> Result<(), Fail> {
         let mut device = Builtin::new(rt.alloc())?;
         let said = respond(rt.alloc(), &mut device, from, octets.as_slice())?;
         assert_eq!(rt; said.len(), 1);
-        for answer in said.as_slice() {
-            assert_eq!(rt; answer.as_slice().last().copied(), Some(said_last));
+        for datagram in said.as_slice() {
+            assert_eq!(rt; datagram.as_slice(), answer);
         }
     }
     Ok(())
@@ -349,6 +366,11 @@ fn each_allocation_refused_in_turn(rt: HostRuntime) -> Result<(), Fail> {
         assert_eq!(rt; status, 1, "at {n}");
         assert!(rt; out.is_empty(), "at {n}");
         assert_eq!(rt;
+            err.as_slice(),
+            b"bacsite: refused 1 Memory\n".as_slice(),
+            "at {n}"
+        );
+        assert_eq!(rt;
             answer_line(&memory, words.as_slice(), &mut out, &mut err),
             0,
             "at {n}"
@@ -363,14 +385,49 @@ fn each_allocation_refused_in_turn(rt: HostRuntime) -> Result<(), Fail> {
 fn responds_with_ample_memory(rt: HostRuntime) -> Result<(), Fail> {
     let from = Mac::Six([127, 0, 0, 1, 0xBA, 0xC1]);
     let mut device = Builtin::new(rt.alloc())?;
-    let asked = [
-        0x81, 0x0A, 0x00, 0x11, 0x01, 0x04, 0x02, 0x65, 0x01, 0x0C, 0x0C, 0x01, 0x40, 0x00, 0x01,
-        0x19, 0x55,
-    ];
-    let said = respond(rt.alloc(), &mut device, from, &asked)?;
+    let asked = read_hex(rt.alloc(), words(&rt, ASKED)?.as_slice())?.ok_or("digits")?;
+    let answer = read_hex(rt.alloc(), words(&rt, ANSWERED.trim_end())?.as_slice())?;
+    let said = respond(rt.alloc(), &mut device, from, asked.as_slice())?;
     assert_eq!(rt; said.len(), 1);
+    for datagram in said.as_slice() {
+        assert_eq!(rt;
+            Some(datagram.as_slice()),
+            answer.as_ref().map(Vec::as_slice)
+        );
+    }
     let said = respond(rt.alloc(), &mut device, from, &[])?;
     assert!(rt; said.is_empty());
+    Ok(())
+}
+
+/// A write that memory is refused for leaves the device as it was.
+#[test]
+fn a_write_without_memory_leaves_the_device(rt: HostRuntime) -> Result<(), Fail> {
+    let from = Mac::Six([127, 0, 0, 1, 0xBA, 0xC1]);
+    let write = words(&rt, SERVICE_ROWS[1].0)?;
+    let write = read_hex(rt.alloc(), write.as_slice())?.ok_or("digits")?;
+    let read = read_hex(rt.alloc(), words(&rt, ASKED)?.as_slice())?.ok_or("digits")?;
+    let before = words(&rt, ANSWERED.trim_end())?;
+    let before = read_hex(rt.alloc(), before.as_slice())?.ok_or("digits")?;
+    let mut refusals = 0;
+    for n in 1..1000u64 {
+        let memory = Refusing::new(rt.alloc());
+        let mut device = Builtin::new(&memory)?;
+        memory.refuse_only(n);
+        let result = respond(&memory, &mut device, from, write.as_slice());
+        if memory.is_waiting() {
+            assert!(rt; result.is_ok());
+            break;
+        }
+        refusals = n;
+        assert!(rt; matches!(result, Err(Fault::Memory)), "at {n}");
+        let said = respond(&memory, &mut device, from, read.as_slice())?;
+        assert_eq!(rt; said.len(), 1, "at {n}");
+        for datagram in said.as_slice() {
+            assert_eq!(rt; datagram.as_slice(), before.as_slice(), "at {n}");
+        }
+    }
+    assert!(rt; refusals > 3);
     Ok(())
 }
 

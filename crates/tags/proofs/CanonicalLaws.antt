@@ -77,10 +77,10 @@ width_fits n lt =
 number_mod : (k x : ℕ) → big_number k (big_bytes k x) ≡ x % 256 ^ k
 number_mod k x = ap (big_number k) (sym (append-nil (big_bytes k x))) ∙ big_from-bytes k x []
 
-number_again : (k x : ℕ) → x < 256 ^ k → big_number k (big_bytes k x) ≡ x
+pub number_again : (k x : ℕ) → x < 256 ^ k → big_number k (big_bytes k x) ≡ x
 number_again k x lt = ap (big_number k) (sym (append-nil (big_bytes k x))) ∙ big_number-reads_back k x [] lt
 
-unsigned_spells : (n : ℕ) → n < 2 ^ 32 → SpellsUnsigned (unsigned_octets n) n
+pub unsigned_spells : (n : ℕ) → n < 2 ^ 32 → SpellsUnsigned (unsigned_octets n) n
 unsigned_spells n lt =
     let w = width_fits n lt in
     let len = length-bytes_high_first (width n) n in

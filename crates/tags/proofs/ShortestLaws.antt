@@ -71,7 +71,7 @@ no_length_octet : (n : ℕ) → n < 5 → length (length_octets (shortest n) n) 
 unfolding shortest
 no_length_octet n lt = rw (lt-ltb n 5 lt) refl
 
-few_octets : (class : Class) (number : ℕ) (octets : List ℕ) → length octets ≤ 4 → length (tagged class number octets) ≡ length (initial_octets class number 0) + length octets
+pub few_octets : (class : Class) (number : ℕ) (octets : List ℕ) → length octets ≤ 4 → length (tagged class number octets) ≡ length (initial_octets class number 0) + length octets
 few_octets class number octets few =
     let none = no_length_octet (length octets) (omega arith) in
     let len = tagged_length class number octets in
@@ -111,7 +111,7 @@ least_width n (suc (suc (suc (suc k)))) some lt =
       ]
     ]
 
-fewest_unsigned : (octets : List ℕ) (n : ℕ) → AreOctets octets → SpellsUnsigned octets n → length (unsigned_octets n) ≤ length octets
+pub fewest_unsigned : (octets : List ℕ) (n : ℕ) → AreOctets octets → SpellsUnsigned octets n → length (unsigned_octets n) ≤ length octets
 fewest_unsigned octets n fits s =
     let lt = big_from-lt 0 (length octets) octets fits in
     rw (length-bytes_high_first (width n) n) (least_width n (length octets) s.some (rw (s.value) lt))
