@@ -2,14 +2,14 @@
 use Rattle.std.proofs.Common.{◌≡◌, ◌⊎◌, inl, inr, ℕ, List, [], ◌∷◌, Option}
 use Rattle.std.specs.Io.KnownBytes.{Appends}
 use Rattle.npdu.specs.Header.{PlainDestination}
-use Rattle.objects.specs.declared.plain_data.Request.{Request}
+use Rattle.primitives.specs.declared.plain_data.Request.{Request}
 use Rattle.objects.specs.Machine.{reply, after}
 use Rattle.objects.specs.Objects.{PlainTable}
-use Rattle.services.specs.Apdu.{reject_pdu}
-use Rattle.services.specs.ApduWriting as application
-use Rattle.services.specs.Numbers.{reject_number}
+use Rattle.apdu.specs.Apdu.{reject_pdu}
+use Rattle.apdu.specs.ApduWriting as application
+use Rattle.apdu.specs.Numbers.{reject_number}
 use Rattle.services.specs.Request.{SpellsRequest, RejectsRequest}
-use Rattle.services.specs.declared.numbers.RejectReason.{RejectReason}
+use Rattle.apdu.specs.declared.numbers.RejectReason.{RejectReason}
 use Rattle.bacsite.specs.Answer.{printed, sender, SomeResponse, PrintsAnswer}
 use Rattle.bacsite.specs.HexText.{SpellsHex, OnlyHex}
 use Rattle.bacsite.specs.Respond.{Responds, Executes, Rejects, answer_datagram, answer_octets}

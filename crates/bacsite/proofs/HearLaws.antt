@@ -5,7 +5,7 @@ use Rattle.std.proofs.lemmas.List.{length-append}
 use Rattle.bvll.specs.Datagram as link
 use Rattle.npdu.specs.Header as network
 use Rattle.npdu.specs.Header.{Header, PlainSource, IsSource}
-use Rattle.services.specs.Apdu as application
+use Rattle.apdu.specs.Apdu as application
 use Rattle.bacsite.specs.Hearing.{Message, Package, Heard, handed_up, unpacked, OnlyHandsUp, HandsUpNothing, Unpacks, OnlyUnpacks, UnpacksNothing, Hears, OnlyHears, HearsNothing, request_body}
 
 some_same : {X : Type 0} (x y : X) → Some x ≡ Some y → x ≡ y

@@ -7,10 +7,10 @@ use Rattle.tags.specs.declared.tag.Class.{Class}
 use Rattle.tags.specs.declared.tag.Class.TheVariants.{Application}
 use Rattle.tags.specs.Number.{width, unsigned_octets, object_octets}
 use Rattle.tags.specs.Canonical.{shortest, tag_front, tagged}
-use Rattle.services.specs.Apdu.{unconfirmed}
-use Rattle.services.specs.ApduWriting as application
-use Rattle.services.specs.Unconfirmed.{i_am_octets, segmentation_number}
-use Rattle.services.specs.declared.unconfirmed.IAm.{IAm}
+use Rattle.apdu.specs.Apdu.{unconfirmed}
+use Rattle.apdu.specs.ApduWriting as application
+use Rattle.apdu.specs.Unconfirmed.{i_am_octets, segmentation_number}
+use Rattle.apdu.specs.declared.unconfirmed.IAm.{IAm}
 use Rattle.bacsite.specs.Builtin.{builtin_i_am}
 
 width-le : (n : ℕ) → width n ≤ 4

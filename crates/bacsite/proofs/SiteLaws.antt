@@ -19,6 +19,7 @@ empty_text = rw (is_utf8-from_IsUtf8 [] ([], (refl, refl))) refl
 
 pub builtin_is_site : {A : Type 0} → IsSite (builtin_site {A = A})
 builtin_is_site = record {
+  device = (tt, tt);
   few = omega arith;
   objects = (
     record { instance = omega arith; name = device_text; vendor = omega arith; description = empty_text },

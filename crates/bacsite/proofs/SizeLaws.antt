@@ -7,9 +7,9 @@ use Rattle.byteorder.specs.Numbers.{length-bytes_high_first}
 use Rattle.npdu.specs.Dnet.{dnet_number}
 use Rattle.npdu.specs.Header.{PlainDestination, IsDestination}
 use Rattle.npdu.specs.Header as network
-use Rattle.services.specs.declared.sizes.MaxApdu.{MaxApdu}
-use Rattle.services.specs.declared.sizes.MaxApdu.TheVariants.{UpTo50, UpTo128, UpTo206, UpTo480, UpTo1024, UpTo1476, Reserved}
-use Rattle.services.specs.Sizes.{apdu_code, apdu_taken, IsNamedSize}
+use Rattle.apdu.specs.declared.sizes.MaxApdu.{MaxApdu}
+use Rattle.apdu.specs.declared.sizes.MaxApdu.TheVariants.{UpTo50, UpTo128, UpTo206, UpTo480, UpTo1024, UpTo1476, Reserved}
+use Rattle.apdu.specs.Sizes.{apdu_code, apdu_taken, IsNamedSize}
 use Rattle.bacsite.specs.Respond.{size_of, header_to}
 
 -- the size of a code is the one that it says

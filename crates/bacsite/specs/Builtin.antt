@@ -7,8 +7,8 @@ use Rattle.objects.specs.declared.site.SiteObject.{SiteObject}
 use Rattle.objects.specs.declared.site.SiteObjects.{SiteObjects}
 use Rattle.objects.specs.Objects.{PlainTable}
 use Rattle.objects.specs.Site.{opening_table}
-use Rattle.services.specs.declared.unconfirmed.IAm.{IAm}
-use Rattle.services.specs.declared.unconfirmed.Segmentation.TheVariants.{Both}
+use Rattle.apdu.specs.declared.unconfirmed.IAm.{IAm}
+use Rattle.apdu.specs.declared.unconfirmed.Segmentation.TheVariants.{Both}
 
 -- Binary Value 1, named BV1, whose Relinquish_Default is active
 abbrev pub builtin_value : {A : Type 0} → SiteObject A

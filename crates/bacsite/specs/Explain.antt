@@ -4,8 +4,8 @@ use Rattle.bvll.specs.Datagram.{Datagram, forwarded, distribute, unicast, broadc
 use Rattle.bvll.specs.Datagram as link
 use Rattle.npdu.specs.Header.{Header}
 use Rattle.npdu.specs.Header as network
-use Rattle.services.specs.Apdu.{PlainApdu, confirmed, unconfirmed, complex_ack}
-use Rattle.services.specs.Apdu as application
+use Rattle.apdu.specs.Apdu.{PlainApdu, confirmed, unconfirmed, complex_ack}
+use Rattle.apdu.specs.Apdu as application
 use Rattle.tags.specs.Element.{TakesTags}
 use Rattle.tags.specs.Tag.{PlainTag}
 use Rattle.bacsite.specs.HexText.{SpellsHex}

@@ -1,7 +1,7 @@
 -- What the code hears, seen without where its octets lie.
 use Rattle.std.specs.Prelude.{option_map}
 use Rattle.npdu.specs.Header.{source_of}
-use Rattle.services.specs.Apdu.{apdu_of}
+use Rattle.apdu.specs.Apdu.{apdu_of}
 use Rattle.bacsite.specs.declared.hearing.Heard.{Heard}
 use Rattle.bacsite.specs.declared.hearing.Message.{Message}
 use Rattle.bacsite.specs.declared.hearing.Package.{Package}

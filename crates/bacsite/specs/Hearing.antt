@@ -5,8 +5,8 @@ use Rattle.npdu.specs.Header.{Header, PlainDestination, PlainSource}
 use Rattle.npdu.specs.Header as network
 use Rattle.npdu.specs.declared.view.Dnet.{Dnet}
 use Rattle.npdu.specs.declared.view.Dnet.TheVariants.{Network, Global}
-use Rattle.services.specs.Apdu.{PlainApdu}
-use Rattle.services.specs.Apdu as application
+use Rattle.apdu.specs.Apdu.{PlainApdu}
+use Rattle.apdu.specs.Apdu as application
 
 -- whether DNET is the global broadcast (6.2.2)
 abbrev pub is_global : Dnet → Bool

@@ -8,20 +8,20 @@ use Rattle.npdu.specs.Mac.{mac_octets}
 use Rattle.npdu.specs.declared.mac.Mac.{Mac}
 use Rattle.npdu.specs.declared.priority.Priority.TheVariants.{Normal}
 use Rattle.npdu.specs.declared.view.Dnet.TheVariants.{Network, Global}
-use Rattle.objects.specs.declared.plain_data.Request.{Request}
-use Rattle.objects.specs.declared.plain_data.Reply.{Reply}
-use Rattle.objects.specs.declared.plain_data.Reply.TheVariants.{Done, Error, ErrorAt}
-use Rattle.objects.specs.Errors.{class_number, code_number}
+use Rattle.primitives.specs.declared.plain_data.Request.{Request}
+use Rattle.primitives.specs.declared.plain_data.Reply.{Reply}
+use Rattle.primitives.specs.declared.plain_data.Reply.TheVariants.{Done, Error, ErrorAt}
+use Rattle.primitives.specs.Errors.{class_number, code_number}
 use Rattle.objects.specs.Machine.{reply, after}
 use Rattle.objects.specs.Objects.{PlainTable}
-use Rattle.services.specs.Apdu.{PlainApdu, confirmed, unconfirmed, simple_ack, complex_ack, error_pdu, reject_pdu, abort_pdu}
-use Rattle.services.specs.ApduWriting as application
+use Rattle.apdu.specs.Apdu.{PlainApdu, confirmed, unconfirmed, simple_ack, complex_ack, error_pdu, reject_pdu, abort_pdu}
+use Rattle.apdu.specs.ApduWriting as application
 use Rattle.services.specs.CanonicalReply.{canonical_reply}
-use Rattle.services.specs.Numbers.{service_number, reject_number}
+use Rattle.apdu.specs.Numbers.{service_number, reject_number}
 use Rattle.services.specs.Request.{request_service, SpellsRequest, RejectsRequest}
-use Rattle.services.specs.Unconfirmed.{SpellsWhoIs, Covers, i_am_octets}
-use Rattle.services.specs.declared.numbers.RejectReason.{RejectReason}
-use Rattle.services.specs.declared.unconfirmed.Limits.{Limits}
+use Rattle.apdu.specs.Unconfirmed.{SpellsWhoIs, Covers, i_am_octets}
+use Rattle.apdu.specs.declared.numbers.RejectReason.{RejectReason}
+use Rattle.apdu.specs.declared.unconfirmed.Limits.{Limits}
 use Rattle.bacsite.specs.Builtin.{builtin_i_am}
 use Rattle.bacsite.specs.Hearing.{Heard, Hears, OnlyHears, HearsNothing}
 

@@ -3,16 +3,16 @@
 ghost use Rattle.std.specs.Prelude.{◌≡◌, ◌⊎◌, ◌∷◌, ◌<◌, ◌^◌, [], None, ◌≤◌, IfOk, IfErr, IfSome, IsTrue, IsFalse, OnErr, option_map, length};
 ghost use Rattle.npdu.specs.Header.{destination_of, source_of, IsDestination, IsSource};
 ghost use Rattle.npdu.specs.Mac.{mac_octets};
-ghost use Rattle.objects.specs.Answers.{IsAnswerTo};
-ghost use Rattle.objects.specs.Sound.{IsSoundReply, IsSoundRequest};
-ghost use Rattle.services.specs.Apdu.{apdu_of, reject_pdu, HasNamedNumbers};
-ghost use Rattle.services.specs.Sizes.{apdu_code, IsNamedSize};
+ghost use Rattle.primitives.specs.Answers.{IsAnswerTo};
+ghost use Rattle.primitives.specs.Sound.{IsSoundReply, IsSoundRequest};
+ghost use Rattle.apdu.specs.Apdu.{apdu_of, reject_pdu, HasNamedNumbers};
+ghost use Rattle.apdu.specs.Sizes.{apdu_code, IsNamedSize};
 ghost use Rattle.bacsite.specs.Builtin.{builtin_site};
 ghost use Rattle.bacsite.specs.Heard.{heard_of};
 ghost use Rattle.bacsite.specs.Hearing.{request_body};
 ghost use Rattle.bacsite.specs.Respond.{Responds, Says, Executes, Rejects, AsksWho, AsksOther, i_am_datagram, answer_datagram, answer_octets, answer_apdu};
-ghost use Rattle.services.specs.ApduWriting.{CanBeWritten, canonical};
-ghost use Rattle.services.specs.Numbers.{reject_number};
+ghost use Rattle.apdu.specs.ApduWriting.{CanBeWritten, canonical};
+ghost use Rattle.apdu.specs.Numbers.{reject_number};
 ghost use Rattle.services.specs.CanonicalReply.{canonical_reply};
 ghost use Rattle.objects.specs.Machine.{reply};
 

@@ -3,7 +3,7 @@
 ghost use Rattle.std.specs.Prelude.{◌≡◌, ◌≤◌, IfOk, OnOk, map, string_bytes};
 ghost use Rattle.std.specs.List.{join_with_byte};
 ghost use Rattle.bacsite.specs.Explain.{AreTags, HasTags, IsWholeApdu, IsWholeNpdu, IsWhole, SpellsWhole};
-ghost use Rattle.services.specs.Apdu.{apdu_of};
+ghost use Rattle.apdu.specs.Apdu.{apdu_of};
 
 use crate::hex_text::read_hex;
 use crate::refusal::say_failed;

@@ -2,7 +2,7 @@
 
 ghost use Rattle.std.specs.Prelude.{◌≡◌, ◌<◌, ◌^◌, ◌&&◌, Some, None, IfSome, IfNone, is_none, length, option_map};
 ghost use Rattle.npdu.specs.Header.{header_of, source_of, destination_of, IsSource};
-ghost use Rattle.services.specs.Apdu.{apdu_of, HasNamedNumbers};
+ghost use Rattle.apdu.specs.Apdu.{apdu_of, HasNamedNumbers};
 ghost use Rattle.bacsite.specs.Hearing.{Hears, OnlyHears, HearsNothing, HandsUp, OnlyHandsUp, HandsUpNothing, Unpacks, OnlyUnpacks, UnpacksNothing, is_here, is_station, unpacked, request_body};
 ghost use Rattle.bacsite.specs.Heard.{heard_of, message_of, package_of};
 

@@ -4,9 +4,9 @@ ghost use Rattle.std.specs.Prelude.{◌≡◌, ◌+◌, ◌≤◌, ◌<◌, [], 
 ghost use Rattle.npdu.specs.Header.{destination_of, source_of, IsDestination, IsSource};
 ghost use Rattle.npdu.specs.Header as network;
 ghost use Rattle.npdu.specs.Mac.{mac_octets};
-ghost use Rattle.services.specs.Apdu.{apdu_of};
-ghost use Rattle.services.specs.ApduWriting.{canonical, CanBeWritten};
-ghost use Rattle.services.specs.Sizes.{apdu_code, IsNamedSize};
+ghost use Rattle.apdu.specs.Apdu.{apdu_of};
+ghost use Rattle.apdu.specs.ApduWriting.{canonical, CanBeWritten};
+ghost use Rattle.apdu.specs.Sizes.{apdu_code, IsNamedSize};
 ghost use Rattle.bacsite.specs.Respond.{header_to, way_back, answer_datagram, global_datagram, size_of, whole_or_abort};
 
 use bvll::Bvll;

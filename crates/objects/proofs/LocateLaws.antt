@@ -2,11 +2,12 @@
 use Rattle.std.proofs.Common.{refl, ap, subst, ◌∙◌, ◌≡◌, ℕ, Option, Some, None, Result, Ok, Err, length}
 use Rattle.tags.specs.declared.object_id.ObjectId.{ObjectId}
 use Rattle.objects.specs.declared.object.Object.{Object}
-use Rattle.objects.specs.declared.plain_data.PropertyWrite.{PropertyWrite}
-use Rattle.objects.specs.declared.property.Property.{Property}
-use Rattle.objects.specs.Objects.{PlainTable, is_array, held}
+use Rattle.primitives.specs.declared.plain_data.PropertyWrite.{PropertyWrite}
+use Rattle.primitives.specs.declared.property.Property.{Property}
+use Rattle.objects.specs.Objects.{PlainTable, held}
+use Rattle.primitives.specs.Properties.{is_array}
 use Rattle.objects.specs.Reading.{Refusal, Place, object_at, property_at, index_refusal, place_or, locate_element, locate_property, locate}
-use Rattle.objects.specs.Sound.{AreSound}
+use Rattle.primitives.specs.Sound.{AreSound}
 use Rattle.objects.specs.Site.{IsSoundTable}
 use Rattle.objects.specs.Writing.{access, level_of, write_refusal, put, with_object, unless, write_place, write}
 use Rattle.objects.proofs.SoundLaws.{IsSoundTable-put}

@@ -9,13 +9,14 @@ use Rattle.objects.specs.declared.object.DeviceObject.{DeviceObject}
 use Rattle.objects.specs.declared.object.Object.{Object}
 use Rattle.objects.specs.declared.object.Object.TheVariants as object
 use Rattle.objects.specs.declared.object.ValueObject.{ValueObject}
-use Rattle.objects.specs.declared.plain_data.PropertyWrite.{PropertyWrite}
-use Rattle.objects.specs.declared.property.Property.{Property}
-use Rattle.objects.specs.declared.property.Property.TheVariants as property
+use Rattle.primitives.specs.declared.plain_data.PropertyWrite.{PropertyWrite}
+use Rattle.primitives.specs.declared.property.Property.{Property}
+use Rattle.primitives.specs.declared.property.Property.TheVariants as property
 use Rattle.objects.specs.Identifiers.{same_id}
 use Rattle.objects.specs.Laws.{IsNotShownBy}
-use Rattle.objects.specs.Numbers.{property_number}
-use Rattle.objects.specs.Objects.{PlainTable, identifier, properties_of, is_array, held_by_value, held_by_device, held, object_list}
+use Rattle.primitives.specs.Numbers.{property_number}
+use Rattle.objects.specs.Objects.{PlainTable, identifier, properties_of, held_by_value, held_by_device, held, object_list}
+use Rattle.primitives.specs.Properties.{is_array}
 use Rattle.objects.specs.Reading.{Refusal, Place, is_named, object_at, property_at, index_refusal, place_or, locate_element, locate_property, at_index, read_place, read}
 use Rattle.objects.specs.Levels.{put_level}
 use Rattle.objects.specs.Writing.{level_of, commanded, put_value, put_device, put, with_object, write}

@@ -1,6 +1,10 @@
 -- Lists of objects as they open.
 use Rattle.std.proofs.Common.{◌≡◌, ◌∙◌, refl, sym, ap, ℕ, ◌+◌, ◌<◌, List, [], ◌∷◌, ◌++◌, arith}
 use Rattle.std.specs.Prelude.{zero, suc, map, length, drop, get_or}
+use Rattle.std.specs.List.{AllByRecursion}
+use Rattle.objects.specs.declared.site.SiteObject.{SiteObject}
+use Rattle.objects.specs.declared.site.SiteObjects.{SiteObjects}
+use Rattle.objects.specs.Site.{opening_value, opening_table, IsValueObject, HasOneDevice}
 
 pub map_append : {X Y : Type 0} (f : X → Y) (xs ys : List X) → map f (xs ++ ys) ≡ map f xs ++ map f ys
 map_append f [] ys = refl
@@ -18,4 +22,14 @@ drop_item (y ∷ ys) (suc i) x below is =
     let next : suc i + 1 ≡ suc (i + 1) = omega arith in
     drop_item ys i x (omega (arith, below)) is ∙ ap (λ (n : ℕ). x ∷ drop n (y ∷ ys)) (sym next)
 
+values_open : {A : Type 0} (xs : List (SiteObject A)) → AllByRecursion IsValueObject (map opening_value xs)
+values_open [] = tt
+values_open (x ∷ xs) = (tt, values_open xs)
+
+-- a table opens with its one Device object
+pub opens_with_device : {A : Type 0} (s : SiteObjects A) → HasOneDevice (opening_table s)
+opens_with_device s = values_open s.objects
+
 pub ruleset opening_rules = (map_append, length_map)
+
+pub ruleset site_rules = (opens_with_device)

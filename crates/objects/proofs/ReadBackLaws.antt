@@ -18,15 +18,16 @@ use Rattle.objects.specs.declared.object.Object.TheVariants as object
 use Rattle.objects.specs.declared.object.ValueKind.{ValueKind}
 use Rattle.objects.specs.declared.object.ValueKind.TheVariants as kind
 use Rattle.objects.specs.declared.object.ValueObject.{ValueObject}
-use Rattle.objects.specs.declared.plain_data.PropertyWrite.{PropertyWrite}
-use Rattle.objects.specs.declared.property.Property.{Property}
-use Rattle.objects.specs.declared.property.Property.TheVariants as property
+use Rattle.primitives.specs.declared.plain_data.PropertyWrite.{PropertyWrite}
+use Rattle.primitives.specs.declared.property.Property.{Property}
+use Rattle.primitives.specs.declared.property.Property.TheVariants as property
 use Rattle.objects.specs.Laws.{IsValueInForce, NoneHigherAt}
-use Rattle.objects.specs.Numbers.{property_number}
-use Rattle.objects.specs.Objects.{PlainTable, first_properties, last_properties, own_properties, is_array, present_value, text, slot_value, held}
+use Rattle.primitives.specs.Numbers.{property_number}
+use Rattle.objects.specs.Objects.{PlainTable, first_properties, last_properties, own_properties, present_value, text, slot_value, held}
+use Rattle.primitives.specs.Properties.{is_array}
 use Rattle.objects.specs.Reading.{Refusal, Place, is_named, object_at, property_at, index_refusal, at_index, read, invalid_index}
 use Rattle.objects.specs.Site.{IsSoundObjectOf, IsSoundTable}
-use Rattle.objects.specs.Sound.{IsSoundPriority}
+use Rattle.primitives.specs.Sound.{IsSoundPriority}
 use Rattle.objects.specs.Levels.{put_level}
 use Rattle.objects.specs.Writing.{access, access_denied, no_space, in_range, invalid_type, other_character_set, text_refusal, command_refusal, datatype_of, level_of, write_refusal, commanded, put, with_object, write}
 use Rattle.objects.proofs.SoundLaws.{some_none, true_false, passes_unless, length-put_level}

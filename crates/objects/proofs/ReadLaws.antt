@@ -7,10 +7,11 @@ use Rattle.tags.specs.declared.value.Value.{Value}
 use Rattle.tags.specs.declared.value.Value.TheVariants as value
 use Rattle.objects.specs.declared.object.DeviceObject.{DeviceObject}
 use Rattle.objects.specs.declared.object.ValueObject.{ValueObject}
-use Rattle.objects.specs.declared.property.Property.{Property}
-use Rattle.objects.specs.declared.property.Property.TheVariants as property
+use Rattle.primitives.specs.declared.property.Property.{Property}
+use Rattle.primitives.specs.declared.property.Property.TheVariants as property
 use Rattle.objects.specs.Reading.{at_index, index_refusal}
-use Rattle.objects.specs.Objects.{PlainTable, is_array, held_by_value, held_by_device, object_list, identifier, slot_value}
+use Rattle.objects.specs.Objects.{PlainTable, held_by_value, held_by_device, object_list, identifier, slot_value}
+use Rattle.primitives.specs.Properties.{is_array}
 
 -- the element of a mapped list is the mapped element
 pub slice_get_map : {X Y : Type 0} (f : X → Y) (xs : List X) (i : ℕ) → slice_get (map f xs) i ≡ option_map f (slice_get xs i)

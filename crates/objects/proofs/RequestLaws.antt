@@ -7,21 +7,21 @@ use Rattle.std.specs.List.{AllByRecursion}
 use Rattle.tags.specs.declared.object_id.ObjectId.{ObjectId}
 use Rattle.tags.specs.declared.value.Value.{Value}
 use Rattle.objects.specs.declared.object.Object.{Object}
-use Rattle.objects.specs.declared.plain_data.ObjectRefs.{ObjectRefs}
-use Rattle.objects.specs.declared.plain_data.ObjectWrites.{ObjectWrites}
-use Rattle.objects.specs.declared.plain_data.PropertyReference.{PropertyReference}
-use Rattle.objects.specs.declared.plain_data.PropertyResult.{PropertyResult}
-use Rattle.objects.specs.declared.plain_data.PropertyWrite.{PropertyWrite}
-use Rattle.objects.specs.declared.plain_data.Request.{Request}
-use Rattle.objects.specs.declared.plain_data.Request.TheVariants.{Read, ReadMany, Write, WriteMany}
-use Rattle.objects.specs.declared.property.Property.{Property}
-use Rattle.objects.specs.declared.property.Property.TheVariants as property
-use Rattle.objects.specs.Answers.{IsOneProperty, read_reference, AnswersAll, IsAnswerTo}
+use Rattle.primitives.specs.declared.plain_data.ObjectRefs.{ObjectRefs}
+use Rattle.primitives.specs.declared.plain_data.ObjectWrites.{ObjectWrites}
+use Rattle.primitives.specs.declared.plain_data.PropertyReference.{PropertyReference}
+use Rattle.primitives.specs.declared.plain_data.PropertyResult.{PropertyResult}
+use Rattle.primitives.specs.declared.plain_data.PropertyWrite.{PropertyWrite}
+use Rattle.primitives.specs.declared.plain_data.Request.{Request}
+use Rattle.primitives.specs.declared.plain_data.Request.TheVariants.{Read, ReadMany, Write, WriteMany}
+use Rattle.primitives.specs.declared.property.Property.{Property}
+use Rattle.primitives.specs.declared.property.Property.TheVariants as property
+use Rattle.primitives.specs.Answers.{IsOneProperty, read_reference, AnswersAll, IsAnswerTo}
 use Rattle.objects.specs.Machine.{reading_reply, write_outcome, outcome, reply, after}
-use Rattle.objects.specs.Numbers.{property_number}
+use Rattle.primitives.specs.Numbers.{property_number}
 use Rattle.objects.specs.Objects.{PlainTable, properties_of}
 use Rattle.objects.specs.Reading.{Refusal, object_at, read, is_special, is_selected, entry, selected_entries, entries_in, results_of}
-use Rattle.objects.specs.Sound.{AreSound, IsSoundId, IsSoundIndex, IsSoundReference, IsSoundRefs, IsSoundWrite, IsSoundWrites, IsSoundRequest, IsSoundReading, IsSoundResult, IsSoundResults, IsSoundReply}
+use Rattle.primitives.specs.Sound.{AreSound, IsSoundId, IsSoundIndex, IsSoundReference, IsSoundRefs, IsSoundWrite, IsSoundWrites, IsSoundRequest, IsSoundReading, IsSoundResult, IsSoundResults, IsSoundReply}
 use Rattle.objects.specs.Site.{IsSoundTable}
 use Rattle.objects.specs.Writing.{write, ObjectWrite, in_order, Outcome, go_on, write_all}
 use Rattle.objects.proofs.SoundLaws.{true_false}

@@ -14,13 +14,13 @@ use Rattle.objects.specs.declared.object.Object.{Object}
 use Rattle.objects.specs.declared.object.Object.TheVariants as object
 use Rattle.objects.specs.declared.object.ValueKind.{ValueKind}
 use Rattle.objects.specs.declared.object.ValueObject.{ValueObject}
-use Rattle.objects.specs.declared.property.Property.{Property}
-use Rattle.objects.specs.declared.property.Property.TheVariants as property
+use Rattle.primitives.specs.declared.property.Property.{Property}
+use Rattle.primitives.specs.declared.property.Property.TheVariants as property
 use Rattle.objects.specs.Objects.{PlainTable, identifier, name_of, type_of}
-use Rattle.objects.specs.Numbers.{type_number}
+use Rattle.primitives.specs.Numbers.{type_number}
 use Rattle.objects.specs.Reading.{Refusal, is_named, object_at}
-use Rattle.objects.specs.Sound.{AreSound}
-use Rattle.objects.specs.Site.{IsText, IsSlotOf, IsSoundValueObject, IsSoundDevice, IsSoundObjectOf, IsOther, AllApart, IsSoundTable}
+use Rattle.primitives.specs.Sound.{AreSound}
+use Rattle.objects.specs.Site.{IsText, IsSlotOf, IsSoundValueObject, IsSoundDevice, IsSoundObjectOf, IsOther, AllApart, IsValueObject, HasOneDevice, IsSoundTable}
 use Rattle.objects.specs.Levels.{put_level}
 use Rattle.objects.specs.Writing.{access_denied, other_character_set, datatype_of, access, text_refusal, command_refusal, write_refusal, commanded, put_value, put_device, put, with_object}
 
@@ -249,9 +249,29 @@ length-with_object t id change = sym (length-map (with_object t id change) (λ o
 pub some_same : {X : Type 0} (x y : X) → Some x ≡ Some y → x ≡ y
 some_same x y e = cc
 
+put_value_object : {A : Type 0} (p : Property) (level : ℕ) (values : List (Value A)) (o : Object A) → IsValueObject o → IsValueObject (put p level values o)
+put_value_object p level [] o is = is
+put_value_object p level (v ∷ []) (object.Device d) is = absurd is
+put_value_object p level (v ∷ []) (object.Value o) is = tt
+put_value_object p level (v ∷ w ∷ values) o is = is
+
+one_device_if : {A : Type 0} (test : Bool) (d : DeviceObject A) (os os' : List (Object A)) (p : Property) (level : ℕ) (values : List (Value A)) → AllByRecursion IsValueObject os → AllByRecursion IsValueObject os' → HasOneDevice (cond test (put p level values (object.Device d) ∷ os) (object.Device d ∷ os'))
+one_device_if true d os os' p level [] all all' = all
+one_device_if true d os os' p level (v ∷ []) all all' = all
+one_device_if true d os os' p level (v ∷ w ∷ values) all all' = all
+one_device_if false d os os' p level values all all' = all'
+
+-- a write leaves the one Device object first
+pub HasOneDevice-put : {A : Type 0} (t : PlainTable A) (id : ObjectId) (p : Property) (level : ℕ) (values : List (Value A)) → HasOneDevice t → HasOneDevice (with_object t id (put p level values))
+HasOneDevice-put [] id p level values one = absurd one
+HasOneDevice-put (object.Device d ∷ os) id p level values all =
+    one_device_if (is_named id (object.Device d)) d os (with_object os id (put p level values)) p level values all (AllByRecursion-with_object IsValueObject os id (put p level values) all (λ o at is. put_value_object p level values o is))
+HasOneDevice-put (object.Value o ∷ os) id p level values one = absurd one
+
 -- a sound table stays sound where the write isn't refused
 pub IsSoundTable-put : {A : Type 0} (t : PlainTable A) (id : ObjectId) (o : Object A) (p : Property) (level : ℕ) (values : List (Value A)) → IsSoundTable t → object_at t id ≡ Some o → write_refusal (access o p) level values ≡ None → AreSound values → IsSoundTable (with_object t id (put p level values))
 IsSoundTable-put {A} t id o p level values s found e sound = record {
+  device = HasOneDevice-put t id p level values s.device;
   few = subst (λ (n : ℕ). n ≤ 513) (sym (length-with_object t id (put p level values))) s.few;
   objects = AllByRecursion-with_object IsSoundObjectOf t id (put p level values) s.objects (λ q at q_sound. IsSoundObjectOf-put p level values q q_sound (ap (λ (o : Object A). write_refusal (access o p) level values) (some_same _ _ (sym at ∙ found)) ∙ e) sound);
   apart = AllApart-same t _ (identifiers-with_object t id p level values) (names-with_object t id p level values) s.apart;

@@ -20,15 +20,16 @@ use Rattle.objects.specs.declared.object.Object.TheVariants as object
 use Rattle.objects.specs.declared.object.ValueKind.{ValueKind}
 use Rattle.objects.specs.declared.object.ValueKind.TheVariants as kind
 use Rattle.objects.specs.declared.object.ValueObject.{ValueObject}
-use Rattle.objects.specs.declared.plain_data.PropertyWrite.{PropertyWrite}
-use Rattle.objects.specs.declared.property.Property.{Property}
-use Rattle.objects.specs.declared.property.Property.TheVariants as property
+use Rattle.primitives.specs.declared.plain_data.PropertyWrite.{PropertyWrite}
+use Rattle.primitives.specs.declared.property.Property.{Property}
+use Rattle.primitives.specs.declared.property.Property.TheVariants as property
 use Rattle.objects.specs.declared.site.DataLink.{DataLink}
 use Rattle.objects.specs.declared.site.DataLink.TheVariants.{BacnetIp, MsTp}
-use Rattle.objects.specs.Numbers.{type_number}
-use Rattle.objects.specs.Objects.{PlainTable, type_of, is_array, present_value, status_flags, slot_value, states_of, units_of, held_by_value, held_by_device, held, object_list, max_apdu_of}
+use Rattle.primitives.specs.Numbers.{type_number}
+use Rattle.objects.specs.Objects.{PlainTable, type_of, present_value, status_flags, slot_value, states_of, units_of, held_by_value, held_by_device, held, object_list, max_apdu_of}
+use Rattle.primitives.specs.Properties.{is_array}
 use Rattle.objects.specs.Reading.{Refusal, Place, not_an_array, invalid_index, is_named, object_at, property_at, index_refusal, place_or, locate_element, locate_property, locate, at_index, read_place, read}
-use Rattle.objects.specs.Sound.{AreSound, IsSoundError, IsSoundReading}
+use Rattle.primitives.specs.Sound.{AreSound, IsSoundError, IsSoundReading}
 use Rattle.objects.specs.Site.{IsText, IsSoundKind, IsValueOf, IsSlotOf, IsSoundValueObject, IsSoundDevice, IsSoundObjectOf, IsSoundTable}
 use Rattle.objects.specs.Writing.{level_of, in_range, no_space, other_character_set, access_denied, text_refusal, value_refusal, values_refusal, command_refusal, write_refusal, access, put, with_object, unless, write_place, write}
 use Rattle.objects.proofs.SoundLaws.{listed, some_none, some_same}

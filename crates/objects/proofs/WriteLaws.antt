@@ -4,11 +4,11 @@ use Rattle.std.specs.Prelude.{Option, Some, None, Result, Ok, Err, length, map, 
 use Rattle.std.proofs.lemmas.List.{length-map}
 use Rattle.tags.specs.declared.object_id.ObjectId.{ObjectId}
 use Rattle.objects.specs.declared.object.Object.{Object}
-use Rattle.objects.specs.declared.plain_data.ObjectWrites.{ObjectWrites}
-use Rattle.objects.specs.declared.plain_data.PropertyWrite.{PropertyWrite}
-use Rattle.objects.specs.declared.plain_data.Reply.{Reply}
-use Rattle.objects.specs.declared.plain_data.Reply.TheVariants.{Done}
-use Rattle.objects.specs.declared.property.Property.{Property}
+use Rattle.primitives.specs.declared.plain_data.ObjectWrites.{ObjectWrites}
+use Rattle.primitives.specs.declared.plain_data.PropertyWrite.{PropertyWrite}
+use Rattle.primitives.specs.declared.plain_data.Reply.{Reply}
+use Rattle.primitives.specs.declared.plain_data.Reply.TheVariants.{Done}
+use Rattle.primitives.specs.declared.property.Property.{Property}
 use Rattle.objects.specs.Objects.{PlainTable, identifier}
 use Rattle.objects.specs.Places.{place_of}
 use Rattle.objects.specs.Reading.{Refusal, Place, property_at, locate}

@@ -2,8 +2,8 @@
 use Rattle.std.specs.Prelude.{◌≡◌, List, [], ◌∷◌, length, Result, Ok, Err}
 use Rattle.objects.specs.declared.object.Object.{Object}
 use Rattle.objects.specs.declared.object.Object.TheVariants as object
-use Rattle.objects.specs.declared.plain_data.Reply.{Reply}
-use Rattle.objects.specs.declared.plain_data.Reply.TheVariants.{Done}
+use Rattle.primitives.specs.declared.plain_data.Reply.{Reply}
+use Rattle.primitives.specs.declared.plain_data.Reply.TheVariants.{Done}
 use Rattle.objects.specs.Objects.{PlainTable}
 use Rattle.objects.specs.Reading.{Refusal}
 use Rattle.objects.specs.Writing.{ObjectWrite, failed_at, write}

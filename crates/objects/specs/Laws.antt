@@ -7,21 +7,21 @@ use Rattle.tags.specs.declared.value.Value.TheVariants as value
 use Rattle.priority.specs.Laws.{NoneHigher, IsInForce, NoneFilled}
 use Rattle.objects.specs.declared.object.Object.TheVariants as object
 use Rattle.objects.specs.declared.object.ValueObject.{ValueObject}
-use Rattle.objects.specs.declared.plain_data.PropertyWrite.{PropertyWrite}
-use Rattle.objects.specs.declared.plain_data.Reply.{Reply}
-use Rattle.objects.specs.declared.plain_data.Reply.TheVariants.{Done, ErrorAt}
-use Rattle.objects.specs.declared.plain_data.Request.{Request}
-use Rattle.objects.specs.declared.plain_data.Request.TheVariants.{Write}
-use Rattle.objects.specs.declared.property.Property.{Property}
-use Rattle.objects.specs.declared.property.Property.TheVariants as property
-use Rattle.objects.specs.Answers.{IsAnswerTo}
+use Rattle.primitives.specs.declared.plain_data.PropertyWrite.{PropertyWrite}
+use Rattle.primitives.specs.declared.plain_data.Reply.{Reply}
+use Rattle.primitives.specs.declared.plain_data.Reply.TheVariants.{Done, ErrorAt}
+use Rattle.primitives.specs.declared.plain_data.Request.{Request}
+use Rattle.primitives.specs.declared.plain_data.Request.TheVariants.{Write}
+use Rattle.primitives.specs.declared.property.Property.{Property}
+use Rattle.primitives.specs.declared.property.Property.TheVariants as property
+use Rattle.primitives.specs.Answers.{IsAnswerTo}
 use Rattle.objects.specs.Failure.{HaveOneShape, first_failure}
 use Rattle.objects.specs.Machine.{reply, after}
-use Rattle.objects.specs.Numbers.{property_number}
+use Rattle.primitives.specs.Numbers.{property_number}
 use Rattle.objects.specs.Objects.{PlainTable, identifier, name_of, object_list, object_type_of, present_value}
 use Rattle.objects.specs.Reading.{Refusal, object_at, read}
 use Rattle.objects.specs.Site.{IsSoundTable}
-use Rattle.objects.specs.Sound.{IsSoundPriority, IsSoundRequest, IsSoundReply}
+use Rattle.primitives.specs.Sound.{IsSoundPriority, IsSoundRequest, IsSoundReply}
 use Rattle.objects.specs.Writing.{level_of, write, ObjectWrite, failed_at, write_all}
 
 -- what a sound request leaves of a sound table is sound (15.9.2, 15.10.2)
@@ -82,7 +82,7 @@ RequestLeavesNames A = (t : PlainTable A) (q : Request A) → map name_of (after
 abbrev pub RequestLeavesTypes : Type 0 → Type 0
 RequestLeavesTypes A = (t : PlainTable A) (q : Request A) → map object_type_of (after t q) ≡ map object_type_of t
 
--- no request changes the object list (12.11.20)
+-- no request changes the object list (12.11.16)
 abbrev pub RequestLeavesObjectList : Type 0 → Type 0
 RequestLeavesObjectList A = (t : PlainTable A) (q : Request A) → object_list (after t q) ≡ object_list t
 

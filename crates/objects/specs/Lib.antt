@@ -1,7 +1,3 @@
-pub mod Errors
-pub mod Numbers
-pub mod Sound
-pub mod Answers
 pub mod Identifiers
 pub mod Levels
 pub mod Objects

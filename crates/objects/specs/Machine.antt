@@ -1,10 +1,10 @@
 -- The object machine: what a device replies to a request, and what the request leaves (12, 15, 19).
 use Rattle.std.specs.Prelude.{List, map, Option, Some, None, Result, Ok, Err}
 use Rattle.tags.specs.declared.value.Value.{Value}
-use Rattle.objects.specs.declared.plain_data.Reply.{Reply}
-use Rattle.objects.specs.declared.plain_data.Reply.TheVariants.{Values, Many, Done, Error}
-use Rattle.objects.specs.declared.plain_data.Request.{Request}
-use Rattle.objects.specs.declared.plain_data.Request.TheVariants.{Read, ReadMany, Write, WriteMany}
+use Rattle.primitives.specs.declared.plain_data.Reply.{Reply}
+use Rattle.primitives.specs.declared.plain_data.Reply.TheVariants.{Values, Many, Done, Error}
+use Rattle.primitives.specs.declared.plain_data.Request.{Request}
+use Rattle.primitives.specs.declared.plain_data.Request.TheVariants.{Read, ReadMany, Write, WriteMany}
 use Rattle.objects.specs.Objects.{PlainTable}
 use Rattle.objects.specs.Reading.{Refusal, read, results_of}
 use Rattle.objects.specs.Writing.{Outcome, write, write_all, in_order}

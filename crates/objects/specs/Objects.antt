@@ -10,15 +10,15 @@ use Rattle.objects.specs.declared.object.ValueObject.{ValueObject}
 use Rattle.objects.specs.declared.object.DeviceObject.{DeviceObject}
 use Rattle.objects.specs.declared.object.Object.{Object}
 use Rattle.objects.specs.declared.object.Object.TheVariants as object
-use Rattle.objects.specs.declared.object_type.ObjectType.{ObjectType}
-use Rattle.objects.specs.declared.object_type.ObjectType.TheVariants as type
-use Rattle.objects.specs.declared.property.Property.{Property}
-use Rattle.objects.specs.declared.property.Property.TheVariants as property
+use Rattle.primitives.specs.declared.object_type.ObjectType.{ObjectType}
+use Rattle.primitives.specs.declared.object_type.ObjectType.TheVariants as type
+use Rattle.primitives.specs.declared.property.Property.{Property}
+use Rattle.primitives.specs.declared.property.Property.TheVariants as property
 use Rattle.objects.specs.declared.site.DataLink.{DataLink}
 use Rattle.objects.specs.declared.site.DataLink.TheVariants.{BacnetIp, MsTp}
-use Rattle.objects.specs.Numbers.{type_number}
+use Rattle.primitives.specs.Numbers.{type_number}
 
--- the objects of a device: the Device object, then the value objects in the order of the site (12.11.20)
+-- the objects of a device: the Device object, then the value objects in the order of the site (12.11.16)
 abbrev pub PlainTable : Type 0 → Type 0
 PlainTable A = List (Object A)
 
@@ -57,7 +57,7 @@ first_properties = property.ObjectIdentifier ∷ property.ObjectName ∷ propert
 abbrev pub last_properties : List Property
 last_properties = property.PriorityArray ∷ property.RelinquishDefault ∷ property.Description ∷ []
 
--- the properties of a type's own (12.20.11, 12.43.9)
+-- the properties of a type's own (12.20.10, 12.43.10)
 abbrev pub own_properties : ValueKind → List Property
 own_properties kind.Binary = []
 own_properties (kind.MultiState states) = property.NumberOfStates ∷ []
@@ -79,19 +79,6 @@ abbrev pub properties_of : {A : Type 0} → Object A → List Property
 properties_of (object.Device d) = device_properties
 properties_of (object.Value o) = first_properties ++ own_properties o.kind ++ last_properties
 
--- whether a property is required, and not optional (12: conformance code R or O)
-abbrev pub is_required : Property → Bool
-is_required property.PriorityArray = false
-is_required property.RelinquishDefault = false
-is_required property.Description = false
-is_required p = true
-
--- whether a property is an array, whose elements have an index (12.8.14, 12.11.20)
-abbrev pub is_array : Property → Bool
-is_array property.PriorityArray = true
-is_array property.ObjectList = true
-is_array p = false
-
 -- octets as a text of UTF-8 (20.2.9)
 abbrev pub text : {A : Type 0} → List ℕ → Value A
 text octets = value.Text 0 octets
@@ -110,12 +97,12 @@ abbrev pub slot_value : {A : Type 0} → Option (Value A) → Value A
 slot_value None = value.Null
 slot_value (Some v) = v
 
--- the number of states of a Multi-state Value (12.20.11)
+-- the number of states of a Multi-state Value (12.20.10)
 abbrev pub states_of : {A : Type 0} → ValueKind → List (Value A)
 states_of (kind.MultiState states) = value.Unsigned states ∷ []
 states_of k = []
 
--- the units of an Integer Value (12.43.9)
+-- the units of an Integer Value (12.43.10)
 abbrev pub units_of : {A : Type 0} → ValueKind → List (Value A)
 units_of (kind.Integer units) = value.Enum units ∷ []
 units_of k = []
@@ -141,7 +128,7 @@ abbrev pub max_apdu_of : DataLink → ℕ
 max_apdu_of BacnetIp = 1476
 max_apdu_of MsTp = 480
 
--- the object list: the identifiers of all objects, the Device object's first (12.11.20)
+-- the object list: the identifiers of all objects, the Device object's first (12.11.16)
 abbrev pub object_list : {A : Type 0} → PlainTable A → List (Value A)
 object_list t = map (λ o. value.Object (identifier o)) t
 

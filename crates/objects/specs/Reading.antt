@@ -3,19 +3,20 @@ use Rattle.std.specs.Prelude.{ℕ, ◌-◌, ◌==◌, ◌||◌, not, nat_lt, Boo
 use Rattle.tags.specs.declared.object_id.ObjectId.{ObjectId}
 use Rattle.tags.specs.declared.value.Value.{Value}
 use Rattle.tags.specs.declared.value.Value.TheVariants as value
-use Rattle.objects.specs.declared.error.ErrorClass.{ErrorClass}
-use Rattle.objects.specs.declared.error.ErrorClass.TheVariants as class
-use Rattle.objects.specs.declared.error.ErrorCode.{ErrorCode}
-use Rattle.objects.specs.declared.error.ErrorCode.TheVariants as code
+use Rattle.primitives.specs.declared.error.ErrorClass.{ErrorClass}
+use Rattle.primitives.specs.declared.error.ErrorClass.TheVariants as class
+use Rattle.primitives.specs.declared.error.ErrorCode.{ErrorCode}
+use Rattle.primitives.specs.declared.error.ErrorCode.TheVariants as code
 use Rattle.objects.specs.declared.object.Object.{Object}
-use Rattle.objects.specs.declared.plain_data.ObjectRefs.{ObjectRefs}
-use Rattle.objects.specs.declared.plain_data.ObjectResults.{ObjectResults}
-use Rattle.objects.specs.declared.plain_data.PropertyReference.{PropertyReference}
-use Rattle.objects.specs.declared.plain_data.PropertyResult.{PropertyResult}
-use Rattle.objects.specs.declared.property.Property.{Property}
-use Rattle.objects.specs.Numbers.{property_number}
+use Rattle.primitives.specs.declared.plain_data.ObjectRefs.{ObjectRefs}
+use Rattle.primitives.specs.declared.plain_data.ObjectResults.{ObjectResults}
+use Rattle.primitives.specs.declared.plain_data.PropertyReference.{PropertyReference}
+use Rattle.primitives.specs.declared.plain_data.PropertyResult.{PropertyResult}
+use Rattle.primitives.specs.declared.property.Property.{Property}
+use Rattle.primitives.specs.Numbers.{property_number}
 use Rattle.objects.specs.Identifiers.{same_id}
-use Rattle.objects.specs.Objects.{PlainTable, identifier, properties_of, is_required, is_array, held}
+use Rattle.objects.specs.Objects.{PlainTable, identifier, properties_of, held}
+use Rattle.primitives.specs.Properties.{is_required, is_array}
 
 -- an error class and code (18)
 abbrev pub Refusal : Type 0

@@ -24,7 +24,7 @@ opening_value o = object.Value (record { kind = o.kind; instance = o.instance; n
 abbrev pub opening_device : {A : Type 0} → SiteObjects A → Object A
 opening_device s = object.Device (record { instance = s.instance; name = s.name; vendor = s.vendor; data_link = s.data_link; description = [] })
 
--- the opening table of a site's objects: the Device object, then the others in their order (12.11.20)
+-- the opening table of a site's objects: the Device object, then the others in their order (12.11.16)
 abbrev pub opening_table : {A : Type 0} → SiteObjects A → PlainTable A
 opening_table s = opening_device s ∷ map opening_value s.objects
 
@@ -32,7 +32,7 @@ opening_table s = opening_device s ∷ map opening_value s.objects
 abbrev pub IsText : List ℕ → Type 0
 IsText octets = text_refusal 0 octets ≡ None
 
--- a Multi-state Value has at least one state, and units are a number of 32 bits (12.20.11)
+-- a Multi-state Value has at least one state, and units are a number of 32 bits (12.20.10)
 abbrev pub IsSoundKind : ValueKind → Type 0
 IsSoundKind (kind.MultiState states) = (0 < states) × (states < 2 ^ 16)
 IsSoundKind (kind.Integer units) = units < 2 ^ 32
@@ -80,8 +80,19 @@ abbrev pub AllApart : {A : Type 0} → List (Object A) → Type 0
 AllApart [] = Unit {0}
 AllApart (o ∷ os) = AllByRecursion (IsOther (identifier o) (name_of o)) os × AllApart os
 
--- a sound table: at most 513 sound objects, each two apart (12)
+-- a value object, and no Device object (12.8, 12.20, 12.37, 12.43)
+abbrev pub IsValueObject : {A : Type 0} → Object A → Type 0
+IsValueObject (object.Device d) = ⊥
+IsValueObject (object.Value o) = Unit {0}
+
+-- one Device object, which is the first; all others are value objects (12.11)
+abbrev pub HasOneDevice : {A : Type 0} → PlainTable A → Type 0
+HasOneDevice (object.Device d ∷ os) = AllByRecursion IsValueObject os
+HasOneDevice t = ⊥
+
+-- a sound table: one Device object, at most 513 sound objects, each two apart (12)
 pub record IsSoundTable {A : Type 0} (t : PlainTable A) : Type 0 where
+  pub device : HasOneDevice t
   pub few : length t ≤ 513
   pub objects : AllByRecursion IsSoundObjectOf t
   pub apart : AllApart t

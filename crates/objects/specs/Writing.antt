@@ -4,8 +4,8 @@ use Rattle.std.specs.Str.{is_utf8}
 use Rattle.tags.specs.declared.object_id.ObjectId.{ObjectId}
 use Rattle.tags.specs.declared.value.Value.{Value}
 use Rattle.tags.specs.declared.value.Value.TheVariants as value
-use Rattle.objects.specs.declared.error.ErrorClass.TheVariants as class
-use Rattle.objects.specs.declared.error.ErrorCode.TheVariants as code
+use Rattle.primitives.specs.declared.error.ErrorClass.TheVariants as class
+use Rattle.primitives.specs.declared.error.ErrorCode.TheVariants as code
 use Rattle.objects.specs.declared.object.Access.{Access}
 use Rattle.objects.specs.declared.object.Access.TheVariants.{ReadOnly, Writable, Commandable}
 use Rattle.objects.specs.declared.object.Datatype.{Datatype}
@@ -16,12 +16,12 @@ use Rattle.objects.specs.declared.object.Object.TheVariants as object
 use Rattle.objects.specs.declared.object.ValueKind.{ValueKind}
 use Rattle.objects.specs.declared.object.ValueKind.TheVariants as kind
 use Rattle.objects.specs.declared.object.ValueObject.{ValueObject}
-use Rattle.objects.specs.declared.plain_data.ObjectWrites.{ObjectWrites}
-use Rattle.objects.specs.declared.plain_data.PropertyWrite.{PropertyWrite}
-use Rattle.objects.specs.declared.plain_data.Reply.{Reply}
-use Rattle.objects.specs.declared.plain_data.Reply.TheVariants.{Done, ErrorAt}
-use Rattle.objects.specs.declared.property.Property.{Property}
-use Rattle.objects.specs.declared.property.Property.TheVariants as property
+use Rattle.primitives.specs.declared.plain_data.ObjectWrites.{ObjectWrites}
+use Rattle.primitives.specs.declared.plain_data.PropertyWrite.{PropertyWrite}
+use Rattle.primitives.specs.declared.plain_data.Reply.{Reply}
+use Rattle.primitives.specs.declared.plain_data.Reply.TheVariants.{Done, ErrorAt}
+use Rattle.primitives.specs.declared.property.Property.{Property}
+use Rattle.primitives.specs.declared.property.Property.TheVariants as property
 use Rattle.objects.specs.Levels.{put_level}
 use Rattle.objects.specs.Objects.{PlainTable}
 use Rattle.objects.specs.Reading.{Refusal, Place, is_named, locate}

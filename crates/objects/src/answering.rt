@@ -2,19 +2,18 @@
 
 ghost use Rattle.std.specs.Prelude.{◌≡◌, None, Some};
 ghost use Rattle.objects.specs.Machine.{written_reply};
-ghost use Rattle.objects.specs.Reading.{is_special, locate_property};
-ghost use Rattle.objects.specs.Sound.{AreSound};
+ghost use Rattle.objects.specs.Reading.{is_special, is_selected, locate_property};
+ghost use Rattle.primitives.specs.Sound.{AreSound};
 ghost use Rattle.objects.specs.Writing.{place_refusal};
 
 use crate::object::Object;
-use crate::plain_data::{
-    ObjectRefs, ObjectResults, ObjectWrites, PropertyReference, PropertyResult, PropertyWrite,
-    Reply, Request,
-};
-use crate::property::Property;
 use crate::reading::{NOT_AN_ARRAY, Refusal, UNKNOWN_OBJECT, locate};
 use crate::table::Table;
 use crate::writing::{access, level_of, write_refusal};
+use primitives::{
+    ObjectRefs, ObjectResults, ObjectWrites, Property, PropertyReference, PropertyResult,
+    PropertyWrite, Reply, Request,
+};
 use std::alloc::{AllocError, Allocator};
 use tags::{Items, ObjectId, Value};
 
@@ -30,11 +29,11 @@ impl<A: Allocator + Copy> Table<A> {
     ghost use Rattle.std.specs.Prelude.{◌≡◌, ◌++◌, OnOk, IfOk, None, map, filter};
     ghost use Rattle.objects.specs.Failure.{first_failure};
     ghost use Rattle.objects.specs.Machine.{reply, reading_reply};
-    ghost use Rattle.objects.specs.Numbers.{property_number};
+    ghost use Rattle.primitives.specs.Numbers.{property_number};
     ghost use Rattle.objects.specs.Objects.{properties_of};
     ghost use Rattle.objects.specs.Reading.{object_at, is_selected, entry, selected_entries, entries_in, results_of, locate, read};
-    ghost use Rattle.objects.specs.Answers.{IsAnswerTo};
-    ghost use Rattle.objects.specs.Sound.{AreSound, IsSoundRequest, IsSoundReply};
+    ghost use Rattle.primitives.specs.Answers.{IsAnswerTo};
+    ghost use Rattle.primitives.specs.Sound.{AreSound, IsSoundRequest, IsSoundReply};
     ghost use Rattle.objects.specs.Writing.{place_refusal, in_order, writes_to};
 
     /// What the object machine replies to a request. The table stays as it is (15.5.2, 15.7.2,
@@ -210,7 +209,7 @@ impl<A: Allocator + Copy> Table<A> {
         ensures { OnOk result (entries.new ≡ entries.old ++ map (λ p. entry self.now id (property_number p) None) (filter (is_selected number) properties.now)) }
     {
         for property in properties {
-            if property.is_selected(number) {
+            if is_selected(*property, number) {
                 entries.push(self.entry(id, u32::from(*property), None)?)?;
             }
         }
@@ -262,21 +261,6 @@ fn written<A: Allocator>(refusal: Option<Refusal>) -> Reply<A>
     }
 }
 
-impl<A: Allocator> Reply<A> {
-    ghost use Rattle.std.specs.Prelude.{◌≡◌, ◌↔◌, IsTrue};
-    ghost use Rattle.objects.specs.declared.plain_data.Reply.TheVariants.{Done};
-
-    /// Whether all was written.
-    pub(crate) fn is_done(&self) -> bool
-        ensures { IsTrue result ↔ (self.now ≡ Done) }
-    {
-        match self {
-            Reply::Done => true,
-            _ => false,
-        }
-    }
-}
-
 /// Whether a number stands for several properties.
 fn is_special(number: u32) -> bool
     ensures { result ≡ is_special number }
@@ -284,21 +268,16 @@ fn is_special(number: u32) -> bool
     number == ALL || number == OPTIONAL || number == REQUIRED
 }
 
-impl Property {
-    ghost use Rattle.std.specs.Prelude.{◌≡◌};
-    ghost use Rattle.objects.specs.Reading.{is_selected};
-
-    /// Whether it is among those that a number stands for.
-    fn is_selected(self, number: u32) -> bool
-        ensures { result ≡ is_selected number self }
-    {
-        if number == ALL {
-            true
-        } else if number == REQUIRED {
-            self.is_required()
-        } else {
-            !self.is_required()
-        }
+/// Whether a property is among those that a number stands for.
+fn is_selected(property: Property, number: u32) -> bool
+    ensures { result ≡ is_selected number property }
+{
+    if number == ALL {
+        true
+    } else if number == REQUIRED {
+        property.is_required()
+    } else {
+        !property.is_required()
     }
 }
 

@@ -2,24 +2,23 @@
 
 ghost use Rattle.std.specs.Prelude.{◌≡◌, ◌<◌, IfOk, Some, length, slice_get, slice_set};
 ghost use Rattle.objects.specs.declared.object.Object.{Object};
-ghost use Rattle.objects.specs.declared.property.Property.{Property};
+ghost use Rattle.primitives.specs.declared.property.Property.{Property};
 ghost use Rattle.objects.specs.Reading.{property_at};
 ghost use Rattle.objects.specs.Writing.{put};
 
-use crate::copying::{copy_groups, copy_values};
 use crate::object::Object;
-use crate::plain_data::{ObjectWrites, PropertyWrite, Reply, Request, Values};
 use crate::reading::Refusal;
 use crate::table::Table;
 use crate::writing::{level_of, put};
+use primitives::{ObjectWrites, PropertyWrite, Reply, Request, Values, copy_all};
 use std::alloc::{AllocError, Allocator};
 use tags::{Items, ObjectId};
 
 impl<A: Allocator + Copy> Table<A> {
     ghost use Rattle.std.specs.Prelude.{◌≡◌, OnOk, OnErr, IfOk, IfErr, Ok, Err};
-    ghost use Rattle.objects.specs.Answers.{IsAnswerTo};
+    ghost use Rattle.primitives.specs.Answers.{IsAnswerTo};
     ghost use Rattle.objects.specs.Machine.{reply, after, write_outcome};
-    ghost use Rattle.objects.specs.Sound.{IsSoundRequest, IsSoundReply};
+    ghost use Rattle.primitives.specs.Sound.{IsSoundRequest, IsSoundReply};
     ghost use Rattle.objects.specs.Writing.{write, write_all, writes_to, in_order};
 
     /// Does what a request asks, and answers what the object machine replies (15.5.2, 15.7.2,
@@ -60,13 +59,13 @@ impl<A: Allocator + Copy> Table<A> {
                 let write = PropertyWrite {
                     property: *property,
                     index: *index,
-                    values: copy_values(self.alloc(), values.as_slice())?,
+                    values: copy_all(self.alloc(), values.as_slice())?,
                     priority: *priority,
                 };
                 Ok(self.write_one(*object, write))
             }
             Request::WriteMany(asked) => {
-                let asked = copy_groups(self.alloc(), asked.as_slice())?;
+                let asked = copy_all(self.alloc(), asked.as_slice())?;
                 Ok(self.write_groups(asked))
             }
         }

@@ -1,13 +1,12 @@
 //! What an object is called, and which properties it has (clause 12).
 
 ghost use Rattle.std.specs.Prelude.{◌≡◌, ◌==◌, find};
-ghost use Rattle.objects.specs.Numbers.{property_number};
-ghost use Rattle.objects.specs.Objects.{type_of, identifier, properties_of, is_required, is_array};
+ghost use Rattle.primitives.specs.Numbers.{property_number};
+ghost use Rattle.objects.specs.Objects.{type_of, identifier, properties_of};
 ghost use Rattle.objects.specs.Reading.{property_at};
 
 use crate::object::{Object, ValueKind};
-use crate::object_type::ObjectType;
-use crate::property::Property;
+use primitives::{ObjectType, Property};
 use std::alloc::Allocator;
 use tags::ObjectId;
 
@@ -132,25 +131,6 @@ impl<A: Allocator> Object<A> {
         ensures { result ≡ property_at self.now number }
     {
         find_property(self.properties(), number)
-    }
-}
-
-impl Property {
-    /// Whether every object of a type that has it must have it (conformance code R, and not O).
-    pub fn is_required(self) -> bool
-        ensures { result ≡ is_required self }
-    {
-        !matches!(
-            self,
-            Property::PriorityArray | Property::RelinquishDefault | Property::Description
-        )
-    }
-
-    /// Whether it is an array, whose elements have an index from 1.
-    pub fn is_array(self) -> bool
-        ensures { result ≡ is_array self }
-    {
-        matches!(self, Property::PriorityArray | Property::ObjectList)
     }
 }
 

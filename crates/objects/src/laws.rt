@@ -73,7 +73,7 @@ pub fn request_leaves_types<A: Allocator>()
     ensures { RequestLeavesTypes A }
 {}
 
-/// No request changes the object list (12.11.20).
+/// No request changes the object list (12.11.16).
 pub fn request_leaves_object_list<A: Allocator>()
     ensures { RequestLeavesObjectList A }
 {}

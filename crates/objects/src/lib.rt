@@ -5,13 +5,8 @@
 //! the first error that applies; its reply answers the request, and has a spelling where the
 //! request has one; what a request leaves is what the machine leaves; a write that is refused and
 //! want of memory change nothing; a WritePropertyMultiple ends at its first failure, and what was
-//! written before stays. Requests and replies are plain data, without octets.
+//! written before stays. Requests and replies are the plain data of `primitives`.
 //!
-//! - `plain_data`: requests, replies and what they are made of.
-//! - `soundness`: whether a request has a spelling.
-//! - `error`: error classes and codes.
-//! - `object_type`: the object types, with the standard's numbers.
-//! - `property`: the properties, with the standard's numbers.
 //! - `site`: the objects that a site gives a device.
 //! - `object`: what an object holds.
 //! - `identity`: what an object is called, and which properties it has.
@@ -31,29 +26,21 @@ mod answering;
 mod applying;
 mod commands;
 mod copying;
-mod error;
 mod identity;
 pub mod laws;
 mod object;
-mod object_type;
 mod opening;
 mod places;
-mod plain_data;
-mod property;
 mod reading;
 mod site;
-mod soundness;
 mod table;
 mod writing;
 
-pub use error::{ErrorClass, ErrorCode};
 pub use object::ValueKind;
-pub use object_type::ObjectType;
-pub use plain_data::{
-    ObjectRefs, ObjectResults, ObjectWrites, PropertyReference, PropertyResult, PropertyWrite,
-    Reply, Request, Values,
+pub use primitives::{
+    ErrorClass, ErrorCode, ObjectRefs, ObjectResults, ObjectType, ObjectWrites, Property,
+    PropertyReference, PropertyResult, PropertyWrite, Reply, Request, Values,
 };
-pub use property::Property;
 pub use site::{DataLink, SiteObject, SiteObjects};
 pub use table::Table;
 

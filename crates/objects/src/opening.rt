@@ -9,10 +9,10 @@ ghost use Rattle.objects.specs.Site.{opening_value, opening_device, opening_tabl
 
 use crate::commands::Commands;
 use crate::object::{DeviceObject, Object, ValueKind, ValueObject};
-use crate::object_type::ObjectType;
 use crate::places::Places;
 use crate::site::{SiteObject, SiteObjects};
 use crate::writing::{text_refusal, value_refusal};
+use primitives::ObjectType;
 use std::alloc::{AllocError, Allocator};
 use tags::{Items, ObjectId, Octets};
 
@@ -23,6 +23,7 @@ const MAX_OBJECTS: usize = 512;
 const NO_INSTANCE: u32 = 4_194_303;
 
 /// Whether a site may give a device these objects.
+#[tactic(auto, using(crate::proofs::OpeningLaws::site_rules))]
 pub fn is_site<A: Allocator>(site: &SiteObjects<A>) -> bool
     ensures { IsTrue result ↔ IsSite site.now }
 {

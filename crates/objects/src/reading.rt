@@ -2,17 +2,15 @@
 
 ghost use Rattle.std.specs.Prelude.{◌≡◌, ◌∷◌, ◌-◌, ◌^◌, ◌<◌, ◌≤◌, ◌+◌, ◌≢◌, [], None, Some, Ok, Err, true, IfOk, IfErr, OnOk, length, map, option_to_list, option_copied, slice_get, if◌then◌else◌};
 ghost use Rattle.tags.specs.declared.value.Value.TheVariants as value;
-ghost use Rattle.objects.specs.Numbers.{type_number};
-ghost use Rattle.objects.specs.Objects.{is_array, text, present_value, status_flags, states_of, units_of, slot_value, object_list, held, held_by_value, held_by_device};
+ghost use Rattle.primitives.specs.Numbers.{type_number};
+ghost use Rattle.objects.specs.Objects.{text, present_value, status_flags, states_of, units_of, slot_value, object_list, held, held_by_value, held_by_device};
+ghost use Rattle.primitives.specs.Properties.{is_array};
 ghost use Rattle.objects.specs.Reading.{index_refusal, locate_property, at_index};
 
 use crate::commands::Commands;
-use crate::error::{ErrorClass, ErrorCode};
 use crate::object::{DeviceObject, Object, ValueKind, ValueObject};
-use crate::object_type::ObjectType;
-use crate::plain_data::Values;
-use crate::property::Property;
 use crate::site::DataLink;
+use primitives::{ErrorClass, ErrorCode, ObjectType, Property, Values};
 use std::alloc::{AllocError, Allocator};
 use tags::{Items, ObjectId, Octets, Value};
 
@@ -279,7 +277,7 @@ fn status_flags(out_of_service: bool) -> u8
     if out_of_service { 0x10 } else { 0x00 }
 }
 
-/// Number_Of_States, which a Multi-state Value alone has (12.20.11).
+/// Number_Of_States, which a Multi-state Value alone has (12.20.10).
 fn number_of_states<A: Allocator + Copy>(alloc: A, kind: ValueKind) -> Result<Values<A>, AllocError>
     ensures { IfOk result (λ values. values ≡ states_of kind) }
 {
@@ -291,7 +289,7 @@ fn number_of_states<A: Allocator + Copy>(alloc: A, kind: ValueKind) -> Result<Va
     }
 }
 
-/// Units, which an Integer Value alone has (12.43.9).
+/// Units, which an Integer Value alone has (12.43.10).
 fn units<A: Allocator + Copy>(alloc: A, kind: ValueKind) -> Result<Values<A>, AllocError>
     ensures { IfOk result (λ values. values ≡ units_of kind) }
 {
@@ -301,7 +299,7 @@ fn units<A: Allocator + Copy>(alloc: A, kind: ValueKind) -> Result<Values<A>, Al
     }
 }
 
-/// The identifiers of all objects (12.11.20).
+/// The identifiers of all objects (12.11.16).
 fn object_list<A: Allocator + Copy>(
     alloc: A,
     objects: &[Object<A>],

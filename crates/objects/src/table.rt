@@ -4,13 +4,12 @@
 ghost use Rattle.std.specs.Prelude.{◌≡◌, ◌<◌, ◌^◌, Some, IfOk, length};
 ghost use Rattle.objects.specs.Reading.{read_place, locate_property};
 
-use crate::copying::copy_objects;
 use crate::object::Object;
 use crate::opening::{is_site, open, places_of};
 use crate::places::Places;
-use crate::plain_data::Values;
 use crate::reading::{self, Refusal, UNKNOWN_OBJECT, locate, object_at};
 use crate::site::SiteObjects;
+use primitives::{Values, copy_all};
 use std::alloc::{AllocError, Allocator};
 use std::marker::Model;
 use tags::{Fault, ObjectId};
@@ -36,11 +35,11 @@ impl<A: Allocator> Model for Table<A> {
 
 impl<A: Allocator + Copy> Table<A> {
     ghost use Rattle.std.specs.Prelude.{◌≡◌, ◌⊎◌, OnOk, IfOk, IfErr, MatchOption, option_copied, Ok, Err};
-    ghost use Rattle.objects.specs.Answers.{IsAnswerTo};
+    ghost use Rattle.primitives.specs.Answers.{IsAnswerTo};
     ghost use Rattle.objects.specs.Machine.{reply, after};
     ghost use Rattle.objects.specs.Reading.{object_at, read};
     ghost use Rattle.objects.specs.Site.{opening_table, IsSite, IsFaultySite};
-    ghost use Rattle.objects.specs.Sound.{IsSoundRequest, IsSoundReply};
+    ghost use Rattle.primitives.specs.Sound.{IsSoundRequest, IsSoundReply};
 
     /// The table of a site's objects, as it opens (12).
     ///
@@ -69,7 +68,7 @@ impl<A: Allocator + Copy> Table<A> {
         ensures { IfOk result (λ copy. copy ≡ self.now) }
     {
         let alloc = *self.objects.allocator();
-        let objects = copy_objects(alloc, &self.objects)?;
+        let objects = copy_all(alloc, &self.objects)?.into_vec();
         let places = places_of(alloc, &objects)?;
         Ok(Table { objects, places })
     }

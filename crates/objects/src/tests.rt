@@ -9,7 +9,6 @@ use tags::{Items, ObjectId, Value};
 mod memory;
 mod reading;
 mod sites;
-mod soundness;
 mod writing;
 
 const DEVICE: ObjectId = ObjectId {

@@ -3,14 +3,12 @@
 ghost use Rattle.std.specs.Prelude.{◌≡◌, ◌∷◌, [], None, length};
 ghost use Rattle.std.specs.Str.{is_utf8};
 ghost use Rattle.tags.specs.Value.{IsSound};
-ghost use Rattle.objects.specs.Sound.{AreSound};
+ghost use Rattle.primitives.specs.Sound.{AreSound};
 ghost use Rattle.objects.specs.Writing.{access, in_range, text_refusal, value_refusal, values_refusal, command_refusal, write_refusal, level_of, commanded, put, put_value, put_device};
 
-use crate::error::{ErrorClass, ErrorCode};
 use crate::object::{Access, Datatype, DeviceObject, Object, ValueKind, ValueObject};
-use crate::plain_data::Values;
-use crate::property::Property;
 use crate::reading::Refusal;
+use primitives::{ErrorClass, ErrorCode, Property, Values};
 use std::alloc::Allocator;
 use std::str;
 use tags::Value;

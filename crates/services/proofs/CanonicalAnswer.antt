@@ -4,26 +4,27 @@ use Rattle.std.proofs.lemmas.List.{append_assoc, append-nil}
 use Rattle.tags.specs.declared.object_id.ObjectId.{ObjectId}
 use Rattle.tags.specs.declared.value.Value.{Value}
 use Rattle.tags.specs.Canonical.{canonicals}
-use Rattle.objects.specs.Answers.{IsAnswerTo}
-use Rattle.objects.specs.Errors.{class_number, code_number}
-use Rattle.objects.specs.Sound.{AreSound, IsSoundId, IsSoundIndex, IsSoundReading, IsSoundReply, IsSoundRequest, IsSoundResult, IsSoundResults}
-use Rattle.objects.specs.declared.plain_data.ObjectResults.{ObjectResults}
-use Rattle.objects.specs.declared.plain_data.PropertyResult.{PropertyResult}
-use Rattle.objects.specs.declared.plain_data.Reply.{Reply}
-use Rattle.objects.specs.declared.plain_data.Reply.TheVariants.{Values, Many, Done, Error, ErrorAt}
-use Rattle.objects.specs.declared.plain_data.Request.{Request}
-use Rattle.objects.specs.declared.plain_data.Request.TheVariants.{Read, ReadMany, Write, WriteMany}
+use Rattle.primitives.specs.Answers.{IsAnswerTo}
+use Rattle.primitives.specs.Errors.{class_number, code_number}
+use Rattle.primitives.specs.Sound.{AreSound, IsSoundId, IsSoundIndex, IsSoundReading, IsSoundReply, IsSoundRequest, IsSoundResult, IsSoundResults}
+use Rattle.primitives.specs.declared.plain_data.ObjectResults.{ObjectResults}
+use Rattle.primitives.specs.declared.plain_data.PropertyResult.{PropertyResult}
+use Rattle.primitives.specs.declared.plain_data.Reply.{Reply}
+use Rattle.primitives.specs.declared.plain_data.Reply.TheVariants.{Values, Many, Done, Error, ErrorAt}
+use Rattle.primitives.specs.declared.plain_data.Request.{Request}
+use Rattle.primitives.specs.declared.plain_data.Request.TheVariants.{Read, ReadMany, Write, WriteMany}
 use Rattle.services.specs.declared.reply.Answer.{Answer}
 use Rattle.services.specs.declared.reply.Answer.TheVariants as answer
-use Rattle.services.specs.ApduWriting.{class_and_code_octets}
+use Rattle.apdu.specs.ApduWriting.{class_and_code_octets}
 use Rattle.services.specs.CanonicalReply.{reading_octets, result_octets, results_octets, canonical_reply}
-use Rattle.services.specs.CanonicalRequest.{object_field, number_field, option_field, opening_octets, closing_octets, values_field, in_turn, read_octets}
+use Rattle.apdu.specs.ParameterWriting.{object_field, number_field, option_field, opening_octets, closing_octets}
+use Rattle.services.specs.CanonicalRequest.{values_field, in_turn, read_octets}
 use Rattle.services.specs.Fields.{TakesNumber, TakesOpening, TakesEach}
 use Rattle.services.specs.Multiple.{OpensList}
 use Rattle.services.specs.Reply.{reading_tag, TakesReading, TakesResult, TakesResults, SpellsAnswer, SpellsReply, GoesIn}
 use Rattle.services.specs.Requests.{TakesWrite}
 use Rattle.services.proofs.CanonicalBody.{number_taken, opening_taken, closing_taken, option_taken, no_contents_at_opening, inside_taken, each_taken, write_spelled, list_opened, whole}
-use Rattle.services.proofs.CanonicalLaws.{class_and_code}
+use Rattle.apdu.proofs.CanonicalLaws.{class_and_code}
 use Rattle.services.proofs.OneAnswer.{one_answer}
 use Rattle.services.proofs.OneReply.{Reading}
 

@@ -1,38 +1,31 @@
 -- The octets that are written of a sound request spell it.
-use Rattle.std.proofs.Common.{◌≡◌, ℕ, ◌+◌, ◌*◌, ◌^◌, ◌<◌, ◌≤◌, List, [], ◌∷◌, ◌++◌, length, Option, Some, None, refl, sym, ap, subst, ◌∙◌, inl, inr, arith}
+use Rattle.std.proofs.Common.{◌≡◌, ℕ, ◌^◌, ◌<◌, List, [], ◌∷◌, ◌++◌, Option, Some, None, refl, sym, ap, subst, arith}
 use Rattle.std.specs.List.{AllByRecursion}
-use Rattle.std.proofs.lemmas.Bool.{cases_lt, lt-ltb, le-ltb}
 use Rattle.std.proofs.lemmas.List.{append_assoc, append-nil}
-use Rattle.byteorder.specs.Endian.{big_number, big_bytes}
-use Rattle.byteorder.specs.Numbers.{big_number-reads_back, length-bytes_high_first}
 use Rattle.tags.specs.declared.tag.Class.TheVariants.{Context}
 use Rattle.tags.specs.declared.object_id.ObjectId.{ObjectId}
 use Rattle.tags.specs.declared.value.Value.{Value}
-use Rattle.tags.specs.Number.{width, unsigned_octets, object_octets, SpellsUnsigned, SpellsObject}
-use Rattle.tags.specs.Tag.{PlainTag, contents, TakesTag}
+use Rattle.tags.specs.Tag.{PlainTag, contents}
 use Rattle.tags.specs.Element.{context}
 use Rattle.tags.specs.Value.{TakesValue}
-use Rattle.tags.specs.Canonical.{tagged, canonical, canonicals}
-use Rattle.tags.proofs.CanonicalLaws.{canonical_tag_spells, canonical_spells}
+use Rattle.tags.specs.Canonical.{canonical, canonicals}
+use Rattle.tags.proofs.CanonicalLaws.{canonical_spells}
+use Rattle.apdu.proofs.CanonicalLaws.{takes_number, takes_object}
 use Rattle.tags.proofs.OneTag.{one_front_tag}
-use Rattle.objects.specs.declared.plain_data.Request.{Request}
-use Rattle.objects.specs.declared.plain_data.Request.TheVariants.{Read, ReadMany, Write, WriteMany}
-use Rattle.objects.specs.declared.plain_data.ObjectRefs.{ObjectRefs}
-use Rattle.objects.specs.declared.plain_data.PropertyReference.{PropertyReference}
-use Rattle.objects.specs.declared.plain_data.ObjectWrites.{ObjectWrites}
-use Rattle.objects.specs.declared.plain_data.PropertyWrite.{PropertyWrite}
-use Rattle.objects.specs.Sound.{IsSoundId, IsSoundIndex, IsSoundPriority, IsSoundReference, IsSoundRefs, IsSoundWrite, IsSoundWrites, IsSoundRequest, AreSound}
-use Rattle.services.specs.Numbers.{service_number}
+use Rattle.primitives.specs.declared.plain_data.Request.{Request}
+use Rattle.primitives.specs.declared.plain_data.Request.TheVariants.{Read, ReadMany, Write, WriteMany}
+use Rattle.primitives.specs.declared.plain_data.ObjectRefs.{ObjectRefs}
+use Rattle.primitives.specs.declared.plain_data.PropertyReference.{PropertyReference}
+use Rattle.primitives.specs.declared.plain_data.ObjectWrites.{ObjectWrites}
+use Rattle.primitives.specs.declared.plain_data.PropertyWrite.{PropertyWrite}
+use Rattle.primitives.specs.Sound.{IsSoundId, IsSoundIndex, IsSoundPriority, IsSoundReference, IsSoundRefs, IsSoundWrite, IsSoundWrites, IsSoundRequest, AreSound}
+use Rattle.apdu.specs.Numbers.{service_number}
 use Rattle.services.specs.Fields.{TakesObject, TakesNumber, TakesOption, TakesLast, TakesOpening, TakesClosing, TakesEach, TakesInside, OpensBehind, NoContents}
 use Rattle.services.specs.Requests.{TakesProperty, SpellsReadProperty, SpellsWriteProperty}
 use Rattle.services.specs.Multiple.{OpensList, TakesReference, TakesRefs, TakesPropertyWrite, TakesWrites}
 use Rattle.services.specs.Request.{request_service, SpellsBody, SpellsRequest}
+use Rattle.apdu.specs.ParameterWriting.{object_field, number_field, option_field, opening_octets, closing_octets}
 use Rattle.services.specs.CanonicalRequest.{
-  object_field,
-  number_field,
-  option_field,
-  opening_octets,
-  closing_octets,
   in_turn,
   values_field,
   reference_octets,
@@ -45,49 +38,13 @@ use Rattle.services.specs.CanonicalRequest.{
 use Rattle.services.proofs.OneField.{contents_no_opening, contents_no_closing}
 use Rattle.services.proofs.OneRequest.{one_request}
 
--- ---- numbers
-
-record Wide (n k : ℕ) : Type 0 where
-  some : 0 < k
-  few : k ≤ 4
-  fits : n < 256 ^ k
-
-width_fits : (n : ℕ) → n < 2 ^ 32 → Wide n (width n)
-unfolding width
-width_fits n lt =
-    elim (cases_lt n 256) [
-      | inl a ↦ rw (lt-ltb n 256 a) record { some = omega arith; few = omega arith; fits = a }
-      | inr a ↦ elim (cases_lt n 65536) [
-        | inl b ↦ rw (le-ltb n 256 a, lt-ltb n 65536 b) record { some = omega arith; few = omega arith; fits = b }
-        | inr b ↦ elim (cases_lt n 16777216) [
-          | inl c ↦ rw (le-ltb n 256 a, le-ltb n 65536 b, lt-ltb n 16777216 c) record { some = omega arith; few = omega arith; fits = c }
-          | inr c ↦ rw (le-ltb n 256 a, le-ltb n 65536 b, le-ltb n 16777216 c) record { some = omega arith; few = omega arith; fits = lt }
-        ]
-      ]
-    ]
-
-number_again : (k x : ℕ) → x < 256 ^ k → big_number k (big_bytes k x) ≡ x
-number_again k x lt = ap (big_number k) (sym (append-nil (big_bytes k x))) ∙ big_number-reads_back k x [] lt
-
-unsigned_spells : (n : ℕ) → n < 2 ^ 32 → SpellsUnsigned (unsigned_octets n) n
-unsigned_spells n lt =
-    let w = width_fits n lt in
-    let len = length-bytes_high_first (width n) n in
-    record { some = rw len w.some; few = rw len w.few; value = rw len (sym (number_again (width n) n w.fits)) }
-
-object_spells : (o : ObjectId) → IsSoundId o → SpellsObject (object_octets o.object_type o.instance) o.object_type o.instance
-object_spells o sound = record { four = refl; sound = sound; value = number_again 4 (o.object_type * 2 ^ 22 + o.instance) (omega (arith, sound.0, sound.1)) }
-
 -- ---- fields
 
-contents_taken : (number : ℕ) (inner rest : List ℕ) → number < 255 → length inner < 2 ^ 32 → TakesTag (tagged Context number inner ++ rest) (context number (contents inner)) rest
-contents_taken number inner rest lt len = (tagged Context number inner, canonical_tag_spells Context number (contents inner) (tt, lt, len), refl)
-
 object_taken : (number : ℕ) (o : ObjectId) (rest : List ℕ) → number < 255 → IsSoundId o → TakesObject (object_field number o ++ rest) number o rest
-object_taken number o rest lt sound = record { inner = object_octets o.object_type o.instance; taken = contents_taken number (object_octets o.object_type o.instance) rest lt (omega arith); is = object_spells o sound }
+object_taken number o rest lt sound = takes_object Context number o rest tt lt sound
 
 pub number_taken : (number n : ℕ) (rest : List ℕ) → number < 255 → n < 2 ^ 32 → TakesNumber (number_field number n ++ rest) number n rest
-number_taken number n rest lt fits = let s = unsigned_spells n fits in record { inner = unsigned_octets n; taken = contents_taken number (unsigned_octets n) rest lt (omega (arith, s.few)); is = s }
+number_taken number n rest lt fits = takes_number Context number n rest tt lt fits
 
 pub opening_taken : (number : ℕ) (rest : List ℕ) → number < 255 → TakesOpening (opening_octets number ++ rest) number rest
 opening_taken number rest lt = (opening_octets number, (refl, lt, refl), refl)
@@ -110,7 +67,7 @@ no_contents_at_closing : (octets : List ℕ) (number n : ℕ) (rest : List ℕ) 
 no_contents_at_closing octets number n rest t = record { none = λ inner after s. contents_no_closing octets number n inner after rest s t }
 
 no_contents_at_number : (octets : List ℕ) (number n m : ℕ) (rest : List ℕ) → TakesNumber octets n m rest → (n ≡ number → ⊥) → NoContents octets number
-no_contents_at_number octets number n m rest t differ = record { none = λ inner after s. differ (ap (λ (u : PlainTag). u.number) (one_front_tag octets (context n (contents t.inner)) (context number (contents inner)) rest after t.taken s).tag) }
+no_contents_at_number octets number n m rest t differ = record { none = λ inner after s. differ (ap (λ (u : PlainTag). u.number) (one_front_tag octets (context n (contents t.inner)) (context number (contents inner)) rest after t.tag s).tag) }
 
 -- each of a list, one after another
 pub each_taken : {X : Type 0} (Takes : List ℕ → X → List ℕ → Type 0) (octets : X → List ℕ) (Sound : X → Type 0) (Good : List ℕ → Type 0)

@@ -1,10 +1,10 @@
 -- An error class and an error code stand under one name (18).
 use Rattle.std.proofs.Common.{◌≡◌, ℕ, refl, ap, arith}
-use Rattle.objects.specs.Errors.{class_number, code_number, IsNamedClass, IsNamedCode}
-use Rattle.objects.specs.declared.error.ErrorClass.{ErrorClass}
-use Rattle.objects.specs.declared.error.ErrorClass.TheVariants as class
-use Rattle.objects.specs.declared.error.ErrorCode.{ErrorCode}
-use Rattle.objects.specs.declared.error.ErrorCode.TheVariants as code
+use Rattle.primitives.specs.Errors.{class_number, code_number, IsNamedClass, IsNamedCode}
+use Rattle.primitives.specs.declared.error.ErrorClass.{ErrorClass}
+use Rattle.primitives.specs.declared.error.ErrorClass.TheVariants as class
+use Rattle.primitives.specs.declared.error.ErrorCode.{ErrorCode}
+use Rattle.primitives.specs.declared.error.ErrorCode.TheVariants as code
 
 pub one_class : (c d : ErrorClass) → class_number c ≡ class_number d → IsNamedClass c → IsNamedClass d → c ≡ d
 one_class class.Device class.Device e n m = refl

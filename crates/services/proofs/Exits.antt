@@ -2,7 +2,7 @@
 use Rattle.std.proofs.Common.{◌≡◌, Result, Ok, Err, sym, subst}
 use Rattle.std.specs.Prelude.{IfErr, IsErrAnd}
 use Rattle.std.proofs.lemmas.Result.{err_from_is_err_and}
-use Rattle.services.specs.declared.numbers.RejectReason.{RejectReason}
+use Rattle.apdu.specs.declared.numbers.RejectReason.{RejectReason}
 use Rattle.services.specs.declared.stop.Stop.{Stop}
 use Rattle.services.specs.declared.stop.Stop.TheVariants.{Memory, Reject}
 use Rattle.services.specs.Stop.{StopsFor}

@@ -5,8 +5,8 @@ use Rattle.tags.specs.Element.{context}
 use Rattle.tags.specs.Number.{SpellsUnsigned}
 use Rattle.tags.specs.Refusal.{IsBadNumber}
 use Rattle.tags.proofs.OneTag.{one_front_tag, tag_shortens, no_tag_at_end}
-use Rattle.services.specs.declared.numbers.RejectReason.{RejectReason}
-use Rattle.services.specs.declared.numbers.RejectReason.TheVariants.{InvalidTag, MissingRequiredParameter}
+use Rattle.apdu.specs.declared.numbers.RejectReason.{RejectReason}
+use Rattle.apdu.specs.declared.numbers.RejectReason.TheVariants.{InvalidTag, MissingRequiredParameter}
 use Rattle.services.specs.Fields.{NoContents, NoOpening, NoClosing, IsOtherTag, TakesNumber, RejectsOpening, RejectsBehind, opening_tag, RejectsTag, RejectsContents}
 
 pub false_is_not_true : false ≡ true → ⊥
@@ -73,7 +73,7 @@ other_behind octets t next number list taken is isnt =
     opening_tag None octets (no_contents_of_other octets t next number taken is, refl) (some_of_tag octets t next taken, no_opening_of_other octets t next list taken isnt)
 
 pub number_taken : (octets : List ℕ) (t : PlainTag) (rest : List ℕ) (number : ℕ) (inner : List ℕ) (n : ℕ) → TakesTag octets t rest → t ≡ context number (contents inner) → SpellsUnsigned inner n → TakesNumber octets number n rest
-number_taken octets t rest number inner n taken e is = record { inner = inner; taken = subst (λ (x : PlainTag). TakesTag octets x rest) e taken; is = is }
+number_taken octets t rest number inner n taken e is = record { inner = inner; tag = subst (λ (x : PlainTag). TakesTag octets x rest) e taken; said = is }
 
 pub ruleset behind_laws = (no_contents_of_other)
 

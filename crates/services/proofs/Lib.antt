@@ -10,13 +10,6 @@ pub mod OneRequest
 pub mod NoField
 pub mod NoRequest
 pub mod RequestOctets
-pub mod Parameters
-pub mod ServiceErrors
-pub mod ApduLaws
-pub mod UnconfirmedLaws
-pub mod CanonicalLaws
-pub mod RefusalLaws
-pub mod ShortestLaws
 pub mod ErrorNames
 pub mod OneReply
 pub mod NoReply

@@ -2,14 +2,14 @@
 use Rattle.std.proofs.Common.{◌≡◌, ◌≢◌, ℕ, suc, ◌<◌, List, [], ◌∷◌, ◌++◌, length, Option, Some, None, refl, subst, inl, inr, arith}
 use Rattle.tags.specs.Tag.{PlainTag, closing, TakesTag, NoTag}
 use Rattle.tags.specs.Element.{context}
-use Rattle.services.specs.declared.numbers.RejectReason.{RejectReason}
-use Rattle.services.specs.declared.numbers.RejectReason.TheVariants.{InvalidParameterDataType, InvalidTag, MissingRequiredParameter}
+use Rattle.apdu.specs.declared.numbers.RejectReason.{RejectReason}
+use Rattle.apdu.specs.declared.numbers.RejectReason.TheVariants.{InvalidParameterDataType, InvalidTag, MissingRequiredParameter}
 use Rattle.services.specs.Fields.{IsOtherTag, TakesNumber, TakesEach, RejectsTag}
 use Rattle.services.specs.Multiple.{OpensList, RejectsFirst, RejectsNext, TakesReference, TakesRefs, RejectsRefs, MustStand, SpellsReadMultiple, RejectsReadMultiple, RejectsReferences, at_index, at_next}
 use Rattle.services.specs.MultipleSteps.{TakesNext, IsNext, RejectsNextTag, GoesOn, RejectsGoing, in_option, in_next, References, RejectsPriority}
-use Rattle.objects.specs.declared.plain_data.PropertyReference.{PropertyReference}
-use Rattle.objects.specs.declared.plain_data.ObjectRefs.{ObjectRefs}
-use Rattle.objects.specs.Sound.{IsSoundRefs}
+use Rattle.primitives.specs.declared.plain_data.PropertyReference.{PropertyReference}
+use Rattle.primitives.specs.declared.plain_data.ObjectRefs.{ObjectRefs}
+use Rattle.primitives.specs.Sound.{IsSoundRefs}
 use Rattle.std.specs.List.{AllByRecursion}
 use Rattle.services.proofs.Lists.{takes_more, all_more}
 use Rattle.services.proofs.Shortens.{number_shortens, option_shortens}
@@ -26,7 +26,7 @@ pub ruleset first_laws = (tag_rejects_first, some_of_tag, no_closing_of_other, n
 -- a further property under the tag that stands there
 pub next_taken : (octets : List ℕ) (t : PlainTag) (rest : List ℕ) (next : Option ℕ) → TakesTag octets t rest → IsNext t next → TakesNext octets next rest
 next_taken octets t rest None taken is = subst (λ (x : PlainTag). TakesTag octets x rest) is taken
-next_taken octets t rest (Some p) taken is = record { inner = is.0; taken = subst (λ (x : PlainTag). TakesTag octets x rest) is.1 taken; is = is.2 }
+next_taken octets t rest (Some p) taken is = record { inner = is.0; tag = subst (λ (x : PlainTag). TakesTag octets x rest) is.1 taken; said = is.2 }
 
 pub next_rejected : (reason : RejectReason) (octets : List ℕ) (t : PlainTag) (rest : List ℕ) → TakesTag octets t rest → RejectsNextTag reason t → RejectsNext reason octets
 next_rejected InvalidTag octets t rest taken h = (no_closing_of_other octets t rest 1 taken h.0, no_contents_of_other octets t rest 0 taken h.1)

@@ -8,8 +8,8 @@ use Rattle.tags.specs.Element.{context}
 use Rattle.tags.specs.Value.{TakesValue}
 use Rattle.tags.proofs.RefusalLaws.{refused_is_no_value, one_refusal}
 use Rattle.tags.specs.Refusal.{RefusesValue}
-use Rattle.services.specs.declared.numbers.RejectReason.{RejectReason}
-use Rattle.services.specs.declared.numbers.RejectReason.TheVariants.{InvalidParameterDataType, InvalidTag, MissingRequiredParameter, TooManyArguments}
+use Rattle.apdu.specs.declared.numbers.RejectReason.{RejectReason}
+use Rattle.apdu.specs.declared.numbers.RejectReason.TheVariants.{InvalidParameterDataType, InvalidTag, MissingRequiredParameter, TooManyArguments}
 use Rattle.services.specs.Fields.{
   TakesObject,
   TakesNumber,
@@ -38,23 +38,23 @@ use Rattle.tags.proofs.OneTag.{one_front_tag}
 
 pub bad_number_not_taken : (octets : List ℕ) (k n : ℕ) (a : List ℕ) → HasBadNumber octets k → TakesNumber octets k n a → ⊥
 bad_number_not_taken octets k n a h t =
-    let one = one_contents octets k h.inner t.inner h.rest a h.taken t.taken in
+    let one = one_contents octets k h.inner t.inner h.rest a h.taken t.tag in
     let same : length h.inner ≡ length t.inner = ap length one.0 in
     elim h.bad [
-      | inl e ↦ let none : length h.inner ≡ 0 = ap length e in omega (arith, same, none, t.is.some)
-      | inr lt ↦ omega (arith, same, lt, t.is.few)
+      | inl e ↦ let none : length h.inner ≡ 0 = ap length e in omega (arith, same, none, t.said.some)
+      | inr lt ↦ omega (arith, same, lt, t.said.few)
     ]
 
 pub object_not_taken : (reason : RejectReason) (octets : List ℕ) (k : ℕ) (o : ObjectId) (a : List ℕ) → RejectsObject reason octets k → TakesObject octets k o a → ⊥
-object_not_taken InvalidParameterDataType octets k o a h t = let one = one_contents octets k h.inner t.inner h.rest a h.taken t.taken in h.bad (ap length one.0 ∙ t.is.four)
-object_not_taken InvalidTag octets k o a h t = h.1.none t.inner a t.taken
-object_not_taken MissingRequiredParameter octets k o a h t = no_tag_here octets (context k (contents t.inner)) a h t.taken
+object_not_taken InvalidParameterDataType octets k o a h t = let one = one_contents octets k h.inner t.inner h.rest a h.taken t.tag in h.bad (ap length one.0 ∙ t.said.four)
+object_not_taken InvalidTag octets k o a h t = h.1.none t.inner a t.tag
+object_not_taken MissingRequiredParameter octets k o a h t = no_tag_here octets (context k (contents t.inner)) a h t.tag
 object_not_taken reason octets k o a h t = absurd h
 
 pub number_not_taken : (reason : RejectReason) (octets : List ℕ) (k n : ℕ) (a : List ℕ) → RejectsNumber reason octets k → TakesNumber octets k n a → ⊥
 number_not_taken InvalidParameterDataType octets k n a h t = bad_number_not_taken octets k n a h t
-number_not_taken InvalidTag octets k n a h t = h.1.none t.inner a t.taken
-number_not_taken MissingRequiredParameter octets k n a h t = no_tag_here octets (context k (contents t.inner)) a h t.taken
+number_not_taken InvalidTag octets k n a h t = h.1.none t.inner a t.tag
+number_not_taken MissingRequiredParameter octets k n a h t = no_tag_here octets (context k (contents t.inner)) a h t.tag
 number_not_taken reason octets k n a h t = absurd h
 
 pub bad_option : (octets : List ℕ) (k : ℕ) (n : Option ℕ) (a : List ℕ) → HasBadNumber octets k → TakesOption octets k n a → ⊥
@@ -69,9 +69,9 @@ pub last_not_taken : (reason : RejectReason) (octets : List ℕ) (k : ℕ) (n : 
 last_not_taken InvalidParameterDataType octets k None a h t = no_tag_here octets (context k (contents h.inner)) h.rest t.0 h.taken
 last_not_taken InvalidParameterDataType octets k (Some n) a h t = bad_number_not_taken octets k n a h t
 last_not_taken InvalidTag octets k None a h t = let none : length octets ≡ 0 = ap length t.0 in omega (arith, none, h.0)
-last_not_taken InvalidTag octets k (Some n) a h t = h.1.none t.taken.0 a (context k (contents t.inner)) t.taken.1 t.taken.2
+last_not_taken InvalidTag octets k (Some n) a h t = h.1.none t.tag.0 a (context k (contents t.inner)) t.tag.1 t.tag.2
 last_not_taken TooManyArguments octets k None a h t = no_tag_here octets h.tag h.rest t.0 h.taken
-last_not_taken TooManyArguments octets k (Some n) a h t = h.other.other t.inner (one_front_tag octets h.tag (context k (contents t.inner)) h.rest a h.taken t.taken).tag
+last_not_taken TooManyArguments octets k (Some n) a h t = h.other.other t.inner (one_front_tag octets h.tag (context k (contents t.inner)) h.rest a h.taken t.tag).tag
 last_not_taken reason octets k n a h t = absurd h
 
 pub end_not_taken : (reason : RejectReason) (octets : List ℕ) → RejectsEnd reason octets → octets ≡ [] → ⊥

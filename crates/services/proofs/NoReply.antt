@@ -6,17 +6,17 @@ use Rattle.tags.specs.declared.value.Value.{Value}
 use Rattle.tags.specs.Element.{context}
 use Rattle.tags.specs.Tag.{PlainTag, opening, closing, TakesTag, NoTag}
 use Rattle.tags.proofs.OneTag.{one_front_tag}
-use Rattle.objects.specs.Errors.{class_number, code_number}
-use Rattle.objects.specs.Sound.{IsSoundResult, IsSoundResults}
-use Rattle.objects.specs.declared.plain_data.ObjectResults.{ObjectResults}
-use Rattle.objects.specs.declared.plain_data.PropertyResult.{PropertyResult}
-use Rattle.services.specs.declared.numbers.RejectReason.{RejectReason}
+use Rattle.primitives.specs.Errors.{class_number, code_number}
+use Rattle.primitives.specs.Sound.{IsSoundResult, IsSoundResults}
+use Rattle.primitives.specs.declared.plain_data.ObjectResults.{ObjectResults}
+use Rattle.primitives.specs.declared.plain_data.PropertyResult.{PropertyResult}
+use Rattle.apdu.specs.declared.numbers.RejectReason.{RejectReason}
 use Rattle.services.specs.Fields.{TakesNumber, TakesOption, TakesClosing, TakesEach, IsOtherTag, NoClosing, RejectsEnd, RejectsInside}
 use Rattle.services.specs.Multiple.{OpensList, RejectsList}
 use Rattle.services.specs.Requests.{TakesWrite, RejectsWrite}
 use Rattle.services.specs.Reply.{reading_tag, TakesReadingInside, TakesReading, TakesIndexed, TakesResult, TakesResultList, TakesResults}
 use Rattle.services.specs.ReplySteps.{NoReadAck, NoErrorInside, NoReadingUnder, NoIndexed, TakesNextResult, NoNextResult, NoResult, NoResultList, NoResults, NoManyAck}
-use Rattle.services.specs.ServiceError.{OnlyClassAndCode, NoClassAndCode}
+use Rattle.apdu.specs.ServiceError.{OnlyClassAndCode, NoClassAndCode}
 use Rattle.services.proofs.FieldLaws.{no_contents_of_other, no_contents_of_none}
 use Rattle.services.proofs.Lists.{takes_more, all_more}
 use Rattle.services.proofs.NoField.{inside_not_taken, end_not_taken, list_stuck}
@@ -94,14 +94,14 @@ no_indexed_with A octets n at t behind u taken h = no_indexed_behind A octets (S
 
 next_of_none : (octets : List ℕ) → NoTag octets → (next : Option ℕ) (rest : List ℕ) → TakesNextResult octets next rest → ⊥
 next_of_none octets h None rest t = h.none t.0 rest (context 1 closing) t.1 t.2
-next_of_none octets h (Some p) rest t = (no_contents_of_none octets 2 h).none t.inner rest t.taken
+next_of_none octets h (Some p) rest t = (no_contents_of_none octets 2 h).none t.inner rest t.tag
 
 pub no_next_of_none : (octets : List ℕ) → NoTag octets → NoNextResult octets
 no_next_of_none octets h = record { none = next_of_none octets h }
 
 next_of_other : (octets : List ℕ) (t : PlainTag) (behind : List ℕ) → TakesTag octets t behind → (t ≡ context 1 closing → ⊥) → IsOtherTag t 2 → (next : Option ℕ) (rest : List ℕ) → TakesNextResult octets next rest → ⊥
 next_of_other octets t behind taken unclosed other None rest u = unclosed (one_front_tag octets t (context 1 closing) behind rest taken u).tag
-next_of_other octets t behind taken unclosed other (Some p) rest u = (no_contents_of_other octets t behind 2 taken other).none u.inner rest u.taken
+next_of_other octets t behind taken unclosed other (Some p) rest u = (no_contents_of_other octets t behind 2 taken other).none u.inner rest u.tag
 
 pub no_next_of_other : (octets : List ℕ) (t : PlainTag) (behind : List ℕ) → TakesTag octets t behind → (t ≡ context 1 closing → ⊥) → IsOtherTag t 2 → NoNextResult octets
 no_next_of_other octets t behind taken unclosed other = record { none = next_of_other octets t behind taken unclosed other }
@@ -112,7 +112,7 @@ no_result_next A octets h = record { none = λ r rest t. h.none (Some r.property
 pub no_result_behind : (A : Type 0) (octets : List ℕ) (p : ℕ) (at : List ℕ) → TakesNumber octets 2 p at → NoIndexed A at → NoResult A octets
 no_result_behind A octets p at taken h = record {
   none = λ r rest t. h.none r.index r.result rest (subst (λ (z : List ℕ). TakesIndexed z r.index r.result rest) (sym (one_number octets 2 p r.property at t.behind_property taken t.property_taken).1) t.reading_taken);
-  unclosed = λ rest t. contents_no_closing octets 2 1 taken.inner at rest taken.taken t;
+  unclosed = λ rest t. contents_no_closing octets 2 1 taken.inner at rest taken.tag t;
 }
 
 -- the results that were read, and what is left

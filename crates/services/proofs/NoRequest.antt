@@ -4,16 +4,16 @@ use Rattle.tags.specs.declared.object_id.ObjectId.{ObjectId}
 use Rattle.tags.specs.declared.value.Value.{Value}
 use Rattle.tags.specs.Tag.{contents}
 use Rattle.tags.specs.Element.{context}
-use Rattle.objects.specs.declared.plain_data.Request.{Request}
-use Rattle.objects.specs.declared.plain_data.Request.TheVariants.{Read, ReadMany, Write, WriteMany}
-use Rattle.objects.specs.declared.plain_data.ObjectRefs.{ObjectRefs}
-use Rattle.objects.specs.declared.plain_data.PropertyReference.{PropertyReference}
-use Rattle.objects.specs.declared.plain_data.ObjectWrites.{ObjectWrites}
-use Rattle.objects.specs.declared.plain_data.PropertyWrite.{PropertyWrite}
-use Rattle.objects.specs.Sound.{IsSoundPriority}
-use Rattle.services.specs.declared.numbers.RejectReason.{RejectReason}
-use Rattle.services.specs.declared.numbers.RejectReason.TheVariants.{InvalidParameterDataType, InvalidTag, MissingRequiredParameter}
-use Rattle.services.specs.Numbers.{service_number}
+use Rattle.primitives.specs.declared.plain_data.Request.{Request}
+use Rattle.primitives.specs.declared.plain_data.Request.TheVariants.{Read, ReadMany, Write, WriteMany}
+use Rattle.primitives.specs.declared.plain_data.ObjectRefs.{ObjectRefs}
+use Rattle.primitives.specs.declared.plain_data.PropertyReference.{PropertyReference}
+use Rattle.primitives.specs.declared.plain_data.ObjectWrites.{ObjectWrites}
+use Rattle.primitives.specs.declared.plain_data.PropertyWrite.{PropertyWrite}
+use Rattle.primitives.specs.Sound.{IsSoundPriority}
+use Rattle.apdu.specs.declared.numbers.RejectReason.{RejectReason}
+use Rattle.apdu.specs.declared.numbers.RejectReason.TheVariants.{InvalidParameterDataType, InvalidTag, MissingRequiredParameter}
+use Rattle.apdu.specs.Numbers.{service_number}
 use Rattle.services.specs.Fields.{TakesNumber, TakesOption, TakesLast, TakesOpening, TakesClosing, TakesEach, TakesInside, OpensBehind}
 use Rattle.services.specs.Requests.{
   TakesProperty,
@@ -135,15 +135,15 @@ list_not_opened reason octets o a (m.at_opening p at u h) t =
 pub first_not_taken : (reason : RejectReason) (octets : List ℕ) (p : ℕ) (a : List ℕ) → RejectsFirst reason octets → TakesNumber octets 0 p a → ⊥
 first_not_taken MissingRequiredParameter octets p a h t =
     elim h [
-      | inl e ↦ no_tag_here octets (context 0 (contents t.inner)) a e t.taken
-      | inr c ↦ contents_no_closing octets 0 1 t.inner a c.rest t.taken c.taken
+      | inl e ↦ no_tag_here octets (context 0 (contents t.inner)) a e t.tag
+      | inr c ↦ contents_no_closing octets 0 1 t.inner a c.rest t.tag c.taken
     ]
-first_not_taken InvalidTag octets p a h t = h.2.none t.inner a t.taken
+first_not_taken InvalidTag octets p a h t = h.2.none t.inner a t.tag
 first_not_taken InvalidParameterDataType octets p a h t = bad_number_not_taken octets 0 p a h t
 first_not_taken reason octets p a h t = absurd h
 
 pub next_not_taken : (reason : RejectReason) (octets : List ℕ) (p : ℕ) (a : List ℕ) → RejectsNext reason octets → TakesNumber octets 0 p a → ⊥
-next_not_taken InvalidTag octets p a h t = h.1.none t.inner a t.taken
+next_not_taken InvalidTag octets p a h t = h.1.none t.inner a t.tag
 next_not_taken InvalidParameterDataType octets p a h t = bad_number_not_taken octets 0 p a h t
 next_not_taken reason octets p a h t = absurd h
 
@@ -167,7 +167,7 @@ references_not_taken reason inside qs bt b (m.at_index rs at p behind s u h) t f
     (λ r a v.
     let one = one_number at 0 p r.property behind v.behind_property u v.property_taken in
     option_not_taken reason behind 1 r.index a h (subst (λ (z : List ℕ). TakesOption z 1 r.index a) (sym one.1) v.index_taken))
-    (λ a v. contents_no_closing at 0 1 u.inner behind a u.taken v) s t f
+    (λ a v. contents_no_closing at 0 1 u.inner behind a u.tag v) s t f
 
 pub refs_not_taken : {A : Type 0} (reason : RejectReason) (octets : List ℕ) (r : ObjectRefs A) (a : List ℕ) → RejectsRefs reason octets → TakesRefs octets r a → ⊥
 refs_not_taken reason octets r a (m.at_list h) t = list_not_opened reason octets r.object t.inside h t.opened
@@ -225,7 +225,7 @@ write_list_not_taken reason inside us bt b (m.at_write ws at p behind s u h) t f
     let one = one_number at 0 p w.property behind v.behind_property u v.property_taken in
     behind_property_not_taken reason behind w v.inside v.behind_values a h
     (subst (λ (z : List ℕ). OpensBehind z 1 w.index 2 v.inside) (sym one.1) v.opened) v.values_taken v.priority_taken v.in_range)
-    (λ a v. contents_no_closing at 0 1 u.inner behind a u.taken v) s t f
+    (λ a v. contents_no_closing at 0 1 u.inner behind a u.tag v) s t f
 
 pub writes_not_taken : {A : Type 0} (reason : RejectReason) (octets : List ℕ) (w : ObjectWrites A) (a : List ℕ) → RejectsWrites A reason octets → TakesWrites octets w a → ⊥
 writes_not_taken reason octets w a (m.at_list h) t = list_not_opened reason octets w.object t.inside h t.opened

@@ -2,18 +2,18 @@
 use Rattle.std.proofs.Common.{◌≡◌, ℕ, List, [], Option, Some, None, sym, ap, subst, ◌∙◌}
 use Rattle.tags.specs.declared.object_id.ObjectId.{ObjectId}
 use Rattle.tags.specs.declared.value.Value.{Value}
-use Rattle.objects.specs.Answers.{IsAnswerTo}
-use Rattle.objects.specs.declared.error.ErrorClass.{ErrorClass}
-use Rattle.objects.specs.declared.error.ErrorCode.{ErrorCode}
-use Rattle.objects.specs.declared.plain_data.ObjectResults.{ObjectResults}
-use Rattle.objects.specs.declared.plain_data.Request.{Request}
-use Rattle.objects.specs.declared.plain_data.Request.TheVariants.{Read, ReadMany}
-use Rattle.objects.specs.declared.plain_data.Reply.{Reply}
-use Rattle.objects.specs.declared.plain_data.Reply.TheVariants.{Values, Many, Error, ErrorAt}
+use Rattle.primitives.specs.Answers.{IsAnswerTo}
+use Rattle.primitives.specs.declared.error.ErrorClass.{ErrorClass}
+use Rattle.primitives.specs.declared.error.ErrorCode.{ErrorCode}
+use Rattle.primitives.specs.declared.plain_data.ObjectResults.{ObjectResults}
+use Rattle.primitives.specs.declared.plain_data.Request.{Request}
+use Rattle.primitives.specs.declared.plain_data.Request.TheVariants.{Read, ReadMany}
+use Rattle.primitives.specs.declared.plain_data.Reply.{Reply}
+use Rattle.primitives.specs.declared.plain_data.Reply.TheVariants.{Values, Many, Error, ErrorAt}
 use Rattle.services.specs.declared.reply.Answer.{Answer}
 use Rattle.services.specs.declared.reply.Answer.TheVariants as answer
-use Rattle.services.specs.declared.service_error.ObjectPropertyReference.{ObjectPropertyReference}
-use Rattle.services.specs.declared.service_error.ServiceError.{ServiceError}
+use Rattle.apdu.specs.declared.service_error.ObjectPropertyReference.{ObjectPropertyReference}
+use Rattle.apdu.specs.declared.service_error.ServiceError.{ServiceError}
 use Rattle.services.specs.Reply.{SpellsAck, SpellsAnswer, SpellsFailure, SpellsReply, OnlyReply, NoReply}
 use Rattle.services.specs.ReplySteps.{NoAnswer}
 use Rattle.services.proofs.OneReply.{one_many}

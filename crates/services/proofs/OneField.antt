@@ -5,7 +5,8 @@ use Rattle.tags.specs.declared.object_id.ObjectId.{ObjectId}
 use Rattle.tags.specs.declared.value.Value.{Value}
 use Rattle.tags.specs.Tag.{PlainTag, contents, opening, closing, TakesTag}
 use Rattle.tags.specs.Element.{context}
-use Rattle.tags.specs.Number.{SpellsObject, SpellsUnsigned}
+use Rattle.tags.specs.declared.tag.Class.TheVariants.{Context}
+use Rattle.apdu.proofs.Parameters.{alone_number, alone_object}
 use Rattle.tags.specs.Value.{TakesValue}
 use Rattle.tags.proofs.OneTag.{one_front_tag}
 use Rattle.tags.proofs.ValueLaws.{one_value, no_value_of_closing}
@@ -37,34 +38,16 @@ pub contents_no_opening : (octets : List ℕ) (n m : ℕ) (x a b : List ℕ) →
 contents_no_opening octets n m x a b s r =
     contents_or_opening x (ap (λ (t : PlainTag). t.content) (one_front_tag octets (context n (contents x)) (context m opening) a b s r).tag)
 
-abbrev object_with : ℕ → ℕ → ObjectId
-object_with object_type instance = record { object_type = object_type; instance = instance }
-
-object_is : (o p : ObjectId) → o.object_type ≡ p.object_type → o.instance ≡ p.instance → o ≡ p
-object_is o p e f = ap (λ (k : ℕ). object_with k o.instance) e ∙ ap (λ (i : ℕ). object_with p.object_type i) f
-
-object_of : (inner : List ℕ) (o p : ObjectId) → SpellsObject inner o.object_type o.instance → SpellsObject inner p.object_type p.instance → o ≡ p
-object_of inner o p s r =
-    let e = sym s.value ∙ r.value in
-    object_is o p (omega (arith, s.sound, r.sound, e)) (omega (arith, s.sound, r.sound, e))
-
 pub one_object : (octets : List ℕ) (number : ℕ) (o p : ObjectId) (a b : List ℕ) → TakesObject octets number o a → TakesObject octets number p b → (o ≡ p) × (a ≡ b)
-one_object octets number o p a b s r =
-    let one = one_contents octets number s.inner r.inner a b s.taken r.taken in
-    (object_of s.inner o p s.is (subst (λ (x : List ℕ). SpellsObject x p.object_type p.instance) (sym one.0) r.is), one.1)
-
-number_of : (inner : List ℕ) (n m : ℕ) → SpellsUnsigned inner n → SpellsUnsigned inner m → n ≡ m
-number_of inner n m s r = s.value ∙ sym r.value
+one_object octets number o p a b s r = (alone_object Context number octets o a s).only p b r
 
 pub one_number : (octets : List ℕ) (number n m : ℕ) (a b : List ℕ) → TakesNumber octets number n a → TakesNumber octets number m b → (n ≡ m) × (a ≡ b)
-one_number octets number n m a b s r =
-    let one = one_contents octets number s.inner r.inner a b s.taken r.taken in
-    (number_of s.inner n m s.is (subst (λ (x : List ℕ). SpellsUnsigned x m) (sym one.0) r.is), one.1)
+one_number octets number n m a b s r = (alone_number Context number octets n a s).only m b r
 
 pub one_option : (octets : List ℕ) (number : ℕ) (n m : Option ℕ) (a b : List ℕ) → TakesOption octets number n a → TakesOption octets number m b → (n ≡ m) × (a ≡ b)
 one_option octets number None None a b s r = (refl, s.1 ∙ sym r.1)
-one_option octets number None (Some m) a b s r = absurd (s.0.none r.inner b r.taken)
-one_option octets number (Some n) None a b s r = absurd (r.0.none s.inner a s.taken)
+one_option octets number None (Some m) a b s r = absurd (s.0.none r.inner b r.tag)
+one_option octets number (Some n) None a b s r = absurd (r.0.none s.inner a s.tag)
 one_option octets number (Some n) (Some m) a b s r = let one = one_number octets number n m a b s r in (ap (λ (k : ℕ). Some k) one.0, one.1)
 
 pub no_tag_here : (octets : List ℕ) (t : PlainTag) (rest : List ℕ) → octets ≡ [] → TakesTag octets t rest → ⊥
@@ -72,8 +55,8 @@ no_tag_here octets t rest e taken = let some = some_of_tag octets t rest taken i
 
 pub one_last : (octets : List ℕ) (number : ℕ) (n m : Option ℕ) (a b : List ℕ) → TakesLast octets number n a → TakesLast octets number m b → (n ≡ m) × (a ≡ b)
 one_last octets number None None a b s r = (refl, s.1 ∙ sym r.1)
-one_last octets number None (Some m) a b s r = absurd (no_tag_here octets (context number (contents r.inner)) b s.0 r.taken)
-one_last octets number (Some n) None a b s r = absurd (no_tag_here octets (context number (contents s.inner)) a r.0 s.taken)
+one_last octets number None (Some m) a b s r = absurd (no_tag_here octets (context number (contents r.inner)) b s.0 r.tag)
+one_last octets number (Some n) None a b s r = absurd (no_tag_here octets (context number (contents s.inner)) a r.0 s.tag)
 one_last octets number (Some n) (Some m) a b s r = let one = one_number octets number n m a b s r in (ap (λ (k : ℕ). Some k) one.0, one.1)
 
 pub one_opening : (octets : List ℕ) (number : ℕ) (a b : List ℕ) → TakesOpening octets number a → TakesOpening octets number b → a ≡ b

@@ -8,14 +8,14 @@ use Rattle.tags.specs.Refusal.{RefusesValue}
 use Rattle.tags.specs.Value.{TakesValue}
 use Rattle.tags.proofs.RefusalLaws.{one_refusal}
 use Rattle.tags.proofs.OneTag.{one_front_tag}
-use Rattle.objects.specs.declared.plain_data.ObjectRefs.{ObjectRefs}
-use Rattle.objects.specs.declared.plain_data.PropertyReference.{PropertyReference}
-use Rattle.objects.specs.declared.plain_data.ObjectWrites.{ObjectWrites}
-use Rattle.objects.specs.declared.plain_data.PropertyWrite.{PropertyWrite}
-use Rattle.objects.specs.Sound.{IsSoundPriority}
-use Rattle.services.specs.declared.numbers.RejectReason.{RejectReason}
-use Rattle.services.specs.declared.numbers.RejectReason.TheVariants.{InvalidParameterDataType, InvalidTag, MissingRequiredParameter, TooManyArguments}
-use Rattle.services.specs.declared.numbers.ConfirmedService.TheVariants.{ReadProperty, ReadPropertyMultiple, WriteProperty, WritePropertyMultiple}
+use Rattle.primitives.specs.declared.plain_data.ObjectRefs.{ObjectRefs}
+use Rattle.primitives.specs.declared.plain_data.PropertyReference.{PropertyReference}
+use Rattle.primitives.specs.declared.plain_data.ObjectWrites.{ObjectWrites}
+use Rattle.primitives.specs.declared.plain_data.PropertyWrite.{PropertyWrite}
+use Rattle.primitives.specs.Sound.{IsSoundPriority}
+use Rattle.apdu.specs.declared.numbers.RejectReason.{RejectReason}
+use Rattle.apdu.specs.declared.numbers.RejectReason.TheVariants.{InvalidParameterDataType, InvalidTag, MissingRequiredParameter, TooManyArguments}
+use Rattle.apdu.specs.declared.numbers.ConfirmedService.TheVariants.{ReadProperty, ReadPropertyMultiple, WriteProperty, WritePropertyMultiple}
 use Rattle.services.specs.Fields.{TakesNumber, TakesOption, TakesLast, TakesEach, TakesInside, OpensBehind, HasBadNumber, RejectsObject, RejectsNumber, RejectsOption, RejectsLast, RejectsEnd, RejectsOpening, RejectsBehind, option, opening_tag, RejectsValue, RejectsInside}
 use Rattle.services.specs.Requests.{RejectsProperty, at_object, at_property, RejectsReadProperty, at_index, at_end, RejectsWrite, at_values, RejectsTail, at_priority, at_range, RejectsWriteProperty, at_write, at_tail}
 use Rattle.services.specs.Multiple as m

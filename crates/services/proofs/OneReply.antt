@@ -3,42 +3,26 @@ use Rattle.std.proofs.Common.{◌≡◌, ℕ, ◌<◌, List, [], length, Option,
 use Rattle.tags.specs.declared.object_id.ObjectId.{ObjectId}
 use Rattle.tags.specs.declared.value.Value.{Value}
 use Rattle.tags.specs.Element.{context}
-use Rattle.tags.specs.Number.{SpellsUnsigned}
-use Rattle.tags.specs.Tag.{PlainTag, contents, opening, closing}
+use Rattle.tags.specs.Tag.{PlainTag, opening, closing}
 use Rattle.tags.specs.declared.tag.Class.TheVariants.{Application}
 use Rattle.tags.proofs.OneTag.{one_front_tag, tag_shortens}
-use Rattle.objects.specs.Errors.{class_number, code_number}
-use Rattle.objects.specs.declared.error.ErrorClass.{ErrorClass}
-use Rattle.objects.specs.declared.error.ErrorCode.{ErrorCode}
-use Rattle.objects.specs.declared.plain_data.ObjectResults.{ObjectResults}
-use Rattle.objects.specs.declared.plain_data.PropertyResult.{PropertyResult}
+use Rattle.apdu.proofs.ApduLaws.{class_and_code_alone}
+use Rattle.primitives.specs.Errors.{class_number, code_number}
+use Rattle.primitives.specs.declared.error.ErrorClass.{ErrorClass}
+use Rattle.primitives.specs.declared.error.ErrorCode.{ErrorCode}
+use Rattle.primitives.specs.declared.plain_data.ObjectResults.{ObjectResults}
+use Rattle.primitives.specs.declared.plain_data.PropertyResult.{PropertyResult}
 use Rattle.services.specs.Fields.{TakesClosing, TakesEach}
-use Rattle.services.specs.Parameter.{carrying, Takes}
+use Rattle.apdu.specs.Parameter.{carrying}
 use Rattle.services.specs.Reply.{TakesErrorInside, reading_tag, TakesReadingInside, TakesReading, TakesIndexed, TakesResult, TakesResultList, TakesResults}
-use Rattle.services.specs.ServiceError.{TakesClassAndCode}
+use Rattle.apdu.specs.ServiceError.{TakesClassAndCode}
 use Rattle.services.proofs.ErrorNames.{one_class, one_code}
 use Rattle.services.proofs.OneField.{one_number, one_option, one_closing, one_list, one_inside, contents_no_closing}
 use Rattle.services.proofs.OneRequest.{IsEnd, one_opened, one_end, nothing_shorter}
 use Rattle.services.proofs.Shortens.{number_shortens, option_shortens, inside_shortens, each_shortens, list_shortens}
 
-contents_are : (x y : List ℕ) → contents x ≡ contents y → x ≡ y
-contents_are x y e = cc
-
-number_is : (x : List ℕ) (n m : ℕ) → SpellsUnsigned x n → SpellsUnsigned x m → n ≡ m
-number_is x n m s r = s.value ∙ sym r.value
-
--- numbers under application tag 9
-one_enumerated : (octets : List ℕ) (n m : ℕ) (a b : List ℕ) → Takes SpellsUnsigned Application 9 octets n a → Takes SpellsUnsigned Application 9 octets m b → (n ≡ m) × (a ≡ b)
-one_enumerated octets n m a b s r =
-    let one = one_front_tag octets (carrying Application 9 s.inner) (carrying Application 9 r.inner) a b s.tag r.tag in
-    let same = contents_are s.inner r.inner (ap (λ (t : PlainTag). t.content) one.tag) in
-    (number_is s.inner n m s.said (subst (λ (x : List ℕ). SpellsUnsigned x m) (sym same) r.said), one.rest)
-
 pub one_class_and_code : (octets : List ℕ) (c d e f : ℕ) (a b : List ℕ) → TakesClassAndCode octets c d a → TakesClassAndCode octets e f b → (c ≡ e) × (d ≡ f) × (a ≡ b)
-one_class_and_code octets c d e f a b s r =
-    let one = one_enumerated octets c e s.at_code r.at_code s.class_taken r.class_taken in
-    let two = one_enumerated s.at_code d f a b s.code_taken (subst (λ (z : List ℕ). Takes SpellsUnsigned Application 9 z f b) (sym one.1) r.code_taken) in
-    (one.0, two.0, two.1)
+one_class_and_code octets c d e f a b s r = (class_and_code_alone octets c d a s).only e f b r
 
 -- class and code, up to their closing tag
 pub one_error : (octets : List ℕ) (c d : ErrorClass) (e f : ErrorCode) (a b : List ℕ) → TakesErrorInside octets c e a → TakesErrorInside octets d f b → (c ≡ d) × (e ≡ f) × (a ≡ b)
@@ -96,7 +80,7 @@ one_result octets r q a b s t =
     (result_is r q one.0 two.0 two.1, two.2)
 
 pub result_no_closing : {A : Type 0} (octets : List ℕ) (r : PropertyResult A) (a b : List ℕ) → TakesResult octets r a → TakesClosing octets 1 b → ⊥
-result_no_closing octets r a b s t = contents_no_closing octets 2 1 s.property_taken.inner s.behind_property b s.property_taken.taken t
+result_no_closing octets r a b s t = contents_no_closing octets 2 1 s.property_taken.inner s.behind_property b s.property_taken.tag t
 
 abbrev pub Ends : List ℕ → List ℕ → Type 0
 Ends octets rest = TakesClosing octets 1 rest

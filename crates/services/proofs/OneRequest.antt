@@ -2,13 +2,13 @@
 use Rattle.std.proofs.Common.{◌≡◌, ℕ, ◌<◌, List, [], length, Option, refl, sym, ap, subst, ◌∙◌, arith}
 use Rattle.tags.specs.declared.object_id.ObjectId.{ObjectId}
 use Rattle.tags.specs.declared.value.Value.{Value}
-use Rattle.objects.specs.declared.plain_data.Request.{Request}
-use Rattle.objects.specs.declared.plain_data.Request.TheVariants.{Read, ReadMany, Write, WriteMany}
-use Rattle.objects.specs.declared.plain_data.ObjectRefs.{ObjectRefs}
-use Rattle.objects.specs.declared.plain_data.PropertyReference.{PropertyReference}
-use Rattle.objects.specs.declared.plain_data.ObjectWrites.{ObjectWrites}
-use Rattle.objects.specs.declared.plain_data.PropertyWrite.{PropertyWrite}
-use Rattle.services.specs.Numbers.{service_number}
+use Rattle.primitives.specs.declared.plain_data.Request.{Request}
+use Rattle.primitives.specs.declared.plain_data.Request.TheVariants.{Read, ReadMany, Write, WriteMany}
+use Rattle.primitives.specs.declared.plain_data.ObjectRefs.{ObjectRefs}
+use Rattle.primitives.specs.declared.plain_data.PropertyReference.{PropertyReference}
+use Rattle.primitives.specs.declared.plain_data.ObjectWrites.{ObjectWrites}
+use Rattle.primitives.specs.declared.plain_data.PropertyWrite.{PropertyWrite}
+use Rattle.apdu.specs.Numbers.{service_number}
 use Rattle.services.specs.Fields.{TakesOption, TakesLast, TakesOpening, TakesClosing, TakesEach, TakesInside, OpensBehind}
 use Rattle.services.specs.Requests.{TakesWrite, SpellsReadProperty, SpellsWriteProperty}
 use Rattle.services.specs.Multiple.{OpensList, TakesReference, TakesRefs, TakesPropertyWrite, TakesWrites, SpellsReadMultiple, SpellsWriteMultiple}
@@ -70,7 +70,7 @@ one_reference octets r q a b s t =
     (reference_is r q x.0 y.0, y.1)
 
 pub reference_no_closing : (octets : List ℕ) (r : PropertyReference) (a b : List ℕ) → TakesReference octets r a → TakesClosing octets 1 b → ⊥
-reference_no_closing octets r a b s t = contents_no_closing octets 0 1 s.property_taken.inner s.behind_property b s.property_taken.taken t
+reference_no_closing octets r a b s t = contents_no_closing octets 0 1 s.property_taken.inner s.behind_property b s.property_taken.tag t
 
 abbrev refs_with : {A : Type 0} → ObjectId → List PropertyReference → ObjectRefs A
 refs_with o rs = record { object = o; refs = rs }
@@ -103,7 +103,7 @@ one_property_write octets w u a b s t =
     (property_write_is w u x.0 y.0 z.0 k.0, k.1)
 
 pub property_write_no_closing : {A : Type 0} (octets : List ℕ) (w : PropertyWrite A) (a b : List ℕ) → TakesPropertyWrite octets w a → TakesClosing octets 1 b → ⊥
-property_write_no_closing octets w a b s t = contents_no_closing octets 0 1 s.property_taken.inner s.behind_property b s.property_taken.taken t
+property_write_no_closing octets w a b s t = contents_no_closing octets 0 1 s.property_taken.inner s.behind_property b s.property_taken.tag t
 
 abbrev writes_with : {A : Type 0} → ObjectId → List (PropertyWrite A) → ObjectWrites A
 writes_with o ws = record { object = o; writes = ws }

@@ -7,19 +7,19 @@ use Rattle.tags.specs.Element.{context}
 use Rattle.tags.proofs.OneTag.{tag_shortens}
 use Rattle.services.specs.Fields.{TakesObject, TakesNumber, TakesOption, TakesEach, TakesInside, OpensBehind}
 use Rattle.tags.specs.Value.{TakesValue}
-use Rattle.objects.specs.declared.plain_data.ObjectRefs.{ObjectRefs}
-use Rattle.objects.specs.declared.plain_data.PropertyReference.{PropertyReference}
-use Rattle.objects.specs.declared.plain_data.ObjectWrites.{ObjectWrites}
-use Rattle.objects.specs.declared.plain_data.PropertyWrite.{PropertyWrite}
+use Rattle.primitives.specs.declared.plain_data.ObjectRefs.{ObjectRefs}
+use Rattle.primitives.specs.declared.plain_data.PropertyReference.{PropertyReference}
+use Rattle.primitives.specs.declared.plain_data.ObjectWrites.{ObjectWrites}
+use Rattle.primitives.specs.declared.plain_data.PropertyWrite.{PropertyWrite}
 use Rattle.services.specs.Requests.{TakesProperty}
 use Rattle.services.specs.Multiple.{OpensList, TakesReference, TakesRefs, TakesPropertyWrite, TakesWrites}
 use Rattle.services.proofs.ValueLists.{value_shortens}
 
 pub object_shortens : (octets : List ℕ) (number : ℕ) (o : ObjectId) (rest : List ℕ) → TakesObject octets number o rest → length rest < length octets
-object_shortens octets number o rest t = tag_shortens octets (context number (contents t.inner)) rest t.taken
+object_shortens octets number o rest t = tag_shortens octets (context number (contents t.inner)) rest t.tag
 
 pub number_shortens : (octets : List ℕ) (number n : ℕ) (rest : List ℕ) → TakesNumber octets number n rest → length rest < length octets
-number_shortens octets number n rest t = tag_shortens octets (context number (contents t.inner)) rest t.taken
+number_shortens octets number n rest t = tag_shortens octets (context number (contents t.inner)) rest t.tag
 
 pub option_shortens : (octets : List ℕ) (number : ℕ) (n : Option ℕ) (rest : List ℕ) → TakesOption octets number n rest → length rest ≤ length octets
 option_shortens octets number None rest t = let e : length rest ≡ length octets = ap length t.1 in omega (arith, e)

@@ -1,20 +1,21 @@
 -- No service data that spell a reply are fewer than the canonical ones.
 use Rattle.std.proofs.Common.{ℕ, ◌≤◌, List, [], ◌++◌, length, Ok, Err, arith}
 use Rattle.tags.specs.Number.{AreOctets}
-use Rattle.objects.specs.Errors.{class_number, code_number}
-use Rattle.objects.specs.declared.plain_data.ObjectResults.{ObjectResults}
-use Rattle.objects.specs.declared.plain_data.PropertyResult.{PropertyResult}
-use Rattle.objects.specs.declared.plain_data.Reply.{Reply}
-use Rattle.objects.specs.declared.plain_data.Reply.TheVariants.{Values, Many}
-use Rattle.objects.specs.declared.plain_data.Request.{Request}
-use Rattle.objects.specs.declared.plain_data.Request.TheVariants.{Read, ReadMany}
-use Rattle.services.specs.ApduWriting.{class_and_code_octets}
+use Rattle.primitives.specs.Errors.{class_number, code_number}
+use Rattle.primitives.specs.declared.plain_data.ObjectResults.{ObjectResults}
+use Rattle.primitives.specs.declared.plain_data.PropertyResult.{PropertyResult}
+use Rattle.primitives.specs.declared.plain_data.Reply.{Reply}
+use Rattle.primitives.specs.declared.plain_data.Reply.TheVariants.{Values, Many}
+use Rattle.primitives.specs.declared.plain_data.Request.{Request}
+use Rattle.primitives.specs.declared.plain_data.Request.TheVariants.{Read, ReadMany}
+use Rattle.apdu.specs.ApduWriting.{class_and_code_octets}
 use Rattle.services.specs.CanonicalReply.{reading_octets, result_octets, results_octets, canonical_reply}
-use Rattle.services.specs.CanonicalRequest.{object_field, number_field, option_field, opening_octets, closing_octets, values_field, in_turn, read_octets}
+use Rattle.apdu.specs.ParameterWriting.{object_field, number_field, option_field, opening_octets, closing_octets}
+use Rattle.services.specs.CanonicalRequest.{values_field, in_turn, read_octets}
 use Rattle.services.specs.Reply.{TakesReading, TakesResult, TakesResults, SpellsAck}
 use Rattle.services.proofs.OneReply.{Reading}
-use Rattle.services.proofs.ShortestBody.{Least, number_least, option_least, opening_least, closing_least, both_least, between_least, property_least, list_least, each_least}
-use Rattle.services.proofs.ShortestLaws.{class_and_code_shortens}
+use Rattle.services.proofs.ShortestBody.{number_least, option_least, opening_least, closing_least, both_least, between_least, property_least, list_least, each_least}
+use Rattle.apdu.proofs.ShortestLaws.{Least, class_and_code_least}
 
 reading_least : {A : Type 0} (octets : List ℕ) (v : Reading A) (rest : List ℕ) → AreOctets octets → TakesReading octets v rest → Least (reading_octets v) octets rest
 reading_least octets (Ok vs) rest fits t = between_least octets 4 vs t.inside rest fits t.opened t.inside_taken
@@ -22,9 +23,8 @@ reading_least octets (Err f) rest fits t =
     let error = class_and_code_octets (class_number f.0) (code_number f.1) in
     let inside = t.inside_taken in
     let first = opening_least octets 5 t.inside fits t.opened in
-    let s = class_and_code_shortens t.inside (class_number f.0) (code_number f.1) inside.at inside.taken first.fits in
-    let second : Least error t.inside inside.at = record { le = s.least; fits = s.fits } in
-    let third = closing_least inside.at 5 rest s.fits inside.closed in
+    let second = class_and_code_least t.inside (class_number f.0) (code_number f.1) inside.at inside.taken first.fits in
+    let third = closing_least inside.at 5 rest second.fits inside.closed in
     both_least (opening_octets 5 ++ error) (closing_octets 5) octets inside.at rest (both_least (opening_octets 5) error octets t.inside inside.at first second) third
 
 result_least : {A : Type 0} (octets : List ℕ) (r : PropertyResult A) (rest : List ℕ) → AreOctets octets → TakesResult octets r rest → Least (result_octets r) octets rest

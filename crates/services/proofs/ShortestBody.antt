@@ -1,34 +1,29 @@
 -- No octets that spell a request are fewer than the canonical ones.
-use Rattle.std.proofs.Common.{◌≡◌, ℕ, zero, suc, ◌+◌, ◌^◌, ◌<◌, ◌≤◌, List, [], ◌∷◌, ◌++◌, length, Option, Some, None, refl, sym, ap, ◌∙◌, inl, inr, arith}
-use Rattle.std.proofs.lemmas.Bool.{cases_lt, lt-ltb, le-ltb}
-use Rattle.std.proofs.lemmas.List.{length-append, get_or_append_left, get_or_past}
-use Rattle.byteorder.specs.Numbers.{big_from-lt, length-bytes_high_first}
+use Rattle.std.proofs.Common.{◌≡◌, ℕ, ◌≤◌, List, [], ◌∷◌, ◌++◌, length, Option, Some, None, sym, ap, subst, ◌∙◌, arith}
+use Rattle.std.proofs.lemmas.List.{length-append}
 use Rattle.tags.specs.declared.tag.Class.TheVariants.{Context}
 use Rattle.tags.specs.declared.object_id.ObjectId.{ObjectId}
 use Rattle.tags.specs.declared.value.Value.{Value}
-use Rattle.tags.specs.Number.{width, unsigned_octets, object_octets, AreOctets, SpellsUnsigned}
-use Rattle.tags.specs.Tag.{contents, opening, closing, TakesTag, initial_octets, length_bits, length_octets}
-use Rattle.tags.specs.Element.{context}
+use Rattle.tags.specs.Number.{AreOctets}
+use Rattle.tags.specs.Tag.{opening, closing}
 use Rattle.tags.specs.Value.{TakesValue}
-use Rattle.tags.specs.Canonical.{shortest, tagged, canonical, canonicals}
+use Rattle.tags.specs.Canonical.{canonical, canonicals}
 use Rattle.tags.proofs.OctetLists.{AreOctets-after}
-use Rattle.tags.proofs.ShortestLaws.{tag_shortest, value_shortest}
-use Rattle.objects.specs.declared.plain_data.Request.{Request}
-use Rattle.objects.specs.declared.plain_data.Request.TheVariants.{Read, ReadMany, Write, WriteMany}
-use Rattle.objects.specs.declared.plain_data.ObjectRefs.{ObjectRefs}
-use Rattle.objects.specs.declared.plain_data.PropertyReference.{PropertyReference}
-use Rattle.objects.specs.declared.plain_data.ObjectWrites.{ObjectWrites}
-use Rattle.objects.specs.declared.plain_data.PropertyWrite.{PropertyWrite}
+use Rattle.tags.proofs.ShortestLaws.{value_shortest}
+use Rattle.apdu.proofs.ShortestLaws.{Least, bracket_least, front_fits}
+use Rattle.apdu.proofs.ShortestLaws as parameter
+use Rattle.primitives.specs.declared.plain_data.Request.{Request}
+use Rattle.primitives.specs.declared.plain_data.Request.TheVariants.{Read, ReadMany, Write, WriteMany}
+use Rattle.primitives.specs.declared.plain_data.ObjectRefs.{ObjectRefs}
+use Rattle.primitives.specs.declared.plain_data.PropertyReference.{PropertyReference}
+use Rattle.primitives.specs.declared.plain_data.ObjectWrites.{ObjectWrites}
+use Rattle.primitives.specs.declared.plain_data.PropertyWrite.{PropertyWrite}
 use Rattle.services.specs.Fields.{TakesObject, TakesNumber, TakesOption, TakesLast, TakesOpening, TakesClosing, TakesEach, TakesInside}
 use Rattle.services.specs.Requests.{TakesProperty}
 use Rattle.services.specs.Multiple.{OpensList, TakesReference, TakesRefs, TakesPropertyWrite, TakesWrites}
 use Rattle.services.specs.Request.{SpellsBody, SpellsRequest}
+use Rattle.apdu.specs.ParameterWriting.{object_field, number_field, option_field, opening_octets, closing_octets}
 use Rattle.services.specs.CanonicalRequest.{
-  object_field,
-  number_field,
-  option_field,
-  opening_octets,
-  closing_octets,
   in_turn,
   values_field,
   reference_octets,
@@ -39,98 +34,19 @@ use Rattle.services.specs.CanonicalRequest.{
   canonical_request,
 }
 
--- a field of so few octets leaves this rest, which is octets too
-pub record Least (few octets rest : List ℕ) : Type 0 where
-  pub le : length few + length rest ≤ length octets
-  pub fits : AreOctets rest
-
-front_octets : (octets front rest : List ℕ) → octets ≡ front ++ rest → AreOctets octets → AreOctets front
-front_octets octets front rest e fits i =
-    elim (cases_lt i (length front)) [
-      | inl lt ↦ rw (← get_or_append_left front rest 0 i lt, ← e) (fits i)
-      | inr le ↦ rw (get_or_past {X = ℕ} front i 0 le) (omega arith)
-    ]
-
--- ---- contents
-
-no_length_octet : (n : ℕ) → n < 5 → length (length_octets (shortest n) n) ≡ 0
-unfolding shortest
-no_length_octet n lt = rw (lt-ltb n 5 lt) refl
-
-few_octets : (k : ℕ) (octets : List ℕ) → length octets ≤ 4 → length (tagged Context k octets) ≡ length (initial_octets Context k 0) + length octets
-few_octets k octets few =
-    let none = no_length_octet (length octets) (omega arith) in
-    let a = length-append (initial_octets Context k (length_bits (shortest (length octets)) (length octets))) (length_octets (shortest (length octets)) (length octets)) in
-    let b = length-append (initial_octets Context k (length_bits (shortest (length octets)) (length octets)) ++ length_octets (shortest (length octets)) (length octets)) octets in
-    omega (arith, none, a, b)
-
-least_width : (n k : ℕ) → 0 < k → n < 256 ^ k → width n ≤ k
-unfolding width
-least_width n zero some lt = absurd (omega arith)
-least_width n (suc zero) some lt = rw (lt-ltb n 256 lt) (omega arith)
-least_width n (suc (suc zero)) some lt =
-    elim (cases_lt n 256) [
-      | inl a ↦ rw (lt-ltb n 256 a) (omega arith)
-      | inr a ↦ rw (le-ltb n 256 a, lt-ltb n 65536 lt) (omega arith)
-    ]
-least_width n (suc (suc (suc zero))) some lt =
-    elim (cases_lt n 256) [
-      | inl a ↦ rw (lt-ltb n 256 a) (omega arith)
-      | inr a ↦ elim (cases_lt n 65536) [
-        | inl b ↦ rw (le-ltb n 256 a, lt-ltb n 65536 b) (omega arith)
-        | inr b ↦ rw (le-ltb n 256 a, le-ltb n 65536 b, lt-ltb n 16777216 lt) (omega arith)
-      ]
-    ]
-least_width n (suc (suc (suc (suc k)))) some lt =
-    elim (cases_lt n 256) [
-      | inl a ↦ rw (lt-ltb n 256 a) (omega arith)
-      | inr a ↦ elim (cases_lt n 65536) [
-        | inl b ↦ rw (le-ltb n 256 a, lt-ltb n 65536 b) (omega arith)
-        | inr b ↦ elim (cases_lt n 16777216) [
-          | inl c ↦ rw (le-ltb n 256 a, le-ltb n 65536 b, lt-ltb n 16777216 c) (omega arith)
-          | inr c ↦ rw (le-ltb n 256 a, le-ltb n 65536 b, le-ltb n 16777216 c) (omega arith)
-        ]
-      ]
-    ]
-
-fewest_unsigned : (octets : List ℕ) (n : ℕ) → AreOctets octets → SpellsUnsigned octets n → length (unsigned_octets n) ≤ length octets
-fewest_unsigned octets n fits s =
-    let lt = big_from-lt 0 (length octets) octets fits in
-    rw (length-bytes_high_first (width n) n) (least_width n (length octets) s.some (rw (s.value) lt))
-
--- the contents that were taken are octets, and their tag no shorter than the canonical one
-contents_least : (octets : List ℕ) (k : ℕ) (inner few rest : List ℕ) → AreOctets octets → TakesTag octets (context k (contents inner)) rest → length few ≤ length inner → length inner ≤ 4 → Least (tagged Context k few) octets rest
-contents_least octets k inner few rest fits t le small =
-    let tag = tag_shortest t.0 Context k (contents inner) t.1 in
-    let a = few_octets k inner small in
-    let b = few_octets k few (omega (arith, le, small)) in
-    let whole : length octets ≡ length (t.0 ++ rest) = ap length t.2 in
-    record { le = omega (arith, tag, a, b, le, whole, length-append t.0 rest); fits = AreOctets-after octets t.0 rest t.2 fits }
-
-inner_octets : (octets : List ℕ) (k : ℕ) (inner rest : List ℕ) → AreOctets octets → TakesTag octets (context k (contents inner)) rest → AreOctets inner
-inner_octets octets k inner rest fits t =
-    let front = front_octets octets t.0 rest t.2 fits in
-    let initial = initial_octets Context k (length_bits t.1.form (length inner)) in
-    let len = length_octets t.1.form (length inner) in
-    AreOctets-after (len ++ inner) len inner refl (AreOctets-after t.0 initial (len ++ inner) t.1.parts front)
+-- ---- fields
 
 pub number_least : (octets : List ℕ) (k n : ℕ) (rest : List ℕ) → AreOctets octets → TakesNumber octets k n rest → Least (number_field k n) octets rest
-number_least octets k n rest fits t = contents_least octets k t.inner (unsigned_octets n) rest fits t.taken (fewest_unsigned t.inner n (inner_octets octets k t.inner rest fits t.taken) t.is) t.is.few
+number_least octets k n rest fits t = parameter.number_least Context k octets n rest t fits
 
 object_least : (octets : List ℕ) (k : ℕ) (o : ObjectId) (rest : List ℕ) → AreOctets octets → TakesObject octets k o rest → Least (object_field k o) octets rest
-object_least octets k o rest fits t = contents_least octets k t.inner (object_octets o.object_type o.instance) rest fits t.taken (omega (arith, t.is.four)) (omega (arith, t.is.four))
+object_least octets k o rest fits t = parameter.object_least Context k octets o rest t fits
 
 pub opening_least : (octets : List ℕ) (k : ℕ) (rest : List ℕ) → AreOctets octets → TakesOpening octets k rest → Least (opening_octets k) octets rest
-opening_least octets k rest fits t =
-    let tag = tag_shortest t.0 Context k opening t.1 in
-    let whole : length octets ≡ length (t.0 ++ rest) = ap length t.2 in
-    record { le = omega (arith, tag, whole, length-append t.0 rest); fits = AreOctets-after octets t.0 rest t.2 fits }
+opening_least octets k rest fits t = bracket_least octets k opening rest t fits
 
 pub closing_least : (octets : List ℕ) (k : ℕ) (rest : List ℕ) → AreOctets octets → TakesClosing octets k rest → Least (closing_octets k) octets rest
-closing_least octets k rest fits t =
-    let tag = tag_shortest t.0 Context k closing t.1 in
-    let whole : length octets ≡ length (t.0 ++ rest) = ap length t.2 in
-    record { le = omega (arith, tag, whole, length-append t.0 rest); fits = AreOctets-after octets t.0 rest t.2 fits }
+closing_least octets k rest fits t = bracket_least octets k closing rest t fits
 
 none_least : (octets rest : List ℕ) → AreOctets octets → rest ≡ octets → Least [] octets rest
 none_least octets rest fits e = rw e record { le = omega arith; fits = fits }
@@ -149,7 +65,7 @@ both_least a b octets mid rest s t = record { le = let whole = length-append a b
 
 value_least : {A : Type 0} (octets : List ℕ) (v : Value A) (rest : List ℕ) → AreOctets octets → TakesValue octets v rest → Least (canonical v) octets rest
 value_least octets v rest fits t =
-    let le = value_shortest t.front v (front_octets octets t.front rest t.parts fits) t.spelled in
+    let le = value_shortest t.front v (front_fits t.front rest (subst (λ (x : List ℕ). AreOctets x) t.parts fits)) t.spelled in
     let whole : length octets ≡ length (t.front ++ rest) = ap length t.parts in
     record { le = omega (arith, le, whole, length-append t.front rest); fits = AreOctets-after octets t.front rest t.parts fits }
 

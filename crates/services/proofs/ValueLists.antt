@@ -5,7 +5,7 @@ use Rattle.tags.specs.declared.value.Value.{Value}
 use Rattle.tags.specs.Value.{IsSound, SpellsValue, TakesValue}
 use Rattle.tags.proofs.OneTag.{tag_some}
 use Rattle.tags.proofs.ElementLaws.{element_some}
-use Rattle.objects.specs.Sound.{AreSound}
+use Rattle.primitives.specs.Sound.{AreSound}
 use Rattle.services.specs.declared.stop.Stop.{Stop}
 use Rattle.services.specs.declared.stop.Stop.TheVariants.{Memory, Reject}
 use Rattle.services.proofs.Lists.{takes_more, all_more}

@@ -2,10 +2,10 @@
 use Rattle.std.proofs.Common.{ℕ, suc, ◌<◌, ◌≤◌, ◌^◌, List, [], ◌∷◌, ◌++◌, length, Option, Some, None, refl, subst, arith}
 use Rattle.std.specs.List.{AllByRecursion}
 use Rattle.tags.specs.declared.value.Value.{Value}
-use Rattle.objects.specs.declared.plain_data.ObjectWrites.{ObjectWrites}
-use Rattle.objects.specs.declared.plain_data.PropertyWrite.{PropertyWrite}
-use Rattle.objects.specs.Sound.{AreSound, IsSoundId, IsSoundPriority, IsSoundWrite, IsSoundWrites}
-use Rattle.services.specs.declared.numbers.RejectReason.{RejectReason}
+use Rattle.primitives.specs.declared.plain_data.ObjectWrites.{ObjectWrites}
+use Rattle.primitives.specs.declared.plain_data.PropertyWrite.{PropertyWrite}
+use Rattle.primitives.specs.Sound.{AreSound, IsSoundId, IsSoundPriority, IsSoundWrite, IsSoundWrites}
+use Rattle.apdu.specs.declared.numbers.RejectReason.{RejectReason}
 use Rattle.services.specs.Fields.{TakesNumber, TakesOption, TakesEach}
 use Rattle.services.specs.Multiple.{OpensList, RejectsWriteList, at_write, at_next, at_opening, at_values, at_priority, at_range, TakesPropertyWrite, TakesWrites, RejectsWrites, MustStand, SpellsWriteMultiple, RejectsWriteMultiple}
 use Rattle.services.specs.MultipleSteps.{GoesOn, PropertyWrites, TakesValuesBehind, RejectsValuesBehind, in_opening, in_values, RejectsPriority, in_priority, in_range, in_next}

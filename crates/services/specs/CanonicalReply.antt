@@ -1,17 +1,18 @@
 -- The octets that are written of a reply: the service data of its ComplexACK (15.5.1, 15.7.3.2).
 use Rattle.std.specs.Prelude.{ℕ, List, [], ◌++◌, Result, Ok, Err}
 use Rattle.tags.specs.declared.value.Value.{Value}
-use Rattle.objects.specs.Errors.{class_number, code_number}
-use Rattle.objects.specs.declared.error.ErrorClass.{ErrorClass}
-use Rattle.objects.specs.declared.error.ErrorCode.{ErrorCode}
-use Rattle.objects.specs.declared.plain_data.Request.{Request}
-use Rattle.objects.specs.declared.plain_data.Request.TheVariants.{Read, ReadMany}
-use Rattle.objects.specs.declared.plain_data.Reply.{Reply}
-use Rattle.objects.specs.declared.plain_data.Reply.TheVariants.{Values, Many}
-use Rattle.objects.specs.declared.plain_data.ObjectResults.{ObjectResults}
-use Rattle.objects.specs.declared.plain_data.PropertyResult.{PropertyResult}
-use Rattle.services.specs.ApduWriting.{class_and_code_octets}
-use Rattle.services.specs.CanonicalRequest.{object_field, number_field, option_field, opening_octets, closing_octets, values_field, in_turn, read_octets}
+use Rattle.primitives.specs.Errors.{class_number, code_number}
+use Rattle.primitives.specs.declared.error.ErrorClass.{ErrorClass}
+use Rattle.primitives.specs.declared.error.ErrorCode.{ErrorCode}
+use Rattle.primitives.specs.declared.plain_data.Request.{Request}
+use Rattle.primitives.specs.declared.plain_data.Request.TheVariants.{Read, ReadMany}
+use Rattle.primitives.specs.declared.plain_data.Reply.{Reply}
+use Rattle.primitives.specs.declared.plain_data.Reply.TheVariants.{Values, Many}
+use Rattle.primitives.specs.declared.plain_data.ObjectResults.{ObjectResults}
+use Rattle.primitives.specs.declared.plain_data.PropertyResult.{PropertyResult}
+use Rattle.apdu.specs.ApduWriting.{class_and_code_octets}
+use Rattle.apdu.specs.ParameterWriting.{object_field, number_field, option_field, opening_octets, closing_octets}
+use Rattle.services.specs.CanonicalRequest.{values_field, in_turn, read_octets}
 
 -- values between the tags 4, or class and code between the tags 5 (15.7.3.2)
 abbrev pub reading_octets : {A : Type 0} → Result (List (Value A)) (ErrorClass × ErrorCode) → List ℕ

@@ -1,37 +1,15 @@
 -- The octets that are written of a request: its shortest spelling (15.5.1, 15.7.3.1, 15.9.1, 15.10.3.1).
-use Rattle.std.specs.Prelude.{ℕ, List, [], ◌∷◌, ◌++◌, Option, Some, None}
-use Rattle.tags.specs.declared.tag.Class.TheVariants.{Context}
+use Rattle.std.specs.Prelude.{ℕ, List, [], ◌∷◌, ◌++◌, Option}
 use Rattle.tags.specs.declared.object_id.ObjectId.{ObjectId}
 use Rattle.tags.specs.declared.value.Value.{Value}
-use Rattle.tags.specs.Tag.{initial_octets}
-use Rattle.tags.specs.Number.{object_octets, unsigned_octets}
-use Rattle.tags.specs.Canonical.{tagged, canonicals}
-use Rattle.objects.specs.declared.plain_data.Request.{Request}
-use Rattle.objects.specs.declared.plain_data.Request.TheVariants.{Read, ReadMany, Write, WriteMany}
-use Rattle.objects.specs.declared.plain_data.ObjectRefs.{ObjectRefs}
-use Rattle.objects.specs.declared.plain_data.PropertyReference.{PropertyReference}
-use Rattle.objects.specs.declared.plain_data.ObjectWrites.{ObjectWrites}
-use Rattle.objects.specs.declared.plain_data.PropertyWrite.{PropertyWrite}
-
--- an object identifier under a context tag (20.2.14, 20.2.15)
-abbrev pub object_field : ℕ → ObjectId → List ℕ
-object_field number object = tagged Context number (object_octets object.object_type object.instance)
-
--- a number under a context tag (20.2.4, 20.2.15)
-abbrev pub number_field : ℕ → ℕ → List ℕ
-number_field number n = tagged Context number (unsigned_octets n)
-
--- an optional number under a context tag (20.2.15)
-abbrev pub option_field : ℕ → Option ℕ → List ℕ
-option_field number None = []
-option_field number (Some n) = number_field number n
-
--- an opening and a closing tag (20.2.1.3.2)
-abbrev pub opening_octets : ℕ → List ℕ
-opening_octets number = initial_octets Context number 6
-
-abbrev pub closing_octets : ℕ → List ℕ
-closing_octets number = initial_octets Context number 7
+use Rattle.tags.specs.Canonical.{canonicals}
+use Rattle.apdu.specs.ParameterWriting.{object_field, number_field, option_field, opening_octets, closing_octets}
+use Rattle.primitives.specs.declared.plain_data.Request.{Request}
+use Rattle.primitives.specs.declared.plain_data.Request.TheVariants.{Read, ReadMany, Write, WriteMany}
+use Rattle.primitives.specs.declared.plain_data.ObjectRefs.{ObjectRefs}
+use Rattle.primitives.specs.declared.plain_data.PropertyReference.{PropertyReference}
+use Rattle.primitives.specs.declared.plain_data.ObjectWrites.{ObjectWrites}
+use Rattle.primitives.specs.declared.plain_data.PropertyWrite.{PropertyWrite}
 
 -- the octets of each of a list, one after another
 abbrev pub in_turn : {X : Type 0} → (X → List ℕ) → List X → List ℕ

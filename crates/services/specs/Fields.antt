@@ -1,28 +1,26 @@
 -- Fields of a service body, and why one is rejected (15, 18.9, 20.2.15).
 use Rattle.std.specs.Prelude.{◌≡◌, ℕ, ◌<◌, ◌⊎◌, List, [], ◌∷◌, length, Option, Some, None}
 use Rattle.tags.specs.declared.object_id.ObjectId.{ObjectId}
+use Rattle.tags.specs.declared.tag.Class.TheVariants.{Context}
 use Rattle.tags.specs.declared.value.Value.{Value}
 use Rattle.tags.specs.declared.fault.Fault.TheVariants.{Short, BadTag, BadLength}
 use Rattle.tags.specs.Tag.{PlainTag, contents, opening, closing, TakesTag, NoTag}
 use Rattle.tags.specs.Element.{context}
-use Rattle.tags.specs.Number.{SpellsObject, SpellsUnsigned}
+use Rattle.tags.specs.Number.{SpellsUnsigned}
 use Rattle.tags.specs.Refusal.{IsBadNumber, RefusesValue}
 use Rattle.tags.specs.Value.{TakesValue}
-use Rattle.objects.specs.Sound.{IsSoundPriority}
-use Rattle.services.specs.declared.numbers.RejectReason.{RejectReason}
-use Rattle.services.specs.declared.numbers.RejectReason.TheVariants.{InvalidParameterDataType, InvalidTag, MissingRequiredParameter, ParameterOutOfRange, TooManyArguments}
+use Rattle.primitives.specs.Sound.{IsSoundPriority}
+use Rattle.apdu.specs.Parameter.{IsObject, Takes}
+use Rattle.apdu.specs.declared.numbers.RejectReason.{RejectReason}
+use Rattle.apdu.specs.declared.numbers.RejectReason.TheVariants.{InvalidParameterDataType, InvalidTag, MissingRequiredParameter, ParameterOutOfRange, TooManyArguments}
 
 -- an object identifier under the context tag of this number, and what follows (20.2.14, 20.2.15)
-pub record TakesObject (octets : List ℕ) (number : ℕ) (object : ObjectId) (rest : List ℕ) : Type 0 where
-  pub inner : List ℕ
-  pub taken : TakesTag octets (context number (contents inner)) rest
-  pub is : SpellsObject inner object.object_type object.instance
+abbrev pub TakesObject : List ℕ → ℕ → ObjectId → List ℕ → Type 0
+TakesObject octets number object rest = Takes IsObject Context number octets object rest
 
 -- a number under the context tag of this number, and what follows (20.2.4, 20.2.11, 20.2.15)
-pub record TakesNumber (octets : List ℕ) (number : ℕ) (n : ℕ) (rest : List ℕ) : Type 0 where
-  pub inner : List ℕ
-  pub taken : TakesTag octets (context number (contents inner)) rest
-  pub is : SpellsUnsigned inner n
+abbrev pub TakesNumber : List ℕ → ℕ → ℕ → List ℕ → Type 0
+TakesNumber octets number n rest = Takes SpellsUnsigned Context number octets n rest
 
 -- the opening tag of this number, and what follows (20.2.1.3.2)
 abbrev pub TakesOpening : List ℕ → ℕ → List ℕ → Type 0

@@ -1,4 +1,3 @@
-pub mod Numbers
 pub mod Fields
 pub mod Stop
 pub mod Requests
@@ -6,15 +5,6 @@ pub mod Multiple
 pub mod MultipleSteps
 pub mod Request
 pub mod CanonicalRequest
-pub mod PduType
-pub mod Sizes
-pub mod Parameter
-pub mod ServiceError
-pub mod Apdu
-pub mod ApduRefusal
-pub mod ApduWriting
-pub mod Unconfirmed
-pub mod ApduLaws
 pub mod CanonicalReply
 pub mod Reply
 pub mod ReplySteps

@@ -2,13 +2,13 @@
 use Rattle.std.specs.Prelude.{◌≡◌, ◌≢◌, ℕ, ◌<◌, ◌⊎◌, List, [], length, Option}
 use Rattle.tags.specs.declared.object_id.ObjectId.{ObjectId}
 use Rattle.tags.specs.declared.value.Value.{Value}
-use Rattle.objects.specs.Sound.{IsSoundPriority}
-use Rattle.objects.specs.declared.plain_data.ObjectRefs.{ObjectRefs}
-use Rattle.objects.specs.declared.plain_data.PropertyReference.{PropertyReference}
-use Rattle.objects.specs.declared.plain_data.ObjectWrites.{ObjectWrites}
-use Rattle.objects.specs.declared.plain_data.PropertyWrite.{PropertyWrite}
-use Rattle.services.specs.declared.numbers.RejectReason.{RejectReason}
-use Rattle.services.specs.declared.numbers.RejectReason.TheVariants.{InvalidParameterDataType, InvalidTag, MissingRequiredParameter}
+use Rattle.primitives.specs.Sound.{IsSoundPriority}
+use Rattle.primitives.specs.declared.plain_data.ObjectRefs.{ObjectRefs}
+use Rattle.primitives.specs.declared.plain_data.PropertyReference.{PropertyReference}
+use Rattle.primitives.specs.declared.plain_data.ObjectWrites.{ObjectWrites}
+use Rattle.primitives.specs.declared.plain_data.PropertyWrite.{PropertyWrite}
+use Rattle.apdu.specs.declared.numbers.RejectReason.{RejectReason}
+use Rattle.apdu.specs.declared.numbers.RejectReason.TheVariants.{InvalidParameterDataType, InvalidTag, MissingRequiredParameter}
 use Rattle.services.specs.Fields.{
   TakesObject,
   TakesNumber,

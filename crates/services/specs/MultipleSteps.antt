@@ -5,11 +5,11 @@ use Rattle.tags.specs.Element.{context}
 use Rattle.tags.specs.Number.{SpellsUnsigned}
 use Rattle.tags.specs.Refusal.{IsBadNumber}
 use Rattle.tags.specs.declared.value.Value.{Value}
-use Rattle.objects.specs.Sound.{IsSoundPriority}
-use Rattle.objects.specs.declared.plain_data.PropertyReference.{PropertyReference}
-use Rattle.objects.specs.declared.plain_data.PropertyWrite.{PropertyWrite}
-use Rattle.services.specs.declared.numbers.RejectReason.{RejectReason}
-use Rattle.services.specs.declared.numbers.RejectReason.TheVariants.{InvalidParameterDataType, InvalidTag}
+use Rattle.primitives.specs.Sound.{IsSoundPriority}
+use Rattle.primitives.specs.declared.plain_data.PropertyReference.{PropertyReference}
+use Rattle.primitives.specs.declared.plain_data.PropertyWrite.{PropertyWrite}
+use Rattle.apdu.specs.declared.numbers.RejectReason.{RejectReason}
+use Rattle.apdu.specs.declared.numbers.RejectReason.TheVariants.{InvalidParameterDataType, InvalidTag}
 use Rattle.services.specs.Fields.{TakesNumber, TakesOption, TakesClosing, TakesEach, TakesInside, OpensBehind, IsOtherTag, RejectsOption, RejectsBehind, RejectsInside, RejectsRange}
 use Rattle.services.specs.Multiple.{RejectsNext, TakesReference, TakesPropertyWrite}
 

@@ -2,25 +2,25 @@
 use Rattle.std.specs.Prelude.{◌≡◌, ◌<◌, ◌^◌, ℕ, List, [], length, Option, Some, None, Result, Ok, Err}
 use Rattle.tags.specs.declared.object_id.ObjectId.{ObjectId}
 use Rattle.tags.specs.declared.value.Value.{Value}
-use Rattle.objects.specs.Answers.{IsAnswerTo}
-use Rattle.objects.specs.Errors.{class_number, code_number, IsNamedClass, IsNamedCode}
-use Rattle.objects.specs.Sound.{IsSoundError, IsSoundId, IsSoundIndex}
-use Rattle.objects.specs.declared.error.ErrorClass.{ErrorClass}
-use Rattle.objects.specs.declared.error.ErrorCode.{ErrorCode}
-use Rattle.objects.specs.declared.plain_data.Request.{Request}
-use Rattle.objects.specs.declared.plain_data.Request.TheVariants.{Read, ReadMany}
-use Rattle.objects.specs.declared.plain_data.Reply.{Reply}
-use Rattle.objects.specs.declared.plain_data.Reply.TheVariants.{Values, Many, Done, Error, ErrorAt}
-use Rattle.objects.specs.declared.plain_data.ObjectResults.{ObjectResults}
-use Rattle.objects.specs.declared.plain_data.PropertyResult.{PropertyResult}
+use Rattle.primitives.specs.Answers.{IsAnswerTo}
+use Rattle.primitives.specs.Errors.{class_number, code_number, IsNamedClass, IsNamedCode}
+use Rattle.primitives.specs.Sound.{IsSoundError, IsSoundId, IsSoundIndex}
+use Rattle.primitives.specs.declared.error.ErrorClass.{ErrorClass}
+use Rattle.primitives.specs.declared.error.ErrorCode.{ErrorCode}
+use Rattle.primitives.specs.declared.plain_data.Request.{Request}
+use Rattle.primitives.specs.declared.plain_data.Request.TheVariants.{Read, ReadMany}
+use Rattle.primitives.specs.declared.plain_data.Reply.{Reply}
+use Rattle.primitives.specs.declared.plain_data.Reply.TheVariants.{Values, Many, Done, Error, ErrorAt}
+use Rattle.primitives.specs.declared.plain_data.ObjectResults.{ObjectResults}
+use Rattle.primitives.specs.declared.plain_data.PropertyResult.{PropertyResult}
 use Rattle.services.specs.declared.reply.Answer.{Answer}
 use Rattle.services.specs.declared.reply.Answer.TheVariants as answer
-use Rattle.services.specs.declared.service_error.ObjectPropertyReference.{ObjectPropertyReference}
-use Rattle.services.specs.declared.service_error.ServiceError.{ServiceError}
+use Rattle.apdu.specs.declared.service_error.ObjectPropertyReference.{ObjectPropertyReference}
+use Rattle.apdu.specs.declared.service_error.ServiceError.{ServiceError}
 use Rattle.services.specs.Fields.{TakesNumber, TakesOption, TakesOpening, TakesClosing, TakesEach, TakesInside}
 use Rattle.services.specs.Multiple.{OpensList}
 use Rattle.services.specs.Requests.{TakesWrite}
-use Rattle.services.specs.ServiceError.{TakesClassAndCode}
+use Rattle.apdu.specs.ServiceError.{TakesClassAndCode}
 
 -- class and code, each under its name, up to the closing tag 5, and what follows (15.7.3.2, 18)
 pub record TakesErrorInside (octets : List ℕ) (class : ErrorClass) (code : ErrorCode) (rest : List ℕ) : Type 0 where
@@ -111,7 +111,7 @@ abbrev pub IsSoundFailure : Option ObjectPropertyReference → Type 0
 IsSoundFailure None = Unit {0}
 IsSoundFailure (Some r) = IsSoundId r.object × (r.property < 2 ^ 32) × IsSoundIndex r.index
 
--- what an answer's octets and numbers are where it was read from an APDU
+-- a SimpleACK; a ComplexACK of under 2^31 octets of service data; an Error whose class and code have 32 bits and stand under their names, and whose first failed write has a spelling (20.1.4, 20.1.5, 20.1.7)
 abbrev pub IsSoundAnswer : Answer → Type 0
 IsSoundAnswer answer.Simple = Unit {0}
 IsSoundAnswer (answer.Complex octets) = length octets.now < 2 ^ 31

@@ -1,10 +1,10 @@
 -- What holds of every spelling of a reply (15, 20.1).
 use Rattle.std.specs.Prelude.{◌≡◌, ◌≤◌, ℕ, List, length}
 use Rattle.tags.specs.Number.{AreOctets}
-use Rattle.objects.specs.Answers.{IsAnswerTo}
-use Rattle.objects.specs.Sound.{IsSoundReply, IsSoundRequest}
-use Rattle.objects.specs.declared.plain_data.Reply.{Reply}
-use Rattle.objects.specs.declared.plain_data.Request.{Request}
+use Rattle.primitives.specs.Answers.{IsAnswerTo}
+use Rattle.primitives.specs.Sound.{IsSoundReply, IsSoundRequest}
+use Rattle.primitives.specs.declared.plain_data.Reply.{Reply}
+use Rattle.primitives.specs.declared.plain_data.Request.{Request}
 use Rattle.services.specs.declared.reply.Answer.{Answer}
 use Rattle.services.specs.CanonicalReply.{canonical_reply}
 use Rattle.services.specs.Reply.{SpellsAck, SpellsReply, GoesIn}

@@ -4,12 +4,12 @@ use Rattle.tags.specs.declared.object_id.ObjectId.{ObjectId}
 use Rattle.tags.specs.declared.value.Value.{Value}
 use Rattle.tags.specs.Element.{context}
 use Rattle.tags.specs.Tag.{PlainTag, opening}
-use Rattle.objects.specs.declared.error.ErrorClass.{ErrorClass}
-use Rattle.objects.specs.declared.error.ErrorCode.{ErrorCode}
-use Rattle.objects.specs.declared.plain_data.Request.{Request}
-use Rattle.objects.specs.declared.plain_data.Reply.{Reply}
-use Rattle.objects.specs.declared.plain_data.ObjectResults.{ObjectResults}
-use Rattle.objects.specs.declared.plain_data.PropertyResult.{PropertyResult}
+use Rattle.primitives.specs.declared.error.ErrorClass.{ErrorClass}
+use Rattle.primitives.specs.declared.error.ErrorCode.{ErrorCode}
+use Rattle.primitives.specs.declared.plain_data.Request.{Request}
+use Rattle.primitives.specs.declared.plain_data.Reply.{Reply}
+use Rattle.primitives.specs.declared.plain_data.ObjectResults.{ObjectResults}
+use Rattle.primitives.specs.declared.plain_data.PropertyResult.{PropertyResult}
 use Rattle.services.specs.Fields.{TakesNumber, TakesClosing, TakesEach}
 use Rattle.services.specs.Reply.{TakesErrorInside, reading_tag, TakesReadingInside, TakesIndexed, TakesResult, TakesResultList, TakesResults, SpellsAck, SpellsAnswer}
 use Rattle.services.specs.declared.reply.Answer.{Answer}

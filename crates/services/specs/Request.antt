@@ -1,12 +1,12 @@
 -- The requests of the confirmed services, and why one is rejected (15.5, 15.7, 15.9, 15.10, 18.9).
 use Rattle.std.specs.Prelude.{◌≡◌, ℕ, List}
-use Rattle.objects.specs.declared.plain_data.Request.{Request}
-use Rattle.objects.specs.declared.plain_data.Request.TheVariants.{Read, ReadMany, Write, WriteMany}
-use Rattle.services.specs.declared.numbers.ConfirmedService.{ConfirmedService}
-use Rattle.services.specs.declared.numbers.ConfirmedService.TheVariants.{ReadProperty, ReadPropertyMultiple, WriteProperty, WritePropertyMultiple}
-use Rattle.services.specs.declared.numbers.RejectReason.{RejectReason}
-use Rattle.services.specs.declared.numbers.RejectReason.TheVariants.{UnrecognizedService}
-use Rattle.services.specs.Numbers.{service_number, NoService}
+use Rattle.primitives.specs.declared.plain_data.Request.{Request}
+use Rattle.primitives.specs.declared.plain_data.Request.TheVariants.{Read, ReadMany, Write, WriteMany}
+use Rattle.apdu.specs.declared.numbers.ConfirmedService.{ConfirmedService}
+use Rattle.apdu.specs.declared.numbers.ConfirmedService.TheVariants.{ReadProperty, ReadPropertyMultiple, WriteProperty, WritePropertyMultiple}
+use Rattle.apdu.specs.declared.numbers.RejectReason.{RejectReason}
+use Rattle.apdu.specs.declared.numbers.RejectReason.TheVariants.{UnrecognizedService}
+use Rattle.apdu.specs.Numbers.{service_number, NoService}
 use Rattle.services.specs.Requests.{SpellsReadProperty, SpellsWriteProperty, RejectsReadProperty, RejectsWriteProperty}
 use Rattle.services.specs.Multiple.{SpellsReadMultiple, SpellsWriteMultiple, RejectsReadMultiple, RejectsWriteMultiple}
 

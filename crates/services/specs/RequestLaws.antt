@@ -1,10 +1,10 @@
 -- What holds of every spelling of a request (15, 18.9).
 use Rattle.std.specs.Prelude.{◌≡◌, ◌≤◌, ℕ, List, length}
 use Rattle.tags.specs.Number.{AreOctets}
-use Rattle.objects.specs.declared.plain_data.Request.{Request}
-use Rattle.objects.specs.Sound.{IsSoundRequest}
-use Rattle.services.specs.declared.numbers.RejectReason.{RejectReason}
-use Rattle.services.specs.Numbers.{service_number}
+use Rattle.primitives.specs.declared.plain_data.Request.{Request}
+use Rattle.primitives.specs.Sound.{IsSoundRequest}
+use Rattle.apdu.specs.declared.numbers.RejectReason.{RejectReason}
+use Rattle.apdu.specs.Numbers.{service_number}
 use Rattle.services.specs.CanonicalRequest.{canonical_request}
 use Rattle.services.specs.Request.{request_service, SpellsRequest, RejectsRequest}
 

@@ -1,5 +1,5 @@
 -- Why reading the body of a service stops.
-use Rattle.services.specs.declared.numbers.RejectReason.{RejectReason}
+use Rattle.apdu.specs.declared.numbers.RejectReason.{RejectReason}
 use Rattle.services.specs.declared.stop.Stop.{Stop}
 use Rattle.services.specs.declared.stop.Stop.TheVariants.{Memory, Reject}
 

@@ -6,10 +6,10 @@ use std::alloc::{AllocError, Allocator};
 /// Executes requests on objects. A contract sees the table that it holds.
 pub trait Executor<A: Allocator> {
     ghost use Rattle.std.specs.Prelude.{◌≡◌, OnOk, OnErr, IfOk};
-    ghost use Rattle.objects.specs.Answers.{IsAnswerTo};
+    ghost use Rattle.primitives.specs.Answers.{IsAnswerTo};
     ghost use Rattle.objects.specs.Machine.{reply, after};
     ghost use Rattle.objects.specs.Objects.{PlainTable};
-    ghost use Rattle.objects.specs.Sound.{IsSoundRequest, IsSoundReply};
+    ghost use Rattle.primitives.specs.Sound.{IsSoundRequest, IsSoundReply};
 
     ghost table_of: { Self → PlainTable A };
 

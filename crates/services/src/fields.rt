@@ -6,7 +6,7 @@ ghost use Rattle.tags.specs.Tag.{contents, opening, closing, plain_tag, TakesTag
 ghost use Rattle.tags.specs.Element.{context};
 ghost use Rattle.tags.specs.Number.{SpellsUnsigned};
 ghost use Rattle.tags.specs.Refusal.{IsBadNumber};
-ghost use Rattle.objects.specs.Sound.{IsSoundIndex, IsSoundPriority};
+ghost use Rattle.primitives.specs.Sound.{IsSoundIndex, IsSoundPriority};
 ghost use Rattle.services.specs.Fields.{
   TakesObject,
   TakesNumber,
@@ -27,7 +27,7 @@ ghost use Rattle.services.specs.Fields.{
   RejectsRange,
 };
 
-use crate::numbers::RejectReason;
+use apdu::RejectReason;
 use tags::{Class, Content, ObjectId, Reader, Tag, unsigned_from_contents};
 
 /// The tag that must stand next (20.2.1).

@@ -4,7 +4,7 @@
 ghost use Rattle.std.specs.Prelude.{◌≡◌, ◌<◌, ◌^◌, [], ◌≢◌, IfOk, IfErr, IsTrue, ◌↔◌, length};
 ghost use Rattle.std.specs.List.{AllByRecursion};
 ghost use Rattle.tags.specs.Tag.{plain_tag};
-ghost use Rattle.objects.specs.Sound.{IsSoundId, IsSoundIndex, IsSoundPriority, IsSoundReference, IsSoundRefs, IsSoundWrite, IsSoundWrites, AreSound};
+ghost use Rattle.primitives.specs.Sound.{IsSoundId, IsSoundIndex, IsSoundPriority, IsSoundReference, IsSoundRefs, IsSoundWrite, IsSoundWrites, AreSound};
 ghost use Rattle.services.specs.Fields.{TakesNumber, TakesClosing, TakesEach};
 ghost use Rattle.services.specs.Multiple.{
   OpensList,
@@ -30,9 +30,9 @@ use crate::fields::{
     contents_under, is_closing, number_of, priority_of, read_inner_tag, read_object, read_opening,
     read_opening_behind, read_tag,
 };
-use crate::numbers::RejectReason;
 use crate::stop::Stop;
 use crate::values::read_values;
+use apdu::RejectReason;
 use objects::{ObjectRefs, ObjectWrites, PropertyReference, PropertyWrite, Values};
 use std::alloc::Allocator;
 use tags::{Items, ObjectId, Reader, Tag};

@@ -1,6 +1,6 @@
 //! What an answer to a confirmed request has behind its header (clauses 20.1.4, 20.1.5 and 20.1.7).
 
-use crate::service_error::ServiceError;
+use apdu::ServiceError;
 
 /// What an answer has behind its header (20.1.4, 20.1.5, 20.1.7).
 #[derive(Clone, Copy, Debug, PartialEq, Eq)]

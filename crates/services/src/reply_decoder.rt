@@ -1,17 +1,16 @@
 //! Reading the reply to a request out of its answer (clauses 15.5, 15.7, 15.9 and 15.10).
 
 ghost use Rattle.std.specs.Prelude.{◌≡◌, ◌<◌, ◌^◌, ◌⊎◌, IfOk, IfErr, IsOk, IfSome, IfNone, length};
-ghost use Rattle.objects.specs.Sound.{IsSoundReply};
+ghost use Rattle.primitives.specs.Sound.{IsSoundReply};
 ghost use Rattle.services.specs.Reply.{SpellsAck, SpellsAnswer, SpellsFailure, SpellsReply, OnlyReply, NoReply, IsSoundAnswer, HasServiceData};
 ghost use Rattle.services.specs.ReplySteps.{NoAck, NoAnswer};
 ghost use Rattle.services.specs.Stop.{StopsFor};
 
-use crate::numbers::RejectReason;
 use crate::reply::Answer;
 use crate::reply_match::is_answer_to;
 use crate::reply_reader::{read_ack, read_many_ack};
-use crate::service_error::ServiceError;
 use crate::stop::Stop;
+use apdu::{RejectReason, ServiceError};
 use objects::{Reply, Request};
 use std::alloc::{AllocError, Allocator};
 use tags::Reader;

@@ -3,7 +3,7 @@
 
 ghost use Rattle.std.specs.Prelude.{◌≡◌, ◌↔◌, IsTrue, map};
 ghost use Rattle.std.specs.List.{AllByRecursion};
-ghost use Rattle.objects.specs.Answers.{IsOneProperty, AnswersRefs, AnswersAll, IsAnswerTo, read_reference};
+ghost use Rattle.primitives.specs.Answers.{IsOneProperty, AnswersRefs, AnswersAll, IsAnswerTo, read_reference};
 
 use objects::{ObjectRefs, ObjectResults, PropertyReference, PropertyResult, Reply, Request};
 use std::alloc::Allocator;

@@ -3,7 +3,7 @@
 ghost use Rattle.services.specs.Reply.{GoesIn};
 
 use crate::reply::Answer;
-use crate::service_error::{ObjectPropertyReference, ServiceError};
+use apdu::{ObjectPropertyReference, ServiceError};
 use objects::Reply;
 use std::alloc::Allocator;
 

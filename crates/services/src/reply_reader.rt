@@ -4,7 +4,7 @@
 ghost use Rattle.std.specs.Prelude.{◌≡◌, ◌↔◌, ◌<◌, ◌^◌, [], IsTrue, IfOk, IfErr, IfSome, IfNone, OnErr, length};
 ghost use Rattle.std.specs.List.{AllByRecursion};
 ghost use Rattle.tags.specs.Tag.{plain_tag};
-ghost use Rattle.objects.specs.Sound.{AreSound, IsSoundError, IsSoundIndex, IsSoundReading, IsSoundResult, IsSoundResults};
+ghost use Rattle.primitives.specs.Sound.{AreSound, IsSoundError, IsSoundIndex, IsSoundReading, IsSoundResult, IsSoundResults};
 ghost use Rattle.services.specs.Fields.{TakesClosing, TakesEach};
 ghost use Rattle.services.specs.Reply.{TakesErrorInside, TakesIndexed, TakesResult, TakesResultList, TakesResults};
 ghost use Rattle.services.specs.ReplySteps.{
@@ -27,11 +27,10 @@ use crate::fields::{
     contents_under, is_closing, is_opening, number_of, read_closing, read_end, read_tag,
 };
 use crate::multiple_reader::open_list;
-use crate::numbers::RejectReason;
 use crate::request_reader::{WriteParameters, write_parameters};
-use crate::service_error::class_and_code_from;
 use crate::stop::Stop;
 use crate::values::read_values;
+use apdu::{RejectReason, class_and_code_from};
 use objects::{ErrorClass, ErrorCode, ObjectResults, PropertyResult, Values};
 use std::alloc::Allocator;
 use tags::{Items, ObjectId, Reader, Tag};

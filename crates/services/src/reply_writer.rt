@@ -2,27 +2,24 @@
 //! 15.5 and 15.7).
 
 ghost use Rattle.std.specs.Prelude.{◌≡◌, ◌++◌, OnOk, OnErr, IfErr};
-ghost use Rattle.std.specs.List.{AllByRecursion};
 ghost use Rattle.tags.specs.Canonical.{Extends};
-ghost use Rattle.objects.specs.Answers.{IsAnswerTo};
-ghost use Rattle.objects.specs.Errors.{class_number, code_number};
-ghost use Rattle.objects.specs.Sound.{
+ghost use Rattle.primitives.specs.Answers.{IsAnswerTo};
+ghost use Rattle.primitives.specs.Errors.{class_number, code_number};
+ghost use Rattle.primitives.specs.Sound.{
   IsSoundReading,
-  IsSoundResult,
-  IsSoundResults,
   IsSoundReply,
   IsSoundRequest,
 };
-ghost use Rattle.services.specs.ApduWriting.{class_and_code_octets};
-ghost use Rattle.services.specs.CanonicalRequest.{in_turn, opening_octets, closing_octets};
+ghost use Rattle.apdu.specs.ApduWriting.{class_and_code_octets};
+ghost use Rattle.apdu.specs.ParameterWriting.{opening_octets, closing_octets};
 ghost use Rattle.services.specs.CanonicalReply.{
   reading_octets,
-  result_octets,
-  results_octets,
   canonical_reply,
 };
 
+use crate::part::{Part, put_each};
 use crate::request_writer::{put_option, put_read, put_values};
+use apdu::write_class_and_code;
 use objects::{ErrorClass, ErrorCode, ObjectResults, PropertyResult, Reply, Request, Values};
 use std::alloc::Allocator;
 use tags::{Class, Fault, Tag, write_object, write_tag, write_unsigned};
@@ -38,8 +35,7 @@ fn put_error<B: Allocator>(
     ensures err { OnErr result (Extends out.old.items out.new.items) }
 {
     write_tag(&Tag::opening(5), out)?;
-    write_unsigned(Class::Application, 9, u32::from(class), out)?;
-    write_unsigned(Class::Application, 9, u32::from(code), out)?;
+    write_class_and_code(class, code, out)?;
     write_tag(&Tag::closing(5), out)
 }
 
@@ -59,69 +55,35 @@ fn put_reading<A: Allocator, B: Allocator>(
     }
 }
 
-/// Appends a property, its index and what was read of it (15.7.3.2).
-fn put_result<A: Allocator, B: Allocator>(
-    read: &PropertyResult<A>,
-    out: &mut Vec<u8, B>,
-) -> Result<(), Fault>
-    requires { IsSoundResult read.now }
-    ensures put { OnOk result (out.new.items ≡ out.old.items ++ result_octets read.now) }
-    ensures memory { IfErr result (λ fault. fault ≡ Fault.Memory) }
-    ensures err { OnErr result (Extends out.old.items out.new.items) }
-{
-    write_unsigned(Class::Context, 2, read.property, out)?;
-    put_option(3, read.index, out)?;
-    put_reading(&read.result, out)
-}
+impl<A: Allocator> Part for PropertyResult<A> {
+    ghost use Rattle.primitives.specs.Sound.{IsSoundResult};
+    ghost use Rattle.services.specs.CanonicalReply.{result_octets};
 
-/// Appends what was read of properties, one after another.
-#[tactic(auto, using(crate::proofs::RequestOctets::extends_laws))]
-fn put_each_result<A: Allocator, B: Allocator>(
-    results: &[PropertyResult<A>],
-    out: &mut Vec<u8, B>,
-) -> Result<(), Fault>
-    requires { AllByRecursion IsSoundResult results.now }
-    ensures put { OnOk result (out.new.items ≡ out.old.items ++ in_turn result_octets results.now) }
-    ensures memory { IfErr result (λ fault. fault ≡ Fault.Memory) }
-    ensures err { OnErr result (Extends out.old.items out.new.items) }
-{
-    for read in results {
-        put_result(read, out)?;
+    ghost IsSound = { IsSoundResult };
+
+    ghost octets = { result_octets };
+
+    fn put<B: Allocator>(&self, out: &mut Vec<u8, B>) -> Result<(), Fault> {
+        write_unsigned(Class::Context, 2, self.property, out)?;
+        put_option(3, self.index, out)?;
+        put_reading(&self.result, out)
     }
-    Ok(())
 }
 
-/// Appends an object and what was read of its properties (15.7.3.2, ReadAccessResult).
-fn put_results<A: Allocator, B: Allocator>(
-    read: &ObjectResults<A>,
-    out: &mut Vec<u8, B>,
-) -> Result<(), Fault>
-    requires { IsSoundResults read.now }
-    ensures put { OnOk result (out.new.items ≡ out.old.items ++ results_octets read.now) }
-    ensures memory { IfErr result (λ fault. fault ≡ Fault.Memory) }
-    ensures err { OnErr result (Extends out.old.items out.new.items) }
-{
-    write_object(Class::Context, 0, read.object, out)?;
-    write_tag(&Tag::opening(1), out)?;
-    put_each_result(read.results.as_slice(), out)?;
-    write_tag(&Tag::closing(1), out)
-}
+impl<A: Allocator> Part for ObjectResults<A> {
+    ghost use Rattle.primitives.specs.Sound.{IsSoundResults};
+    ghost use Rattle.services.specs.CanonicalReply.{results_octets};
 
-/// Appends objects with what was read of them, one after another.
-#[tactic(auto, using(crate::proofs::RequestOctets::extends_laws))]
-fn put_many<A: Allocator, B: Allocator>(
-    results: &[ObjectResults<A>],
-    out: &mut Vec<u8, B>,
-) -> Result<(), Fault>
-    requires { AllByRecursion IsSoundResults results.now }
-    ensures put { OnOk result (out.new.items ≡ out.old.items ++ in_turn results_octets results.now) }
-    ensures memory { IfErr result (λ fault. fault ≡ Fault.Memory) }
-    ensures err { OnErr result (Extends out.old.items out.new.items) }
-{
-    for read in results {
-        put_results(read, out)?;
+    ghost IsSound = { IsSoundResults };
+
+    ghost octets = { results_octets };
+
+    fn put<B: Allocator>(&self, out: &mut Vec<u8, B>) -> Result<(), Fault> {
+        write_object(Class::Context, 0, self.object, out)?;
+        write_tag(&Tag::opening(1), out)?;
+        put_each(self.results.as_slice(), out)?;
+        write_tag(&Tag::closing(1), out)
     }
-    Ok(())
 }
 
 /// Appends a reply behind the header of its ComplexACK.
@@ -149,7 +111,7 @@ fn put_reply<A: Allocator, B: Allocator>(
             put_read(*object, *property, *index, out)?;
             put_values(3, values.as_slice(), out)
         }
-        (Request::ReadMany(_), Reply::Many(results)) => put_many(results.as_slice(), out),
+        (Request::ReadMany(_), Reply::Many(results)) => put_each(results.as_slice(), out),
         _ => Ok(()),
     }
 }

@@ -1,8 +1,8 @@
 //! Reading the requests of the confirmed services (clauses 15.5, 15.7, 15.9 and 15.10).
 
 ghost use Rattle.std.specs.Prelude.{◌≡◌, ◌<◌, ◌^◌, ◌≢◌, [], IfOk, IfErr, IsOk, OnErr, length};
-ghost use Rattle.objects.specs.Sound.{IsSoundId, IsSoundIndex, IsSoundPriority, IsSoundRequest, AreSound};
-ghost use Rattle.services.specs.Numbers.{service_number, NoService};
+ghost use Rattle.primitives.specs.Sound.{IsSoundId, IsSoundIndex, IsSoundPriority, IsSoundRequest, AreSound};
+ghost use Rattle.apdu.specs.Numbers.{service_number, NoService};
 ghost use Rattle.services.specs.Request.{SpellsRequest, OnlyRequest, NoRequest, RejectsRequest};
 ghost use Rattle.services.specs.Requests.{
   TakesProperty,
@@ -22,9 +22,9 @@ use crate::fields::{
     priority_of, read_end, read_last, read_number, read_object, read_opening_behind,
 };
 use crate::multiple_reader::{read_many, read_write_many};
-use crate::numbers::{ConfirmedService, RejectReason};
 use crate::stop::Stop;
 use crate::values::read_values;
+use apdu::{ConfirmedService, RejectReason};
 use objects::{Request, Values};
 use std::alloc::{AllocError, Allocator};
 use tags::{ObjectId, Reader};

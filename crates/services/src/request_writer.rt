@@ -2,31 +2,22 @@
 //! and 15.10).
 
 ghost use Rattle.std.specs.Prelude.{◌≡◌, ◌<◌, ◌++◌, OnOk, OnErr, IfErr};
-ghost use Rattle.std.specs.List.{AllByRecursion};
 ghost use Rattle.tags.specs.Canonical.{canonicals, Extends};
-ghost use Rattle.objects.specs.Sound.{
+ghost use Rattle.primitives.specs.Sound.{
   AreSound,
   IsSoundId,
-  IsSoundReference,
-  IsSoundRefs,
-  IsSoundWrite,
-  IsSoundWrites,
   IsSoundRequest,
 };
 ghost use Rattle.services.specs.Request.{request_service};
+ghost use Rattle.apdu.specs.ParameterWriting.{option_field};
 ghost use Rattle.services.specs.CanonicalRequest.{
-  option_field,
   values_field,
   read_octets,
-  reference_octets,
-  refs_octets,
-  write_octets,
-  writes_octets,
-  in_turn,
   canonical_request,
 };
 
-use crate::numbers::ConfirmedService;
+use crate::part::{Part, put_each};
+use apdu::ConfirmedService;
 use objects::{ObjectRefs, ObjectWrites, PropertyReference, PropertyWrite, Request};
 use std::alloc::Allocator;
 use tags::{
@@ -96,84 +87,50 @@ pub(crate) fn put_values<A: Allocator, B: Allocator>(
     write_tag(&Tag::closing(number), out)
 }
 
-/// Appends a reference to a property.
-fn put_reference<B: Allocator>(
-    reference: &PropertyReference,
-    out: &mut Vec<u8, B>,
-) -> Result<(), Fault>
-    requires { IsSoundReference reference.now }
-    ensures put { OnOk result (out.new.items ≡ out.old.items ++ reference_octets reference.now) }
-    ensures memory { IfErr result (λ fault. fault ≡ Fault.Memory) }
-    ensures err { OnErr result (Extends out.old.items out.new.items) }
-{
-    write_unsigned(Class::Context, 0, reference.property, out)?;
-    put_option(1, reference.index, out)
-}
+impl Part for PropertyReference {
+    ghost use Rattle.primitives.specs.Sound.{IsSoundReference};
+    ghost use Rattle.services.specs.CanonicalRequest.{reference_octets};
 
-/// Appends references one after another.
-#[tactic(auto, using(crate::proofs::RequestOctets::extends_laws))]
-fn put_references<B: Allocator>(
-    references: &[PropertyReference],
-    out: &mut Vec<u8, B>,
-) -> Result<(), Fault>
-    requires { AllByRecursion IsSoundReference references.now }
-    ensures put { OnOk result (out.new.items ≡ out.old.items ++ in_turn reference_octets references.now) }
-    ensures memory { IfErr result (λ fault. fault ≡ Fault.Memory) }
-    ensures err { OnErr result (Extends out.old.items out.new.items) }
-{
-    for reference in references {
-        put_reference(reference, out)?;
+    ghost IsSound = { IsSoundReference };
+
+    ghost octets = { reference_octets };
+
+    fn put<B: Allocator>(&self, out: &mut Vec<u8, B>) -> Result<(), Fault> {
+        write_unsigned(Class::Context, 0, self.property, out)?;
+        put_option(1, self.index, out)
     }
-    Ok(())
 }
 
-/// Appends an object and its references.
-fn put_refs<A: Allocator, B: Allocator>(
-    refs: &ObjectRefs<A>,
-    out: &mut Vec<u8, B>,
-) -> Result<(), Fault>
-    requires { IsSoundRefs refs.now }
-    ensures put { OnOk result (out.new.items ≡ out.old.items ++ refs_octets refs.now) }
-    ensures memory { IfErr result (λ fault. fault ≡ Fault.Memory) }
-    ensures err { OnErr result (Extends out.old.items out.new.items) }
-{
-    write_object(Class::Context, 0, refs.object, out)?;
-    write_tag(&Tag::opening(1), out)?;
-    put_references(refs.refs.as_slice(), out)?;
-    write_tag(&Tag::closing(1), out)
-}
+impl<A: Allocator> Part for ObjectRefs<A> {
+    ghost use Rattle.primitives.specs.Sound.{IsSoundRefs};
+    ghost use Rattle.services.specs.CanonicalRequest.{refs_octets};
 
-/// Appends objects with their references, one after another.
-#[tactic(auto, using(crate::proofs::RequestOctets::extends_laws))]
-fn put_read_many<A: Allocator, B: Allocator>(
-    asked: &[ObjectRefs<A>],
-    out: &mut Vec<u8, B>,
-) -> Result<(), Fault>
-    requires { AllByRecursion IsSoundRefs asked.now }
-    ensures put { OnOk result (out.new.items ≡ out.old.items ++ in_turn refs_octets asked.now) }
-    ensures memory { IfErr result (λ fault. fault ≡ Fault.Memory) }
-    ensures err { OnErr result (Extends out.old.items out.new.items) }
-{
-    for refs in asked {
-        put_refs(refs, out)?;
+    ghost IsSound = { IsSoundRefs };
+
+    ghost octets = { refs_octets };
+
+    fn put<B: Allocator>(&self, out: &mut Vec<u8, B>) -> Result<(), Fault> {
+        write_object(Class::Context, 0, self.object, out)?;
+        write_tag(&Tag::opening(1), out)?;
+        put_each(self.refs.as_slice(), out)?;
+        write_tag(&Tag::closing(1), out)
     }
-    Ok(())
 }
 
-/// Appends a write to a property.
-fn put_write<A: Allocator, B: Allocator>(
-    write: &PropertyWrite<A>,
-    out: &mut Vec<u8, B>,
-) -> Result<(), Fault>
-    requires { IsSoundWrite write.now }
-    ensures put { OnOk result (out.new.items ≡ out.old.items ++ write_octets write.now) }
-    ensures memory { IfErr result (λ fault. fault ≡ Fault.Memory) }
-    ensures err { OnErr result (Extends out.old.items out.new.items) }
-{
-    write_unsigned(Class::Context, 0, write.property, out)?;
-    put_option(1, write.index, out)?;
-    put_values(2, write.values.as_slice(), out)?;
-    put_priority(3, write.priority, out)
+impl<A: Allocator> Part for PropertyWrite<A> {
+    ghost use Rattle.primitives.specs.Sound.{IsSoundWrite};
+    ghost use Rattle.services.specs.CanonicalRequest.{write_octets};
+
+    ghost IsSound = { IsSoundWrite };
+
+    ghost octets = { write_octets };
+
+    fn put<B: Allocator>(&self, out: &mut Vec<u8, B>) -> Result<(), Fault> {
+        write_unsigned(Class::Context, 0, self.property, out)?;
+        put_option(1, self.index, out)?;
+        put_values(2, self.values.as_slice(), out)?;
+        put_priority(3, self.priority, out)
+    }
 }
 
 /// Appends an optional priority under the context tag of this number (15.9.1.1.5).
@@ -193,54 +150,20 @@ fn put_priority<B: Allocator>(
     }
 }
 
-/// Appends writes one after another.
-#[tactic(auto, using(crate::proofs::RequestOctets::extends_laws))]
-fn put_each_write<A: Allocator, B: Allocator>(
-    writes: &[PropertyWrite<A>],
-    out: &mut Vec<u8, B>,
-) -> Result<(), Fault>
-    requires { AllByRecursion IsSoundWrite writes.now }
-    ensures put { OnOk result (out.new.items ≡ out.old.items ++ in_turn write_octets writes.now) }
-    ensures memory { IfErr result (λ fault. fault ≡ Fault.Memory) }
-    ensures err { OnErr result (Extends out.old.items out.new.items) }
-{
-    for write in writes {
-        put_write(write, out)?;
-    }
-    Ok(())
-}
+impl<A: Allocator> Part for ObjectWrites<A> {
+    ghost use Rattle.primitives.specs.Sound.{IsSoundWrites};
+    ghost use Rattle.services.specs.CanonicalRequest.{writes_octets};
 
-/// Appends an object and the writes to it.
-fn put_writes<A: Allocator, B: Allocator>(
-    writes: &ObjectWrites<A>,
-    out: &mut Vec<u8, B>,
-) -> Result<(), Fault>
-    requires { IsSoundWrites writes.now }
-    ensures put { OnOk result (out.new.items ≡ out.old.items ++ writes_octets writes.now) }
-    ensures memory { IfErr result (λ fault. fault ≡ Fault.Memory) }
-    ensures err { OnErr result (Extends out.old.items out.new.items) }
-{
-    write_object(Class::Context, 0, writes.object, out)?;
-    write_tag(&Tag::opening(1), out)?;
-    put_each_write(writes.writes.as_slice(), out)?;
-    write_tag(&Tag::closing(1), out)
-}
+    ghost IsSound = { IsSoundWrites };
 
-/// Appends objects with the writes to them, one after another.
-#[tactic(auto, using(crate::proofs::RequestOctets::extends_laws))]
-fn put_write_many<A: Allocator, B: Allocator>(
-    asked: &[ObjectWrites<A>],
-    out: &mut Vec<u8, B>,
-) -> Result<(), Fault>
-    requires { AllByRecursion IsSoundWrites asked.now }
-    ensures put { OnOk result (out.new.items ≡ out.old.items ++ in_turn writes_octets asked.now) }
-    ensures memory { IfErr result (λ fault. fault ≡ Fault.Memory) }
-    ensures err { OnErr result (Extends out.old.items out.new.items) }
-{
-    for writes in asked {
-        put_writes(writes, out)?;
+    ghost octets = { writes_octets };
+
+    fn put<B: Allocator>(&self, out: &mut Vec<u8, B>) -> Result<(), Fault> {
+        write_object(Class::Context, 0, self.object, out)?;
+        write_tag(&Tag::opening(1), out)?;
+        put_each(self.writes.as_slice(), out)?;
+        write_tag(&Tag::closing(1), out)
     }
-    Ok(())
 }
 
 /// Appends a ReadProperty request (15.5.1).
@@ -276,7 +199,7 @@ fn put_request<A: Allocator, B: Allocator>(
             property,
             index,
         } => put_read(*object, *property, *index, out),
-        Request::ReadMany(asked) => put_read_many(asked.as_slice(), out),
+        Request::ReadMany(asked) => put_each(asked.as_slice(), out),
         Request::Write {
             object,
             property,
@@ -288,7 +211,7 @@ fn put_request<A: Allocator, B: Allocator>(
             put_values(3, values.as_slice(), out)?;
             put_priority(4, *priority, out)
         }
-        Request::WriteMany(asked) => put_write_many(asked.as_slice(), out),
+        Request::WriteMany(asked) => put_each(asked.as_slice(), out),
     }
 }
 

@@ -3,7 +3,7 @@
 ghost use Rattle.std.specs.Prelude.{◌≡◌};
 ghost use Rattle.services.specs.declared.stop.Stop.TheVariants.{Memory, Reject};
 
-use crate::numbers::RejectReason;
+use apdu::RejectReason;
 use std::alloc::AllocError;
 
 /// Memory is wanted, or the body is rejected.

@@ -2,13 +2,13 @@
 
 ghost use Rattle.std.specs.Prelude.{◌≡◌, ◌<◌, ◌^◌, IfOk, IfErr, IfSome, IfNone, length};
 ghost use Rattle.tags.specs.Value.{IsSound, TakesValue};
-ghost use Rattle.objects.specs.Sound.{AreSound};
+ghost use Rattle.primitives.specs.Sound.{AreSound};
 ghost use Rattle.services.specs.Fields.{TakesClosing, TakesInside, RejectsValue, RejectsInside};
 ghost use Rattle.services.specs.Stop.{StopsFor};
 
 use crate::fields::read_closing;
-use crate::numbers::RejectReason;
 use crate::stop::Stop;
+use apdu::RejectReason;
 use objects::Values;
 use std::alloc::Allocator;
 use tags::{Fault, Items, Reader, Value, read_value};

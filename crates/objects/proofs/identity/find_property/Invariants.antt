@@ -1,6 +1,6 @@
 use Rattle.std.proofs.Common.{◌≡◌}
 use Rattle.std.specs.Prelude.{◌==◌, drop, find}
-use Rattle.objects.specs.Numbers.{property_number}
+use Rattle.primitives.specs.Numbers.{property_number}
 use Rattle.objects.proofs.identity.find_property.Given as goal
 
 -- the property is still to be found where the whole list has it

@@ -1,7 +1,7 @@
 use Rattle.std.proofs.Common.{arith}
 use Rattle.std.proofs.lemmas.Grind.{common_steps}
 use Rattle.objects.proofs.ReadLaws.{refused_by_length}
-use Rattle.objects.specs.Objects.{is_array}
+use Rattle.primitives.specs.Properties.{is_array}
 use Rattle.objects.proofs.reading.locate.Goals as goal
 
 pub returns-in-Some-refused_index-clause-refused : goal.returns-in-Some-refused_index-clause-refused

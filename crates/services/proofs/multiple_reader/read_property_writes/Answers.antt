@@ -1,8 +1,8 @@
 use Rattle.services.proofs.Exits.{exit_reason, exit_stop}
 use Rattle.services.proofs.WriteLaws.{Progress, values_rejected, priority_rejected, write_smaller, writes_go_on}
 use Rattle.std.proofs.Common.{subst, Option, ℕ}
-use Rattle.objects.specs.declared.plain_data.PropertyWrite.{PropertyWrite}
-use Rattle.objects.specs.Sound.{IsSoundWrite}
+use Rattle.primitives.specs.declared.plain_data.PropertyWrite.{PropertyWrite}
+use Rattle.primitives.specs.Sound.{IsSoundWrite}
 use Rattle.services.proofs.multiple_reader.read_property_writes.Goals as goal
 
 pub returns-in_err-index-clause-rejected : goal.returns-in_err-index-clause-rejected

@@ -1,8 +1,8 @@
 use Rattle.services.proofs.Exits.{exit_reason}
 use Rattle.services.proofs.MultipleLaws.{one_more_reference, reference_rejected, reference}
-use Rattle.objects.specs.declared.plain_data.PropertyReference.{PropertyReference}
+use Rattle.primitives.specs.declared.plain_data.PropertyReference.{PropertyReference}
 use Rattle.services.proofs.Lists.{all_more}
-use Rattle.objects.specs.Sound.{IsSoundReference}
+use Rattle.primitives.specs.Sound.{IsSoundReference}
 use Rattle.std.proofs.Common.{subst}
 use Rattle.services.proofs.multiple_reader.read_references.Goals as goal
 

@@ -1,5 +1,5 @@
 use Rattle.std.specs.List.{AllByRecursion}
-use Rattle.objects.specs.Sound.{IsSoundReference}
+use Rattle.primitives.specs.Sound.{IsSoundReference}
 use Rattle.services.proofs.MultipleLaws.{Reached, left}
 use Rattle.services.proofs.multiple_reader.read_references.Given as goal
 

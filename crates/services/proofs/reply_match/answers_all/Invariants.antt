@@ -1,5 +1,5 @@
 use Rattle.std.proofs.Common.{◌↔◌, length}
-use Rattle.objects.specs.Answers.{AnswersAll}
+use Rattle.primitives.specs.Answers.{AnswersAll}
 use Rattle.services.proofs.reply_match.answers_all.Given as goal
 
 abbrev pub invariant-loop-asked_left : goal.invariant-loop-asked_left

@@ -1,5 +1,5 @@
 use Rattle.std.proofs.Common.{◌≡◌, ◌↔◌, map, length}
-use Rattle.objects.specs.Answers.{read_reference}
+use Rattle.primitives.specs.Answers.{read_reference}
 use Rattle.services.proofs.reply_match.are_of.Given as goal
 
 abbrev pub invariant-loop-results_left : goal.invariant-loop-results_left

@@ -1,6 +1,6 @@
 use Rattle.std.proofs.Common.{◌↔◌, length}
 use Rattle.std.specs.List.{AllByRecursion}
-use Rattle.objects.specs.Answers.{IsOneProperty}
+use Rattle.primitives.specs.Answers.{IsOneProperty}
 use Rattle.services.proofs.reply_match.names_single_properties.Given as goal
 
 abbrev pub invariant-loop-left : goal.invariant-loop-left

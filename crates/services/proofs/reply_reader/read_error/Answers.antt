@@ -1,6 +1,6 @@
 use Rattle.services.proofs.RequestOctets.{on_err}
 use Rattle.services.proofs.NoReply.{no_error_of_none, no_error_unclosed}
-use Rattle.objects.specs.Errors.{class_number, code_number}
+use Rattle.primitives.specs.Errors.{class_number, code_number}
 use Rattle.services.proofs.reply_reader.read_error.Goals as goal
 
 pub returns-in_default-clause-none : goal.returns-in_default-clause-none

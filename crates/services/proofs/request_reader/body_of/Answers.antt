@@ -1,6 +1,6 @@
 use Rattle.services.proofs.Exits.{exit_reason}
 use Rattle.services.specs.Request.{read, write}
-use Rattle.services.specs.Numbers.{service_number}
+use Rattle.apdu.specs.Numbers.{service_number}
 use Rattle.std.proofs.Common.{ap}
 use Rattle.services.proofs.Exits.{err_shows, stops_map}
 use Rattle.services.proofs.request_reader.body_of.Goals as goal

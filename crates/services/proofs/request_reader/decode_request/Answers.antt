@@ -1,5 +1,5 @@
 use Rattle.std.proofs.Common.{rules}
-use Rattle.services.specs.Numbers.{service_number}
+use Rattle.apdu.specs.Numbers.{service_number}
 use Rattle.services.proofs.NoRequest.{no_request_of}
 use Rattle.services.proofs.request_reader.decode_request.Goals as goal
 

@@ -5,4 +5,4 @@ use Rattle.objects.proofs.table.Table.copy.Goals as goal
 
 pub invariant_of-result : goal.invariant_of-result
 invariant_of-result g c =
-    (c.in_ok-places.ensures ∙ ap (λ (t : PlainTable _). map identifier t) c.deref-2.ensures.value, rw (c.in_ok-objects.ensures, c.deref.ensures.value) c.self.invariant.1)
+    (c.in_ok-places.ensures ∙ ap (λ (t : PlainTable _). map identifier t) c.deref-2.ensures.value, rw (c.into_vec-objects.ensures ∙ c.in_ok-copy_all.ensures, c.deref.ensures.value) c.self.invariant.1)

@@ -1,6 +1,6 @@
 use Rattle.std.proofs.Common.{◌≡◌, ◌++◌}
 use Rattle.std.specs.Prelude.{None, drop, map, filter}
-use Rattle.objects.specs.Numbers.{property_number}
+use Rattle.primitives.specs.Numbers.{property_number}
 use Rattle.objects.specs.Reading.{is_selected, entry}
 use Rattle.objects.proofs.table.Table.push_selected.Given as goal
 

@@ -1,0 +1,7 @@
+pub mod Parameters
+pub mod ServiceErrors
+pub mod ApduLaws
+pub mod CanonicalLaws
+pub mod UnconfirmedLaws
+pub mod RefusalLaws
+pub mod ShortestLaws

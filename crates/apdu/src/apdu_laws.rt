@@ -1,0 +1,29 @@
+//! What holds of the spelling of every APDU, Who-Is and I-Am, for the proofs of the layers above.
+
+ghost use Rattle.apdu.specs.ApduLaws.{CanonicalIsShortest, CanonicalSpells, IAmIsShortest, IAmSpellOne, IAmSpells, RefusedOnce, ShortIsBegun, SpellOne, WhoIsIsShortest, WhoIsSpellOne, WhoIsSpells};
+
+/// What is written is read again as the same APDU: its octets spell it, no other, and none that
+/// are fewer. What is refused is refused for one cause, and what is short could be completed.
+pub fn apdu_spelling()
+    ensures one { SpellOne }
+    ensures canonical { CanonicalSpells }
+    ensures shortest { CanonicalIsShortest }
+    ensures refused { RefusedOnce }
+    ensures short { ShortIsBegun }
+{}
+
+/// What is written of a Who-Is is read again as the same: its octets spell it, no other, and none
+/// that are fewer.
+pub fn who_is_spelling()
+    ensures one { WhoIsSpellOne }
+    ensures canonical { WhoIsSpells }
+    ensures shortest { WhoIsIsShortest }
+{}
+
+/// What is written of an I-Am is read again as the same: its octets spell it, no other, and none
+/// that are fewer.
+pub fn i_am_spelling()
+    ensures one { IAmSpellOne }
+    ensures canonical { IAmSpells }
+    ensures shortest { IAmIsShortest }
+{}

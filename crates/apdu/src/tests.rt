@@ -1,0 +1,4 @@
+mod apdu;
+mod numbers;
+mod refusals;
+mod unconfirmed;

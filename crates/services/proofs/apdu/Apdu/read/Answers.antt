@@ -1,9 +1,0 @@
-use Rattle.std.proofs.Common.{arith, ◌-◌, length, take, drop, slice_index_or}
-use Rattle.std.proofs.lemmas.Grind.{common_steps}
-use Rattle.services.proofs.ApduLaws.{only_apdu, spelled_behind}
-use Rattle.services.proofs.apdu.Apdu.read.Goals as goal
-
-pub returns-clause-only : goal.returns-clause-only
-returns-clause-only c =
-    only_apdu c.args.octets.now c.apdu_from.result
-    (spelled_behind c.in_ok-kind.kind (slice_index_or c.args.octets.now 0 0) (take (length c.args.octets.now - 1) (drop 1 c.args.octets.now)) c.args.octets.now c.apdu_from.result (grind (arith, common_steps)) c.in_ok-kind.ensures c.apdu_from.ensures.read)
