@@ -65,24 +65,28 @@ fn a_site_is_copied_or_there_is_no_memory(rt: HostRuntime) -> Result<(), Fail> {
     Ok(())
 }
 
+/// Whether a table is written and its copy is not, as it was.
+fn goes_its_own_way<A: Allocator + Copy>(alloc: A, table: &mut Table<A>) -> Result<bool, Fail> {
+    let before = all_of(alloc, table)?;
+    let copy = table.copy()?;
+    let done = table.apply(&write(alloc, LEVEL, 85, Value::Signed(1), None)?)?;
+    Ok(done == Reply::Done && all_of(alloc, &copy)? == before)
+}
+
 #[test]
 fn a_table_is_copied_or_there_is_no_memory(rt: HostRuntime) -> Result<(), Fail> {
     let memory = Refusing::new(rt.alloc());
     let mut table = Table::new(&memory, site(&memory)?)?;
-    let all = all_of(&memory, &table)?;
     for n in 1..MANY_ALLOCATIONS {
         memory.refuse_only(n);
-        let copy = table.copy();
+        let is_copied = table.copy().is_ok();
         if memory.is_waiting() {
             memory.refuse_only(0);
-            let copy = copy?;
-            let done = table.apply(&write(&memory, LEVEL, 85, Value::Signed(1), None)?)?;
-            assert_eq!(rt; done, Reply::Done);
-            assert_eq!(rt; all_of(&memory, &copy)?, all);
-            assert!(rt; 1 < n);
+            assert!(rt; is_copied && 1 < n);
+            assert!(rt; goes_its_own_way(&memory, &mut table)?);
             return Ok(());
         }
-        assert!(rt; copy.is_err());
+        assert!(rt; !is_copied);
     }
     assert!(rt; false);
     Ok(())
@@ -114,31 +118,61 @@ fn a_request_is_answered_or_there_is_no_memory(rt: HostRuntime) -> Result<(), Fa
     Ok(())
 }
 
-#[test]
-fn a_request_is_done_or_nothing_changes(rt: HostRuntime) -> Result<(), Fail> {
-    let memory = Refusing::new(rt.alloc());
-    let requests = [
-        write(&memory, LABEL, 85, text(&memory, "off")?, Some(8))?,
-        writes(&memory)?,
-    ];
-    for request in &requests {
-        for n in 1..MANY_ALLOCATIONS {
-            let mut table = Table::new(&memory, site(&memory)?)?;
-            let before = all_of(&memory, &table)?;
-            memory.refuse_only(n);
-            let reply = table.apply(request);
-            if memory.is_waiting() {
-                memory.refuse_only(0);
-                assert_eq!(rt; reply?, Reply::Done);
-                assert!(rt; 1 < n);
-                break;
-            }
-            assert!(rt; reply.is_err());
-            assert_eq!(rt; all_of(&memory, &table)?, before);
-            assert_eq!(rt; table.apply(request)?, Reply::Done);
-            let now = shown(&memory, &table.reply(&read(LABEL, 85, None))?)?;
-            assert_eq!(rt; now.as_str(), "values text off");
+/// Whether a request is done where the `n`th allocation from its start is refused: there is none.
+/// Else nothing changes, and the request is done when it comes again.
+fn is_done<'a, B: Allocator>(
+    memory: &'a Refusing<B>,
+    request: &Request<&'a Refusing<B>>,
+    n: u64,
+) -> Result<bool, Fail> {
+    let mut table = Table::new(memory, site(memory)?)?;
+    let before = all_of(memory, &table)?;
+    memory.refuse_only(n);
+    let refused = table.apply(request).is_err();
+    if memory.is_waiting() {
+        memory.refuse_only(0);
+        return Ok(!refused && is_off(memory, &table)?);
+    }
+    if !refused || all_of(memory, &table)? != before {
+        return Err("changed".into());
+    }
+    if table.apply(request)? != Reply::Done || !is_off(memory, &table)? {
+        return Err("not done".into());
+    }
+    Ok(false)
+}
+
+/// Whether the present value of the label is what the requests here write.
+fn is_off<A: Allocator + Copy>(alloc: A, table: &Table<A>) -> Result<bool, Fail> {
+    let now = shown(alloc, &table.reply(&read(LABEL, 85, None))?)?;
+    Ok(now.as_str() == "values text off")
+}
+
+/// The number of the first allocation that a request doesn't make.
+fn first_not_made<'a, B: Allocator>(
+    memory: &'a Refusing<B>,
+    request: &Request<&'a Refusing<B>>,
+) -> Result<u64, Fail> {
+    for n in 1..MANY_ALLOCATIONS {
+        if is_done(memory, request, n)? {
+            return Ok(n);
         }
     }
+    Err("never done".into())
+}
+
+#[test]
+fn a_write_is_done_or_nothing_changes(rt: HostRuntime) -> Result<(), Fail> {
+    let memory = Refusing::new(rt.alloc());
+    let request = write(&memory, LABEL, 85, text(&memory, "off")?, Some(8))?;
+    assert!(rt; 1 < first_not_made(&memory, &request)?);
+    Ok(())
+}
+
+#[test]
+fn several_writes_are_done_or_nothing_changes(rt: HostRuntime) -> Result<(), Fail> {
+    let memory = Refusing::new(rt.alloc());
+    let request = writes(&memory)?;
+    assert!(rt; 1 < first_not_made(&memory, &request)?);
     Ok(())
 }

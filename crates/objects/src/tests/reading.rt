@@ -1,6 +1,8 @@
 //! What is read (12, 15.5, 15.7).
 
 use super::*;
+use std::alloc::AllocGlobal;
+use std::process::Abort;
 use std::test::*;
 
 /// Rows of ReadProperty and their replies.
@@ -57,27 +59,52 @@ fn a_property_is_read_or_the_first_rule_refuses(rt: HostRuntime) -> Result<(), F
 const EMPTY: &str =
     "null, null, null, null, null, null, null, null, null, null, null, null, null, null, null, null";
 
+/// All properties of an object up to its Priority_Array, and behind that.
+type Listed = (ObjectId, &'static str, &'static str);
+
 /// All properties of each value object.
+const LISTED: [Listed; 4] = [
+    (
+        LAMP,
+        "5:1 75 = object 5:1; 77 = text lamp; 79 = enum 5; 85 = enum 1; 111 = bits 4 [0]; 36 = enum 0; 81 = bool false",
+        "104 = enum 1; 28 = text as found",
+    ),
+    (
+        MODE,
+        "19:1 75 = object 19:1; 77 = text mode; 79 = enum 19; 85 = unsigned 2; 111 = bits 4 [0]; 36 = enum 0; 81 = bool false; 74 = unsigned 3",
+        "104 = unsigned 2; 28 = text as found",
+    ),
+    (
+        LABEL,
+        "40:1 75 = object 40:1; 77 = text label; 79 = enum 40; 85 = text on; 111 = bits 4 [0]; 36 = enum 0; 81 = bool false",
+        "104 = text on; 28 = text as found",
+    ),
+    (
+        LEVEL,
+        "45:1 75 = object 45:1; 77 = text level; 79 = enum 45; 85 = signed 7; 111 = bits 4 [0]; 36 = enum 0; 81 = bool false; 117 = enum 95",
+        "104 = signed 7; 28 = text as found",
+    ),
+];
+
+/// What is read of all properties of an object.
+fn listed<A: Allocator + Copy>(alloc: A, object: ObjectId) -> Result<String<A>, Fail> {
+    let table = Table::new(alloc, site(alloc)?)?;
+    let reply = table.reply(&read_many(alloc, &[object], &[whole(8)])?)?;
+    shown(alloc, &reply)
+}
+
+/// Each object has the properties of its row, in their order.
+fn assert_listed(rt: &(impl Abort + AllocGlobal), rows: &[Listed]) -> Result<(), Fail> {
+    for (object, before, behind) in rows {
+        let all = format!(in rt.alloc(); "many [{before}; 87 = {EMPTY}; {behind}]")?;
+        assert_eq!(rt; listed(rt.alloc(), *object)?, all);
+    }
+    Ok(())
+}
+
 #[test]
 fn all_properties_are_read_in_order(rt: HostRuntime) -> Result<(), Fail> {
-    let alloc = rt.alloc();
-    let table = Table::new(alloc, site(alloc)?)?;
-    let lamp = format!(in alloc;
-        " [5:1 75 = object 5:1; 77 = text lamp; 79 = enum 5; 85 = enum 1; 111 = bits 4 [0]; 36 = enum 0; 81 = bool false; 87 = {EMPTY}; 104 = enum 1; 28 = text as found]"
-    )?;
-    let mode = format!(in alloc;
-        " [19:1 75 = object 19:1; 77 = text mode; 79 = enum 19; 85 = unsigned 2; 111 = bits 4 [0]; 36 = enum 0; 81 = bool false; 74 = unsigned 3; 87 = {EMPTY}; 104 = unsigned 2; 28 = text as found]"
-    )?;
-    let label = format!(in alloc;
-        " [40:1 75 = object 40:1; 77 = text label; 79 = enum 40; 85 = text on; 111 = bits 4 [0]; 36 = enum 0; 81 = bool false; 87 = {EMPTY}; 104 = text on; 28 = text as found]"
-    )?;
-    let level = format!(in alloc;
-        " [45:1 75 = object 45:1; 77 = text level; 79 = enum 45; 85 = signed 7; 111 = bits 4 [0]; 36 = enum 0; 81 = bool false; 117 = enum 95; 87 = {EMPTY}; 104 = signed 7; 28 = text as found]"
-    )?;
-    let reply = table.reply(&read_many(alloc, &[LAMP, MODE, LABEL, LEVEL], &[whole(8)])?)?;
-    let all = format!(in alloc; "many{lamp}{mode}{label}{level}")?;
-    assert_eq!(rt; shown(alloc, &reply)?, all);
-    Ok(())
+    assert_listed(&rt, &LISTED)
 }
 
 /// All properties of the Device object.

@@ -1,6 +1,8 @@
 //! What is written (15.9, 15.10, 19.2).
 
 use super::*;
+use std::alloc::AllocGlobal;
+use std::process::Abort;
 use std::test::*;
 
 /// A value of a row.
@@ -84,8 +86,11 @@ fn is_refused<A: Allocator + Copy>(
 /// 129 octets, no UTF-8.
 const LONG: &[u8] = &[255; 129];
 
-/// Rows of a write that is refused: object, property, value, priority and the reply.
-const REFUSED: [(ObjectId, u32, Given, Option<u8>, &str); 26] = [
+/// A write that is refused: object, property, value, priority and the reply.
+type Refused = (ObjectId, u32, Given, Option<u8>, &'static str);
+
+/// Rows of a write that is refused.
+const REFUSED: [Refused; 26] = [
     (UNKNOWN, 85, Given::Enum(1), None, "error 1 31"),
     (LAMP, 117, Given::Enum(1), None, "error 2 32"),
     (LAMP, 8, Given::Enum(1), None, "error 2 32"),
@@ -114,18 +119,21 @@ const REFUSED: [(ObjectId, u32, Given, Option<u8>, &str); 26] = [
     (MODE, 104, Given::Unsigned(4), None, "error 2 37"),
 ];
 
-#[test]
-fn a_write_is_refused_by_the_first_rule(rt: HostRuntime) -> Result<(), Fail> {
+/// Each write is refused as its row says.
+fn assert_refused(rt: &(impl Abort + AllocGlobal), rows: &[Refused]) -> Result<(), Fail> {
     let alloc = rt.alloc();
     let mut table = Table::new(alloc, site(alloc)?)?;
-    for (object, property, given, priority, answer) in &REFUSED {
+    for (object, property, given, priority, answer) in rows {
         let request = write(alloc, *object, *property, value(alloc, *given)?, *priority)?;
-        assert!(rt;
-            is_refused(alloc, &mut table, &request, answer)?,
-            "{answer} {request:?}"
-        );
+        let refused = is_refused(alloc, &mut table, &request, answer)?;
+        assert!(rt; refused, "{property} {given:?}: {answer}");
     }
     Ok(())
+}
+
+#[test]
+fn a_write_is_refused_by_the_first_rule(rt: HostRuntime) -> Result<(), Fail> {
+    assert_refused(&rt, &REFUSED)
 }
 
 /// Rows of a write that is refused: object, property, index, how many values and the reply.
@@ -328,22 +336,33 @@ fn several_writes_end_at_the_first_failure(rt: HostRuntime) -> Result<(), Fail> 
     Ok(())
 }
 
-#[test]
-fn each_rule_refuses_one_of_several_writes(rt: HostRuntime) -> Result<(), Fail> {
-    let alloc = rt.alloc();
-    for (object, property, given, priority, answer) in &REFUSED {
-        let mut table = Table::new(alloc, site(alloc)?)?;
-        let request = batch(alloc, *object, &[(*property, *given, *priority)])?;
-        let id = *object;
-        let answer = format!(in alloc;
-            "{answer} at {}:{} {property} None",
-            id.object_type, id.instance
-        )?;
-        let answer = answer.as_str();
+/// Whether the only write of a WritePropertyMultiple is refused as a row says.
+fn is_refused_alone<A: Allocator + Copy>(alloc: A, row: &Refused) -> Result<bool, Fail> {
+    let (id, property, given, priority, error) = *row;
+    let request = batch(alloc, id, &[(property, given, priority)])?;
+    let answer = format!(in alloc;
+        "{error} at {}:{} {property} None",
+        id.object_type, id.instance
+    )?;
+    let mut table = Table::new(alloc, site(alloc)?)?;
+    is_refused(alloc, &mut table, &request, answer.as_str())
+}
+
+/// Each write of the rows is refused alone.
+fn assert_refused_alone(rt: &(impl Abort + AllocGlobal), rows: &[Refused]) -> Result<(), Fail> {
+    for row in rows {
         assert!(rt;
-            is_refused(alloc, &mut table, &request, answer)?,
-            "{answer} {request:?}"
+            is_refused_alone(rt.alloc(), row)?,
+            "{} {:?}: {}",
+            row.1,
+            row.2,
+            row.4
         );
     }
     Ok(())
+}
+
+#[test]
+fn each_rule_refuses_one_of_several_writes(rt: HostRuntime) -> Result<(), Fail> {
+    assert_refused_alone(&rt, &REFUSED)
 }
