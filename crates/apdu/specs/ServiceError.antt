@@ -45,7 +45,7 @@ pub record SpellsWriteError (octets : List ℕ) (class code : ℕ) (r : ObjectPr
   pub first : TakesTag at_first (opening_tag 1) at_reference
   pub reference : TakesReference at_reference r
 
--- the same of an error that may name no write: it is then none of WritePropertyMultiple
+-- the same where a write may be named or none: where none is, nothing spells it
 abbrev pub SpellsFailedWrite : List ℕ → ℕ → ℕ → Option ObjectPropertyReference → Type 0
 SpellsFailedWrite octets class code None = ⊥
 SpellsFailedWrite octets class code (Some r) = SpellsWriteError octets class code r

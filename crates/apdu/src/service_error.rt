@@ -116,7 +116,7 @@ impl ObjectPropertyReference {
 }
 
 /// The class and the code at the front, both Enumerated (21, Error). `None` where other octets stand
-/// there.
+/// there; how far the reader went is then not said.
 #[tactic(auto, using(crate::proofs::ServiceErrors::class_and_code_rules))]
 pub fn class_and_code_from(reader: &mut Reader<'_>) -> Option<(ErrorClass, ErrorCode)>
     ensures read { IfSome result (λ e. TakesClassAndCode reader.old (class_number e.0) (code_number e.1) reader.new) }
