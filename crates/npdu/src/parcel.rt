@@ -21,14 +21,14 @@ pub struct Parcel<A: Allocator> {
 }
 
 impl<A: Allocator + Copy> Parcel<A> {
-    /// An equal parcel, in memory of the same allocator.
-    pub fn copy(&self) -> Result<Self, AllocError>
+    /// An equal parcel, in memory of `alloc`.
+    pub fn copy(&self, alloc: A) -> Result<Self, AllocError>
         ensures { IfOk result (λ parcel. parcel ≡ self.now) }
     {
         Ok(Parcel {
             from: self.from,
             to: self.to,
-            npdu: self.npdu.copy()?,
+            npdu: self.npdu.copy(alloc)?,
             stamp: self.stamp,
         })
     }

@@ -225,9 +225,9 @@ fn parcels_are_copied(rt: HostRuntime) -> Result<(), Fail> {
         npdu: Items::from_slice(&memory, &[1, 0, 0x10, 8])?,
         stamp: 13000,
     };
-    assert_eq!(rt; parcel.copy()?, parcel);
+    assert_eq!(rt; parcel.copy(&memory)?, parcel);
     memory.refuse_all();
-    assert!(rt; parcel.copy().is_err());
+    assert!(rt; parcel.copy(&memory).is_err());
     Ok(())
 }
 

@@ -12,7 +12,7 @@ use tags::Value;
 impl<A: Allocator + Copy> SiteObjects<A> {
     ghost use Rattle.std.specs.Prelude.{◌≡◌, IfOk};
 
-    /// Equal objects of a site. Their list takes its memory from `alloc`.
+    /// Equal objects of a site, in memory of `alloc`.
     ///
     /// # Errors
     /// Want of memory.
@@ -20,7 +20,7 @@ impl<A: Allocator + Copy> SiteObjects<A> {
         ensures { IfOk result (λ copy. copy ≡ self.now) }
     {
         Ok(SiteObjects {
-            name: self.name.copy()?,
+            name: self.name.copy(alloc)?,
             instance: self.instance,
             vendor: self.vendor,
             data_link: self.data_link,
@@ -30,13 +30,13 @@ impl<A: Allocator + Copy> SiteObjects<A> {
 }
 
 impl<A: Allocator + Copy> CopyIn<A> for SiteObject<A> {
-    fn copy_in(&self, _alloc: A) -> Result<Self, AllocError> {
+    fn copy_in(&self, alloc: A) -> Result<Self, AllocError> {
         Ok(SiteObject {
             kind: self.kind,
             instance: self.instance,
-            name: self.name.copy()?,
-            default: self.default.copy()?,
-            description: self.description.copy()?,
+            name: self.name.copy(alloc)?,
+            default: self.default.copy(alloc)?,
+            description: self.description.copy(alloc)?,
         })
     }
 }
@@ -44,22 +44,25 @@ impl<A: Allocator + Copy> CopyIn<A> for SiteObject<A> {
 impl<A: Allocator + Copy> CopyIn<A> for Object<A> {
     fn copy_in(&self, alloc: A) -> Result<Self, AllocError> {
         match self {
-            Object::Device(device) => Ok(Object::Device(copy_device(device)?)),
+            Object::Device(device) => Ok(Object::Device(copy_device(alloc, device)?)),
             Object::Value(value) => Ok(Object::Value(copy_value(alloc, value)?)),
         }
     }
 }
 
 /// An equal Device object.
-fn copy_device<A: Allocator + Copy>(device: &DeviceObject<A>) -> Result<DeviceObject<A>, AllocError>
+fn copy_device<A: Allocator + Copy>(
+    alloc: A,
+    device: &DeviceObject<A>,
+) -> Result<DeviceObject<A>, AllocError>
     ensures { IfOk result (λ copy. copy ≡ device.now) }
 {
     Ok(DeviceObject {
         instance: device.instance,
-        name: device.name.copy()?,
+        name: device.name.copy(alloc)?,
         vendor: device.vendor,
         data_link: device.data_link,
-        description: device.description.copy()?,
+        description: device.description.copy(alloc)?,
     })
 }
 
@@ -73,11 +76,11 @@ fn copy_value<A: Allocator + Copy>(
     Ok(ValueObject {
         kind: object.kind,
         instance: object.instance,
-        name: object.name.copy()?,
+        name: object.name.copy(alloc)?,
         slots: copy_commands(alloc, &object.slots)?,
-        default: object.default.copy()?,
+        default: object.default.copy(alloc)?,
         out_of_service: object.out_of_service,
-        description: object.description.copy()?,
+        description: object.description.copy(alloc)?,
     })
 }
 
@@ -90,18 +93,21 @@ fn copy_commands<A: Allocator + Copy>(
 {
     let mut all = Commands::new(alloc)?;
     for place in 0..slots.len() as u8 {
-        let value = copy_slot(slots.at(place + 1))?;
+        let value = copy_slot(alloc, slots.at(place + 1))?;
         all.put(place + 1, value);
     }
     Ok(all)
 }
 
 /// An equal slot.
-fn copy_slot<A: Allocator + Copy>(value: Option<&Value<A>>) -> Result<Option<Value<A>>, AllocError>
+fn copy_slot<A: Allocator + Copy>(
+    alloc: A,
+    value: Option<&Value<A>>,
+) -> Result<Option<Value<A>>, AllocError>
     ensures { IfOk result (λ copy. copy ≡ option_copied value.entry) }
 {
     match value {
-        Some(value) => Ok(Some(value.copy()?)),
+        Some(value) => Ok(Some(value.copy(alloc)?)),
         None => Ok(None),
     }
 }

@@ -343,7 +343,7 @@ fn priority_array<A: Allocator + Copy>(
 {
     let mut values = Items::new(alloc);
     for place in 0..slots.len() as u8 {
-        values.push(slot_value(slots.at(place + 1))?)?;
+        values.push(slot_value(alloc, slots.at(place + 1))?)?;
     }
     Ok(values)
 }
@@ -358,18 +358,21 @@ fn read_slot<A: Allocator + Copy>(
     ensures { IfOk result (λ values. values ≡ option_to_list (slice_get (map slot_value slots.now) place)) }
 {
     if place < slots.len() {
-        one(alloc, slot_value(slots.at(place as u8 + 1))?)
+        one(alloc, slot_value(alloc, slots.at(place as u8 + 1))?)
     } else {
         Ok(Items::new(alloc))
     }
 }
 
 /// What a slot holds, Null where it is empty (19.2.1).
-fn slot_value<A: Allocator + Copy>(slot: Option<&Value<A>>) -> Result<Value<A>, AllocError>
+fn slot_value<A: Allocator + Copy>(
+    alloc: A,
+    slot: Option<&Value<A>>,
+) -> Result<Value<A>, AllocError>
     ensures { IfOk result (λ v. v ≡ slot_value (option_copied slot.entry)) }
 {
     match slot {
-        Some(value) => value.copy(),
+        Some(value) => value.copy(alloc),
         None => Ok(Value::Null),
     }
 }
@@ -387,7 +390,7 @@ fn one<A: Allocator + Copy>(alloc: A, value: Value<A>) -> Result<Values<A>, Allo
 fn one_copy<A: Allocator + Copy>(alloc: A, value: &Value<A>) -> Result<Values<A>, AllocError>
     ensures { IfOk result (λ values. values ≡ value.now ∷ []) }
 {
-    one(alloc, value.copy()?)
+    one(alloc, value.copy(alloc)?)
 }
 
 /// A list of one text of UTF-8.

@@ -8,11 +8,11 @@ use crate::plain_data::{
 use std::alloc::{AllocError, Allocator};
 use tags::{Items, Value};
 
-/// What has an equal copy, whose lists take their memory from an allocator of the caller's.
+/// What has an equal copy, in memory of an allocator of the caller's.
 pub trait CopyIn<A: Allocator>: Sized {
     ghost use Rattle.std.specs.Prelude.{◌≡◌, IfOk};
 
-    /// An equal one.
+    /// An equal one, in memory of `alloc`.
     ///
     /// # Errors
     /// Want of memory.
@@ -40,7 +40,7 @@ pub fn copy_all<T: CopyIn<A> + Drop, A: Allocator + Copy>(
 impl<A: Allocator + Copy> Request<A> {
     ghost use Rattle.std.specs.Prelude.{◌≡◌, IfOk};
 
-    /// An equal request. Its lists take their memory from `alloc`.
+    /// An equal request, in memory of `alloc`.
     ///
     /// # Errors
     /// Want of memory.
@@ -79,7 +79,7 @@ impl<A: Allocator + Copy> Request<A> {
 impl<A: Allocator + Copy> Reply<A> {
     ghost use Rattle.std.specs.Prelude.{◌≡◌, IfOk};
 
-    /// An equal reply. Its lists take their memory from `alloc`.
+    /// An equal reply, in memory of `alloc`.
     ///
     /// # Errors
     /// Want of memory.
@@ -109,16 +109,16 @@ impl<A: Allocator + Copy> Reply<A> {
 }
 
 impl<A: Allocator + Copy> CopyIn<A> for Value<A> {
-    fn copy_in(&self, _alloc: A) -> Result<Self, AllocError> {
-        self.copy()
+    fn copy_in(&self, alloc: A) -> Result<Self, AllocError> {
+        self.copy(alloc)
     }
 }
 
 impl<A: Allocator + Copy> CopyIn<A> for ObjectRefs<A> {
-    fn copy_in(&self, _alloc: A) -> Result<Self, AllocError> {
+    fn copy_in(&self, alloc: A) -> Result<Self, AllocError> {
         Ok(ObjectRefs {
             object: self.object,
-            refs: self.refs.copy()?,
+            refs: self.refs.copy(alloc)?,
         })
     }
 }

@@ -449,7 +449,7 @@ fn copying_with_its_allocation_refused(rt: HostRuntime) -> Result<(), Fail> {
     octets.push(7)?;
     let value = Value::Built(octets);
     memory.refuse_only(1);
-    assert!(rt; value.copy().is_err());
-    assert_eq!(rt; value.copy()?, value);
+    assert!(rt; value.copy(&memory).is_err());
+    assert_eq!(rt; value.copy(&memory)?, value);
     Ok(())
 }

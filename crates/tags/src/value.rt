@@ -36,11 +36,11 @@ pub enum Value<A: Allocator> {
 }
 
 impl<A: Allocator + Copy> Value<A> {
-    /// An equal value, in memory of the same allocator.
+    /// An equal value, in memory of `alloc`.
     ///
     /// # Errors
     /// Want of memory.
-    pub fn copy(&self) -> Result<Self, AllocError>
+    pub fn copy(&self, alloc: A) -> Result<Self, AllocError>
         ensures { IfOk result (λ copy. copy ≡ self.now) }
     {
         Ok(match self {
@@ -50,19 +50,19 @@ impl<A: Allocator + Copy> Value<A> {
             Value::Signed(number) => Value::Signed(*number),
             Value::Text { set, octets } => Value::Text {
                 set: *set,
-                octets: octets.copy()?,
+                octets: octets.copy(alloc)?,
             },
             Value::Bits { unused, octets } => Value::Bits {
                 unused: *unused,
-                octets: octets.copy()?,
+                octets: octets.copy(alloc)?,
             },
             Value::Enum(number) => Value::Enum(*number),
             Value::Object(object) => Value::Object(*object),
             Value::Other { tag, octets } => Value::Other {
                 tag: *tag,
-                octets: octets.copy()?,
+                octets: octets.copy(alloc)?,
             },
-            Value::Built(octets) => Value::Built(octets.copy()?),
+            Value::Built(octets) => Value::Built(octets.copy(alloc)?),
         })
     }
 }
