@@ -11,19 +11,11 @@ use crate::reading::{NOT_AN_ARRAY, Refusal, UNKNOWN_OBJECT, locate};
 use crate::table::Table;
 use crate::writing::{access, level_of, write_refusal};
 use primitives::{
-    ObjectRefs, ObjectResults, ObjectWrites, Property, PropertyReference, PropertyResult,
-    PropertyWrite, Reply, Request,
+    ALL_PROPERTIES, OPTIONAL_PROPERTIES, ObjectRefs, ObjectResults, ObjectWrites, Property,
+    PropertyReference, PropertyResult, PropertyWrite, REQUIRED_PROPERTIES, Reply, Request,
 };
 use std::alloc::{AllocError, Allocator};
 use tags::{Items, ObjectId, Value};
-
-/// The numbers that stand for all, the optional and the required properties of an object
-/// (15.7.3.1.2).
-const ALL: u32 = 8;
-
-const OPTIONAL: u32 = 80;
-
-const REQUIRED: u32 = 105;
 
 impl<A: Allocator + Copy> Table<A> {
     ghost use Rattle.std.specs.Prelude.{◌≡◌, ◌++◌, OnOk, IfOk, None, map, filter};
@@ -265,16 +257,16 @@ fn written<A: Allocator>(refusal: Option<Refusal>) -> Reply<A>
 fn is_special(number: u32) -> bool
     ensures { result ≡ is_special number }
 {
-    number == ALL || number == OPTIONAL || number == REQUIRED
+    number == ALL_PROPERTIES || number == OPTIONAL_PROPERTIES || number == REQUIRED_PROPERTIES
 }
 
 /// Whether a property is among those that a number stands for.
 fn is_selected(property: Property, number: u32) -> bool
     ensures { result ≡ is_selected number property }
 {
-    if number == ALL {
+    if number == ALL_PROPERTIES {
         true
-    } else if number == REQUIRED {
+    } else if number == REQUIRED_PROPERTIES {
         property.is_required()
     } else {
         !property.is_required()

@@ -2,17 +2,19 @@
 //! clauses 15, 18 and 21): the service primitives of the object access services.
 //!
 //! To the layers above it promises: classes, codes, object types and properties have the
-//! standard's numbers, each in one place; whether a request has a spelling is told exactly; a copy
-//! is equal to what was copied. Nothing here knows of octets or of the objects of a device.
+//! standard's numbers, each in one place; whether a request or a reply has a spelling, and whether
+//! the one answers the other, is told exactly; a copy is equal to what was copied. Nothing here knows of octets or of the objects of a device.
 //!
 //! - `plain_data`: requests, replies and what they are made of.
-//! - `soundness`: whether a request has a spelling.
+//! - `soundness`: whether a request or a reply has a spelling.
+//! - `answers`: whether a reply is one to a request.
 //! - `copying`: equal copies.
 //! - `error`: error classes and codes, with the standard's numbers.
 //! - `object_type`: the object types, with the standard's numbers.
 //! - `property`: the properties, with the standard's numbers.
 #![tactic(auto)]
 
+mod answers;
 mod copying;
 mod error;
 mod object_type;
@@ -27,7 +29,7 @@ pub use plain_data::{
     ObjectRefs, ObjectResults, ObjectWrites, PropertyReference, PropertyResult, PropertyWrite,
     Reply, Request, Values,
 };
-pub use property::Property;
+pub use property::{ALL_PROPERTIES, OPTIONAL_PROPERTIES, Property, REQUIRED_PROPERTIES};
 
 #[cfg(test)]
 mod tests;

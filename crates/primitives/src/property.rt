@@ -7,6 +7,15 @@ ghost use Rattle.tags.specs.declared.fault.Fault.TheVariants.{NoSuch};
 
 use tags::Fault;
 
+/// Stands for all properties of an object in ReadPropertyMultiple (15.7.3.1.2).
+pub const ALL_PROPERTIES: u32 = 8;
+
+/// Stands for its optional properties (15.7.3.1.2).
+pub const OPTIONAL_PROPERTIES: u32 = 80;
+
+/// Stands for its required properties (15.7.3.1.2).
+pub const REQUIRED_PROPERTIES: u32 = 105;
+
 /// The properties that this product has (21, BACnetPropertyIdentifier), with the standard's numbers.
 #[derive(Clone, Copy, Debug, PartialEq, Eq)]
 pub enum Property {

@@ -1,10 +1,15 @@
-//! Whether a request has a spelling (15.5 to 15.10, 21).
+//! Whether a request or a reply has a spelling (15.5 to 15.10, 18, 21).
 
 ghost use Rattle.std.specs.Prelude.{◌↔◌, ◌<◌, ◌^◌, IsTrue};
 ghost use Rattle.std.specs.List.{AllByRecursion};
-ghost use Rattle.primitives.specs.Sound.{IsSoundIndex, IsSoundPriority};
+ghost use Rattle.primitives.specs.Errors.{class_number, code_number, IsNamedClass, IsNamedCode};
+ghost use Rattle.primitives.specs.Sound.{IsSoundIndex, IsSoundPriority, IsSoundError};
 
-use crate::plain_data::{ObjectRefs, ObjectWrites, PropertyReference, PropertyWrite, Request};
+use crate::error::{ErrorClass, ErrorCode};
+use crate::plain_data::{
+    ObjectRefs, ObjectResults, ObjectWrites, PropertyReference, PropertyResult, PropertyWrite,
+    Reply, Request,
+};
 use std::alloc::Allocator;
 use tags::Value;
 
@@ -44,7 +49,38 @@ impl<A: Allocator> Request<A> {
     }
 }
 
-/// What a request is made of, and what may lack a spelling.
+impl<A: Allocator> Reply<A> {
+    ghost use Rattle.std.specs.Prelude.{◌↔◌, IsTrue};
+    ghost use Rattle.primitives.specs.Sound.{IsSoundReply};
+
+    /// Whether the reply has a spelling (15.5 to 15.10, 18): its objects have a type below 1024
+    /// and an instance below 2^22, each of its values has a spelling, and each class and code
+    /// stands under its name where it has one. It takes no memory.
+    pub fn is_sound(&self) -> bool
+        ensures { IsTrue result ↔ IsSoundReply self.now }
+    {
+        match self {
+            Reply::Values(values) => all_have_spelling(values.as_slice()),
+            Reply::Many(results) => all_have_spelling(results.as_slice()),
+            Reply::Done => true,
+            Reply::Error(class, code) => is_sound_error(*class, *code),
+            Reply::ErrorAt {
+                class,
+                code,
+                object,
+                property,
+                index,
+            } => {
+                is_sound_error(*class, *code)
+                    && object.is_sound()
+                    && is_sound_number(*property)
+                    && is_sound_index(*index)
+            }
+        }
+    }
+}
+
+/// What requests and replies are made of, and what may lack a spelling.
 pub(crate) trait Part {
     ghost use Rattle.std.specs.Prelude.{◌↔◌, IsTrue};
 
@@ -122,6 +158,51 @@ impl<A: Allocator> Part for ObjectWrites<A> {
             && !self.writes.is_empty()
             && all_have_spelling(self.writes.as_slice())
     }
+}
+
+impl<A: Allocator> Part for PropertyResult<A> {
+    ghost use Rattle.primitives.specs.Sound.{IsSoundResult};
+
+    ghost IsSound = { IsSoundResult };
+
+    fn has_spelling(&self) -> bool {
+        let is_sound_reading = match &self.result {
+            Ok(values) => all_have_spelling(values.as_slice()),
+            Err((class, code)) => is_sound_error(*class, *code),
+        };
+        is_sound_number(self.property) && is_sound_index(self.index) && is_sound_reading
+    }
+}
+
+impl<A: Allocator> Part for ObjectResults<A> {
+    ghost use Rattle.primitives.specs.Sound.{IsSoundResults};
+
+    ghost IsSound = { IsSoundResults };
+
+    fn has_spelling(&self) -> bool {
+        self.object.is_sound() && all_have_spelling(self.results.as_slice())
+    }
+}
+
+/// Whether a class and a code stand each under its name where it has one.
+fn is_sound_error(class: ErrorClass, code: ErrorCode) -> bool
+    ensures { IsTrue result ↔ IsSoundError class code }
+{
+    is_named_class(class) && is_named_code(code)
+}
+
+/// Whether a class stands under its name where it has one.
+fn is_named_class(class: ErrorClass) -> bool
+    ensures { IsTrue result ↔ ((class_number class < 2 ^ 32) × IsNamedClass class) }
+{
+    ErrorClass::from(u32::from(class)) == class
+}
+
+/// Whether a code stands under its name where it has one.
+fn is_named_code(code: ErrorCode) -> bool
+    ensures { IsTrue result ↔ ((code_number code < 2 ^ 32) × IsNamedCode code) }
+{
+    ErrorCode::from(u32::from(code)) == code
 }
 
 /// Whether a number has 32 bits, which its type says.

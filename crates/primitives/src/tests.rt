@@ -1,9 +1,10 @@
 //! Requests and replies as rows build them (15).
 
 use super::*;
-use std::alloc::{AllocError, Allocator};
+use std::alloc::{AllocError, Allocator, Global};
 use tags::{Items, ObjectId, Value};
 
+mod answers;
 mod copying;
 mod numbers;
 mod soundness;
@@ -104,4 +105,34 @@ fn write_of<A: Allocator>(
         values: one(alloc, value)?,
         priority,
     })
+}
+
+/// A WritePropertyMultiple of one write.
+fn batch<A: Allocator + Copy>(
+    alloc: A,
+    object: ObjectId,
+    write: PropertyWrite<A>,
+) -> Result<Request<A>, AllocError> {
+    let mut writes = Items::new(alloc);
+    writes.push(write)?;
+    let mut groups = Items::new(alloc);
+    groups.push(ObjectWrites { object, writes })?;
+    Ok(Request::WriteMany(groups))
+}
+
+/// What was read of Present_Value of an object, as ReadPropertyMultiple gives it.
+fn many<A: Allocator + Copy>(
+    alloc: A,
+    object: ObjectId,
+    read: Result<Values<A>, (ErrorClass, ErrorCode)>,
+) -> Result<Reply<A>, AllocError> {
+    let mut results = Items::new(alloc);
+    results.push(PropertyResult {
+        property: 85,
+        index: None,
+        result: read,
+    })?;
+    let mut objects = Items::new(alloc);
+    objects.push(ObjectResults { object, results })?;
+    Ok(Reply::Many(objects))
 }

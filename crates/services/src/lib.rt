@@ -11,7 +11,7 @@
 //! - `fields`, `values`, `part`: the fields of a body, and lists of values and of parts.
 //! - `request_reader`, `multiple_reader`, `request_writer`: the requests, both ways.
 //! - `reply`, `reply_pdu`: what an answer has behind its header, and in which a reply goes.
-//! - `reply_reader`, `reply_match`, `reply_decoder`, `reply_writer`: the replies, both ways.
+//! - `reply_reader`, `reply_decoder`, `reply_writer`: the replies, both ways.
 //! - `executor`: what executes requests, and the object machine that does.
 //! - `stop`: why reading a body stops.
 //! - `laws`, `reply_laws`: what holds of every spelling, for the proofs of the layers above.
@@ -25,7 +25,6 @@ mod part;
 mod reply;
 mod reply_decoder;
 pub mod reply_laws;
-mod reply_match;
 mod reply_pdu;
 mod reply_reader;
 mod reply_writer;

@@ -7,7 +7,6 @@ ghost use Rattle.services.specs.ReplySteps.{NoAck, NoAnswer};
 ghost use Rattle.services.specs.Stop.{StopsFor};
 
 use crate::reply::Answer;
-use crate::reply_match::is_answer_to;
 use crate::reply_reader::{read_ack, read_many_ack};
 use crate::stop::Stop;
 use apdu::{RejectReason, ServiceError};
@@ -101,7 +100,7 @@ pub fn decode_reply<A: Allocator + Copy>(
 {
     match spelled_by(alloc, request, answer) {
         Ok(reply) => {
-            if !is_answer_to(request, &reply) {
+            if !reply.answers(request) {
                 return Ok(None);
             }
             Ok(Some(reply))

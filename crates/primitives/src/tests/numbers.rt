@@ -4,7 +4,7 @@ use super::*;
 use std::test::*;
 use tags::Fault;
 
-/// Error classes and their numbers (18.1).
+/// Error classes and their numbers (18.1 to 18.8).
 const CLASSES: [(ErrorClass, u32); 8] = [
     (ErrorClass::Device, 0),
     (ErrorClass::Object, 1),

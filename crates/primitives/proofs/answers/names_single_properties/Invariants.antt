@@ -1,7 +1,7 @@
 use Rattle.std.proofs.Common.{◌↔◌, length}
 use Rattle.std.specs.List.{AllByRecursion}
 use Rattle.primitives.specs.Answers.{IsOneProperty}
-use Rattle.services.proofs.reply_match.names_single_properties.Given as goal
+use Rattle.primitives.proofs.answers.names_single_properties.Given as goal
 
 abbrev pub invariant-loop-left : goal.invariant-loop-left
 invariant-loop-left l = AllByRecursion IsOneProperty l.left ↔ AllByRecursion IsOneProperty l.references

@@ -1,6 +1,6 @@
 use Rattle.std.proofs.Common.{◌↔◌, length}
 use Rattle.primitives.specs.Answers.{AnswersAll}
-use Rattle.services.proofs.reply_match.answers_all.Given as goal
+use Rattle.primitives.proofs.answers.answers_all.Given as goal
 
 abbrev pub invariant-loop-asked_left : goal.invariant-loop-asked_left
 invariant-loop-asked_left g l = AnswersAll l.asked_left l.read_left ↔ AnswersAll l.asked l.read

@@ -1,6 +1,6 @@
 use Rattle.std.proofs.Common.{◌≡◌, ◌↔◌, map, length}
 use Rattle.primitives.specs.Answers.{read_reference}
-use Rattle.services.proofs.reply_match.are_of.Given as goal
+use Rattle.primitives.proofs.answers.are_of.Given as goal
 
 abbrev pub invariant-loop-results_left : goal.invariant-loop-results_left
 invariant-loop-results_left g l = (map read_reference l.results_left ≡ l.asked_left) ↔ (map read_reference l.results ≡ l.asked)

@@ -3,18 +3,13 @@
 
 ghost use Rattle.std.specs.Prelude.{◌≡◌, ◌↔◌, IsTrue, map};
 ghost use Rattle.std.specs.List.{AllByRecursion};
-ghost use Rattle.primitives.specs.Answers.{IsOneProperty, AnswersRefs, AnswersAll, IsAnswerTo, read_reference};
+ghost use Rattle.primitives.specs.Answers.{IsOneProperty, AnswersRefs, AnswersAll, read_reference};
 
-use objects::{ObjectRefs, ObjectResults, PropertyReference, PropertyResult, Reply, Request};
+use crate::plain_data::{
+    ObjectRefs, ObjectResults, PropertyReference, PropertyResult, Reply, Request,
+};
+use crate::property::{ALL_PROPERTIES, OPTIONAL_PROPERTIES, REQUIRED_PROPERTIES};
 use std::alloc::Allocator;
-
-/// The properties that stand for all of an object's, for its required and for its optional ones
-/// (15.7.3.1.2).
-const ALL: u32 = 8;
-
-const OPTIONAL: u32 = 80;
-
-const REQUIRED: u32 = 105;
 
 /// Whether each reference names one property (15.7.3.1.2).
 fn names_single_properties(references: &[PropertyReference]) -> bool
@@ -22,7 +17,11 @@ fn names_single_properties(references: &[PropertyReference]) -> bool
 {
     let mut left = references;
     while let [first, others @ ..] = left {
-        if first.property == ALL || first.property == OPTIONAL || first.property == REQUIRED {
+        let property = first.property;
+        if property == ALL_PROPERTIES
+            || property == OPTIONAL_PROPERTIES
+            || property == REQUIRED_PROPERTIES
+        {
             return false;
         }
         left = others;
@@ -88,18 +87,25 @@ fn answers_all<A: Allocator>(asked: &[ObjectRefs<A>], read: &[ObjectResults<A>])
     read_left.is_empty()
 }
 
-/// Whether the reply answers the request.
-pub(crate) fn is_answer_to<A: Allocator>(request: &Request<A>, reply: &Reply<A>) -> bool
-    ensures { IsTrue result ↔ IsAnswerTo request.now reply.now }
-{
-    match (request, reply) {
-        (Request::Read { .. }, Reply::Values(_) | Reply::Error(..)) => true,
-        (Request::ReadMany(asked), Reply::Many(read)) => {
-            answers_all(asked.as_slice(), read.as_slice())
+impl<A: Allocator> Reply<A> {
+    ghost use Rattle.std.specs.Prelude.{◌↔◌, IsTrue};
+    ghost use Rattle.primitives.specs.Answers.{IsAnswerTo};
+
+    /// Whether the reply is one to this request: of a kind that its service gives, and for
+    /// ReadPropertyMultiple with the objects asked in their order, and their properties too where
+    /// each reference names one (15.5 to 15.10). It takes no memory.
+    pub fn answers(&self, request: &Request<A>) -> bool
+        ensures { IsTrue result ↔ IsAnswerTo request.now self.now }
+    {
+        match (request, self) {
+            (Request::Read { .. }, Reply::Values(_) | Reply::Error(..)) => true,
+            (Request::ReadMany(asked), Reply::Many(read)) => {
+                answers_all(asked.as_slice(), read.as_slice())
+            }
+            (Request::ReadMany(_), Reply::Error(..)) => true,
+            (Request::Write { .. }, Reply::Done | Reply::Error(..)) => true,
+            (Request::WriteMany(_), Reply::Done | Reply::ErrorAt { .. }) => true,
+            _ => false,
         }
-        (Request::ReadMany(_), Reply::Error(..)) => true,
-        (Request::Write { .. }, Reply::Done | Reply::Error(..)) => true,
-        (Request::WriteMany(_), Reply::Done | Reply::ErrorAt { .. }) => true,
-        _ => false,
     }
 }
