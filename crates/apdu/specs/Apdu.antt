@@ -43,6 +43,7 @@ HasNamedNumbers (variant.Reject invoke reason) = IsNamedReject reason
 HasNamedNumbers (variant.Abort server invoke reason) = IsNamedAbort reason
 HasNamedNumbers a = Unit {0}
 
+-- the type of an APDU (20.1.2 to 20.1.9)
 abbrev pub type_of : PlainApdu → PduType
 type_of (confirmed segment accepted max_segments max_apdu invoke service octets) = kind.ConfirmedRequest
 type_of (unconfirmed service octets) = kind.UnconfirmedRequest

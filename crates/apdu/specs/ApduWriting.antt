@@ -10,6 +10,7 @@ use Rattle.apdu.specs.Sizes.{segments_code}
 use Rattle.apdu.specs.declared.apdu.Segment.{Segment}
 use Rattle.apdu.specs.declared.service_error.ObjectPropertyReference.{ObjectPropertyReference}
 
+-- the bit of a flag: 1 where it is set, else 0 (20.1.2 to 20.1.9)
 abbrev pub bit : Bool → ℕ
 bit false = 0
 bit true = 1

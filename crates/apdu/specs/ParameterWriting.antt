@@ -19,9 +19,10 @@ abbrev pub option_field : ℕ → Option ℕ → List ℕ
 option_field number None = []
 option_field number (Some n) = number_field number n
 
--- an opening and a closing tag (20.2.1.3.2)
+-- an opening tag (20.2.1.3.2)
 abbrev pub opening_octets : ℕ → List ℕ
 opening_octets number = initial_octets Context number 6
 
+-- a closing tag (20.2.1.3.2)
 abbrev pub closing_octets : ℕ → List ℕ
 closing_octets number = initial_octets Context number 7

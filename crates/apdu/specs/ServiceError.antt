@@ -67,28 +67,34 @@ pub record OnlyError (service : ℕ) (octets : List ℕ) (class code : ℕ) (fir
 pub record NoError (service : ℕ) (octets : List ℕ) : Type 0 where
   pub none : (class code : ℕ) (o : Option ObjectPropertyReference) → SpellsError service octets class code o → ⊥
 
--- the same of the parts
-
+-- at the front the octets spell no other class and code, nor is anything else left behind them (21, Error)
 pub record OnlyClassAndCode (octets : List ℕ) (class code : ℕ) (rest : List ℕ) : Type 0 where
   pub only : (c d : ℕ) (after : List ℕ) → TakesClassAndCode octets c d after → (class ≡ c) × (code ≡ d) × (rest ≡ after)
 
+-- no class and code are spelled at the front (21, Error)
 pub record NoClassAndCode (octets : List ℕ) : Type 0 where
   pub none : (class code : ℕ) (rest : List ℕ) → TakesClassAndCode octets class code rest → ⊥
 
+-- the octets end a reference with no other index, or want of one (21, BACnetObjectPropertyReference)
 pub record OnlyEnd (octets : List ℕ) (index : Option ℕ) : Type 0 where
   pub only : (o : Option ℕ) → EndsReference octets o → index ≡ o
 
+-- the octets end no reference, with an index or without (21, BACnetObjectPropertyReference)
 pub record NoEnd (octets : List ℕ) : Type 0 where
   pub none : (o : Option ℕ) → EndsReference octets o → ⊥
 
+-- the octets spell no other reference (21, BACnetObjectPropertyReference)
 pub record OnlyReference (octets : List ℕ) (r : ObjectPropertyReference) : Type 0 where
   pub only : (s : ObjectPropertyReference) → TakesReference octets s → r ≡ s
 
+-- no reference is spelled (21, BACnetObjectPropertyReference)
 pub record NoReference (octets : List ℕ) : Type 0 where
   pub none : (r : ObjectPropertyReference) → TakesReference octets r → ⊥
 
+-- the octets spell no other error with a failed write (21, WritePropertyMultiple-Error)
 pub record OnlyFailedWrite (octets : List ℕ) (class code : ℕ) (first_failed : Option ObjectPropertyReference) : Type 0 where
   pub only : (c d : ℕ) (o : Option ObjectPropertyReference) → SpellsFailedWrite octets c d o → (class ≡ c) × (code ≡ d) × (first_failed ≡ o)
 
+-- no error with a failed write is spelled (21, WritePropertyMultiple-Error)
 pub record NoFailedWrite (octets : List ℕ) : Type 0 where
   pub none : (class code : ℕ) (o : Option ObjectPropertyReference) → SpellsFailedWrite octets class code o → ⊥

@@ -52,9 +52,11 @@ pub record OnlyWhoIs (octets : List ℕ) (limits : Option Limits) : Type 0 where
 pub record NoWhoIs (octets : List ℕ) : Type 0 where
   pub none : (o : Option Limits) → SpellsWhoIs octets o → ⊥
 
+-- the octets spell no other limits (16.10.1.1)
 pub record OnlyLimits (octets : List ℕ) (low high : ℕ) : Type 0 where
   pub only : (m n : ℕ) → SpellsLimits octets m n → (low ≡ m) × (high ≡ n)
 
+-- no limits are spelled (16.10.1.1)
 pub record NoLimits (octets : List ℕ) : Type 0 where
   pub none : (m n : ℕ) → SpellsLimits octets m n → ⊥
 

@@ -1,5 +1,5 @@
 -- The built-in device of the program (12.8, 12.11).
-use Rattle.std.specs.Prelude.{[], ◌∷◌, codes}
+use Rattle.std.specs.Prelude.{ℕ, [], ◌∷◌, codes}
 use Rattle.tags.specs.declared.value.Value.TheVariants as value
 use Rattle.objects.specs.declared.object.ValueKind.TheVariants as kind
 use Rattle.objects.specs.declared.site.DataLink.TheVariants.{BacnetIp}
@@ -17,6 +17,10 @@ builtin_value = record { kind = kind.Binary; instance = 1; name = codes "BV1"; d
 -- Device 99 on BACnet/IP, of vendor 0, with that object
 abbrev pub builtin_site : {A : Type 0} → SiteObjects A
 builtin_site = record { name = codes "device"; instance = 99; vendor = 0; data_link = BacnetIp; objects = builtin_value ∷ [] }
+
+-- the network that it is on, where a station of another shows in SNET (6.2.2)
+abbrev pub builtin_network : ℕ
+builtin_network = 1
 
 -- its table as it opens
 abbrev pub builtin_table : {A : Type 0} → PlainTable A

@@ -22,7 +22,7 @@ use Rattle.services.specs.Request.{request_service, SpellsRequest, RejectsReques
 use Rattle.apdu.specs.Unconfirmed.{SpellsWhoIs, Covers, i_am_octets}
 use Rattle.apdu.specs.declared.numbers.RejectReason.{RejectReason}
 use Rattle.apdu.specs.declared.unconfirmed.Limits.{Limits}
-use Rattle.bacsite.specs.Builtin.{builtin_i_am}
+use Rattle.bacsite.specs.Builtin.{builtin_i_am, builtin_network}
 use Rattle.bacsite.specs.Hearing.{Heard, Hears, OnlyHears, HearsNothing}
 
 -- a header without a source and a network message, and without a reply expected, and the body behind it (6.2.2)
@@ -32,7 +32,7 @@ header_to destination body = record { expects_reply = false; priority = Normal; 
 -- where an answer goes: nowhere else than to the link address that the message came from, unless it has another source (6.2.2)
 abbrev pub way_back : List ℕ → Option PlainSource → Option PlainDestination
 way_back from None = None
-way_back from (Some s) = if (s.net == 1) && pointwise nat_eq s.mac from then None else Some (record { net = Network s.net; mac = s.mac; hops = 255 })
+way_back from (Some s) = if (s.net == builtin_network) && pointwise nat_eq s.mac from then None else Some (record { net = Network s.net; mac = s.mac; hops = 255 })
 
 -- the datagram of an answer (J.2.11)
 abbrev pub answer_datagram : Option PlainDestination → List ℕ → List ℕ
@@ -56,9 +56,9 @@ answer_apdu invoke request reply = complex_ack None invoke (service_number (requ
 
 -- an answer that doesn't go whole is an Abort, segmentation-not-supported (5.4.5.3, 18.10)
 abbrev pub whole_or_abort : ℕ → ℕ → List ℕ → List ℕ
-whole_or_abort size invoke apdu = if nat_lt (min (size_of size) 1476) (length apdu) then application.canonical (abort_pdu true invoke 4) else apdu
+whole_or_abort size invoke apdu = if nat_lt (min (size_of size) builtin_i_am.max_apdu) (length apdu) then application.canonical (abort_pdu true invoke 4) else apdu
 
--- the APDU that a request with this code of its size is answered by
+-- the octets of the APDU that a request with this code of its size is answered by (20.1.2.5)
 abbrev pub answer_octets : {A : Type 0} → ℕ → ℕ → Request A → Reply A → List ℕ
 answer_octets size invoke request r = whole_or_abort size invoke (application.canonical (answer_apdu invoke request r))
 

@@ -25,7 +25,7 @@ use Rattle.objects.specs.Laws.{IsValueInForce, NoneHigherAt}
 use Rattle.primitives.specs.Numbers.{property_number}
 use Rattle.objects.specs.Objects.{PlainTable, first_properties, last_properties, own_properties, present_value, text, slot_value, held}
 use Rattle.primitives.specs.Properties.{is_array}
-use Rattle.objects.specs.Reading.{Refusal, Place, is_named, object_at, property_at, index_refusal, at_index, read, invalid_index}
+use Rattle.objects.specs.Reading.{Refusal, Place, is_named, object_at, property_at, index_refusal, at_index, locate_property, read, read_place, invalid_index}
 use Rattle.objects.specs.Site.{IsSoundObjectOf, IsSoundTable}
 use Rattle.primitives.specs.Sound.{IsSoundPriority}
 use Rattle.objects.specs.Levels.{put_level}
@@ -45,9 +45,19 @@ in_force_to : {A : Type 0} (o : ValueObject A) (v : Value A) → IsValueInForce 
 in_force_to o v (inl force) = ap (λ (first : Option (Value _)). unwrap_or first o.default) (in_force_first o.slots v force)
 in_force_to o v (inr none) = ap (λ (first : Option (Value _)). unwrap_or first o.default) (none_filled_no_first o.slots none.0) ∙ sym none.1
 
--- the present value is the value in force, and no other is
-pub present_is_in_force : {A : Type 0} (o : ValueObject A) (v : Value A) → (present_value o ≡ v) ↔ IsValueInForce o v
-present_is_in_force o v = (in_force_from o v (first_filled o.slots) refl, in_force_to o v)
+-- what is read of Present_Value where the object is there
+present_is_read : {A : Type 0} (t : PlainTable A) (id : ObjectId) (o : ValueObject A) → object_at t id ≡ Some (object.Value o) → read t id (property_number property.PresentValue) None ≡ Ok (present_value o ∷ [])
+present_is_read t id o is = ap (λ (found : Option (Object _)). read_place t (locate_property t found (property_number property.PresentValue) None) None) is
+
+-- the one value that was read, or another where none was
+abbrev value_read : {A : Type 0} → Value A → Result (List (Value A)) Refusal → Value A
+value_read other (Ok (v ∷ values)) = v
+value_read other r = other
+
+-- Present_Value reads the value in force, and no other
+pub present_is_in_force : {A : Type 0} (t : PlainTable A) (id : ObjectId) (o : ValueObject A) (v : Value A) → object_at t id ≡ Some (object.Value o) → (read t id (property_number property.PresentValue) None ≡ Ok (v ∷ [])) ↔ IsValueInForce o v
+present_is_in_force t id o v is =
+    (λ read_v. in_force_from o v (first_filled o.slots) refl (ap (value_read v) (sym (present_is_read t id o is) ∙ read_v)), λ force. present_is_read t id o is ∙ ap (λ (w : Value _). Ok (w ∷ [])) (in_force_to o v force))
 
 -- ---- slots and levels
 

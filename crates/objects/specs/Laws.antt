@@ -1,4 +1,4 @@
--- What holds of every table and every request (15, 19.2).
+-- What holds of tables and requests (15, 19.2).
 use Rattle.std.specs.Prelude.{◌≡◌, ◌≢◌, ◌↔◌, ◌⊎◌, ℕ, List, [], ◌∷◌, ◌++◌, Option, Some, None, Ok, Err, map}
 use Rattle.std.specs.List.{AllByRecursion}
 use Rattle.tags.specs.declared.object_id.ObjectId.{ObjectId}
@@ -18,7 +18,7 @@ use Rattle.primitives.specs.Answers.{IsAnswerTo}
 use Rattle.objects.specs.Failure.{HaveOneShape, first_failure}
 use Rattle.objects.specs.Machine.{reply, after}
 use Rattle.primitives.specs.Numbers.{property_number}
-use Rattle.objects.specs.Objects.{PlainTable, identifier, name_of, object_list, object_type_of, present_value}
+use Rattle.objects.specs.Objects.{PlainTable, identifier, name_of, object_list, object_type_of}
 use Rattle.objects.specs.Reading.{Refusal, object_at, read}
 use Rattle.objects.specs.Site.{IsSoundTable}
 use Rattle.primitives.specs.Sound.{IsSoundPriority, IsSoundRequest, IsSoundReply}
@@ -117,9 +117,9 @@ CommandLeavesOtherLevels A = (t u : PlainTable A) (id : ObjectId) (w : PropertyW
 abbrev pub IsValueInForce : {A : Type 0} → ValueObject A → Value A → Type 0
 IsValueInForce o v = IsInForce o.slots v ⊎ (NoneFilled o.slots × (v ≡ o.default))
 
--- the present value is the value in force (19.2)
+-- Present_Value of a value object reads the value in force, and no other (15.5.2, 19.2)
 abbrev pub PresentIsInForce : Type 0 → Type 0
-PresentIsInForce A = (o : ValueObject A) (v : Value A) → (present_value o ≡ v) ↔ IsValueInForce o v
+PresentIsInForce A = (t : PlainTable A) (id : ObjectId) (o : ValueObject A) (v : Value A) → object_at t id ≡ Some (object.Value o) → (read t id (property_number property.PresentValue) None ≡ Ok (v ∷ [])) ↔ IsValueInForce o v
 
 -- the slots of all higher priorities of an object are empty (19.2)
 pub record NoneHigherAt {A : Type 0} (t : PlainTable A) (id : ObjectId) (level : ℕ) : Type 0 where

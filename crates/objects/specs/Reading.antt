@@ -22,16 +22,19 @@ use Rattle.primitives.specs.Properties.{is_required, is_array}
 abbrev pub Refusal : Type 0
 Refusal = ErrorClass × ErrorCode
 
--- the refusals of reading (15.5.1.3)
+-- the first refusal of reading: the device has no such object (15.5.1.3)
 abbrev pub unknown_object : Refusal
 unknown_object = (class.Object, code.UnknownObject)
 
+-- the object has no such property (15.5.1.3)
 abbrev pub unknown_property : Refusal
 unknown_property = (class.Property, code.UnknownProperty)
 
+-- an index is given, and the property is no array (15.5.1.3)
 abbrev pub not_an_array : Refusal
 not_an_array = (class.Property, code.PropertyIsNotAnArray)
 
+-- the index is over the array's length (15.5.1.3)
 abbrev pub invalid_index : Refusal
 invalid_index = (class.Property, code.InvalidArrayIndex)
 

@@ -32,7 +32,7 @@ opening_table s = opening_device s ∷ map opening_value s.objects
 abbrev pub IsText : List ℕ → Type 0
 IsText octets = text_refusal 0 octets ≡ None
 
--- a Multi-state Value has at least one state, and units are a number of 32 bits (12.20.10)
+-- a Multi-state Value has 1 to 65535 states, and units are a number of 32 bits (12.20.10)
 abbrev pub IsSoundKind : ValueKind → Type 0
 IsSoundKind (kind.MultiState states) = (0 < states) × (states < 2 ^ 16)
 IsSoundKind (kind.Integer units) = units < 2 ^ 32
@@ -101,6 +101,6 @@ pub record IsSoundTable {A : Type 0} (t : PlainTable A) : Type 0 where
 abbrev pub IsSite : {A : Type 0} → SiteObjects A → Type 0
 IsSite s = IsSoundTable (opening_table s)
 
--- some text, number or value of a site is out of range, or two objects have one identifier or name
+-- some text, number or value of a site is out of range, there are over 512 value objects, or two objects have one identifier or name (12)
 pub record IsFaultySite {A : Type 0} (s : SiteObjects A) : Type 0 where
   pub faulty : IsSite s → ⊥

@@ -26,19 +26,23 @@ use Rattle.objects.specs.Levels.{put_level}
 use Rattle.objects.specs.Objects.{PlainTable}
 use Rattle.objects.specs.Reading.{Refusal, Place, is_named, locate}
 
--- the refusals of writing (15.9.1.3)
+-- the first refusal of writing: the property is not written, or not at this priority (15.9.1.3)
 abbrev pub access_denied : Refusal
 access_denied = (class.Property, code.WriteAccessDenied)
 
+-- not exactly one value, or a value of another type than the property (15.9.1.3)
 abbrev pub invalid_type : Refusal
 invalid_type = (class.Property, code.InvalidDataType)
 
+-- a text of a character set that the device does not have (15.9.1.3)
 abbrev pub other_character_set : Refusal
 other_character_set = (class.Property, code.CharacterSetNotSupported)
 
+-- a text longer than the property holds (15.9.1.3)
 abbrev pub no_space : Refusal
 no_space = (class.Resources, code.NoSpaceToWriteProperty)
 
+-- a number out of the property's range, or a text that is no UTF-8 (15.9.1.3)
 abbrev pub out_of_range : Refusal
 out_of_range = (class.Property, code.ValueOutOfRange)
 

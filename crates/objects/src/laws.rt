@@ -1,4 +1,4 @@
-//! What holds of every table and every request (clauses 15 and 19.2). A function without a body
+//! What holds of tables and requests (clauses 15 and 19.2). A function without a body
 //! is a law: its contract, for the proofs of the layers above.
 
 ghost use Rattle.objects.specs.Laws.{LeavesSound, RepliesSound, AnswersRequest, WriteLeavesShape, ShapeRefuses, RepliesFirstFailure, WritesEndAtFailure, DoneIsWritten, ReadingChangesNothing, RequestLeavesShape, RequestLeavesIdentifiers, RequestLeavesNames, RequestLeavesTypes, RequestLeavesObjectList, WriteLeavesOtherObjects, WriteLeavesOtherReads, WriteLeavesOtherProperties, CommandLeavesOtherLevels, PresentIsInForce, CommandReadsBack, CommandShows, WriteReadsBack};
@@ -101,8 +101,8 @@ pub fn command_leaves_other_levels<A: Allocator>()
     ensures { CommandLeavesOtherLevels A }
 {}
 
-/// The present value is the value in force: that of the filled slot of the least number, or the
-/// default where no slot is filled (19.2).
+/// Present_Value of a value object reads the value in force and no other: that of the filled slot
+/// of the least number, or the default where no slot is filled (15.5.2, 19.2).
 pub fn present_is_in_force<A: Allocator>()
     ensures { PresentIsInForce A }
 {}

@@ -19,7 +19,7 @@
 //! - `answering`: what a table replies to a request.
 //! - `applying`: what a request leaves of a table.
 //! - `copying`: equal copies.
-//! - `laws`: what holds of every table and every request, for the proofs of the layers above.
+//! - `laws`: what holds of tables and requests, for the proofs of the layers above.
 #![tactic(auto)]
 
 mod answering;

@@ -152,7 +152,7 @@ impl ValueKind {
     ghost use Rattle.objects.specs.Writing.{datatype_of};
 
     /// The type of the values that an object of this kind holds.
-    pub fn datatype(self) -> Datatype
+    pub(crate) fn datatype(self) -> Datatype
         ensures { result ≡ datatype_of self }
     {
         match self {

@@ -3,7 +3,7 @@
 ghost use Rattle.std.specs.Prelude.{◌≡◌};
 ghost use Rattle.primitives.specs.Errors.{class_number, IsClassOf, code_number, IsCodeOf};
 
-/// The class of an error (18.1). Each has its number here and nowhere else.
+/// The class of an error (18.1 to 18.8). Each has its number here and nowhere else.
 #[derive(Clone, Copy, Debug, PartialEq, Eq)]
 pub enum ErrorClass {
     /// An error of the device: 0.
@@ -54,7 +54,7 @@ impl From<ErrorClass> for u32 {
     }
 }
 
-/// The code of an error (18.1 to 18.9): those that this product's devices answer, and all others.
+/// The code of an error (18.1 to 18.8): those that this product's devices answer, and all others.
 #[derive(Clone, Copy, Debug, PartialEq, Eq)]
 pub enum ErrorCode {
     /// The value has another type than the property: 9.

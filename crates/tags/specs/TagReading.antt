@@ -1,4 +1,4 @@
--- Used by proofs alone: reading one tag from left to right as a function, with the first fault that is met.
+-- For private functions and proofs alone: reading one tag from left to right as a function, with the first fault that is met.
 -- What a tag is stands in Tag.antt; public contracts cite that one.
 use Rattle.std.specs.Prelude.{◌≡◌, ℕ, ◌/◌, ◌%◌, List, [], ◌∷◌, length, take, drop, Result, Ok, Err, nat_lt, ◌==◌, if◌then◌else◌}
 use Rattle.byteorder.specs.Endian.{big_number}
