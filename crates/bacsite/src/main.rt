@@ -46,6 +46,4 @@ fn words_of(rt: &HostRuntime) -> io::Result<Vec<String>> {
 }
 
 #[cfg(test)]
-mod explain_tests;
-#[cfg(test)]
 mod tests;

@@ -2,10 +2,11 @@
 
 use super::asked;
 use crate::{Executor, ObjectExecutor};
-use objects::{DataLink, Reply, SiteObject, SiteObjects, Table, ValueKind};
+use objects::{DataLink, Reply, Request, SiteObject, SiteObjects, Table, ValueKind};
 use refusing::Refusing;
-use std::alloc::Allocator;
-use std::test::Fail;
+use std::alloc::{AllocGlobal, Allocator};
+use std::process::Abort;
+use std::test::*;
 use tags::{Items, Value};
 
 /// Device 99 with Binary Value 1, whose Relinquish_Default is active.
@@ -50,8 +51,30 @@ fn present_value<A: Allocator + Copy, E: Executor<A>>(
     replied(alloc, executor, 12, "0C 01 40 00 01 19 55")
 }
 
-/// Requests, and what the object machine replies while nothing was written.
-const REPLIES: [(u8, &str, &str); 9] = [
+/// The present value of Binary Value 1 once the request of a body has run.
+fn left<A: Allocator + Copy, E: Executor<A>>(
+    alloc: A,
+    executor: &mut E,
+    service: u8,
+    body: &str,
+) -> Result<String<A>, Fail> {
+    let request = asked(alloc, service, body)?;
+    executor.run(&request)?;
+    present_value(alloc, executor)
+}
+
+/// The present value of Binary Value 1 in a copy.
+fn copied_value<A: Allocator + Copy, E: Executor<A> + Drop>(
+    alloc: A,
+    executor: &E,
+) -> Result<String<A>, Fail> {
+    let copy = executor.copy()?;
+    present_value(alloc, &copy)
+}
+
+/// Requests, and what the object machine replies while nothing was written. A reply writes nothing:
+/// the last is as the first.
+const REPLIES: [(u8, &str, &str); 10] = [
     (12, "0C 01 40 00 01 19 55", "Values([Enum(1)])"),
     (12, "0C 01 40 00 02 19 55", "Error(Object, UnknownObject)"),
     (
@@ -81,19 +104,22 @@ const REPLIES: [(u8, &str, &str); 9] = [
         "0C 01 40 00 01 1E 09 55 2E 91 00 2F 39 08 09 4D 2E 71 00 2F 1F",
         "ErrorAt { class: Property, code: WriteAccessDenied, object: ObjectId { object_type: 5, instance: 1 }, property: 77, index: None }",
     ),
+    (12, "0C 01 40 00 01 19 55", "Values([Enum(1)])"),
 ];
+
+/// The executor replies to each request as its row says.
+fn assert_replies(rt: &(impl Abort + AllocGlobal), rows: &[(u8, &str, &str)]) -> Result<(), Fail> {
+    let executor = device(rt.alloc())?;
+    for (service, body, reply) in rows {
+        let found = replied(rt.alloc(), &executor, *service, body)?;
+        assert_eq!(rt; found.as_str(), *reply);
+    }
+    Ok(())
+}
 
 #[test]
 fn an_executor_replies_as_the_object_machine(rt: HostRuntime) -> Result<(), Fail> {
-    let executor = device(rt.alloc())?;
-    for (service, body, reply) in REPLIES.iter() {
-        let got = replied(rt.alloc(), &executor, *service, body)?;
-        assert_eq!(rt; got.as_str(), *reply);
-        // a reply changes nothing
-        let value = present_value(rt.alloc(), &executor)?;
-        assert_eq!(rt; value.as_str(), "Values([Enum(1)])");
-    }
-    Ok(())
+    assert_replies(&rt, &REPLIES)
 }
 
 /// Requests that run one after another, and the present value that each leaves: a read, a write at
@@ -138,114 +164,193 @@ const RUNS: [(u8, &str, &str); 8] = [
     ),
 ];
 
-#[test]
-fn an_executor_leaves_what_the_object_machine_leaves(rt: HostRuntime) -> Result<(), Fail> {
+/// The executor leaves after each request the present value that its row says.
+fn assert_runs(rt: &(impl Abort + AllocGlobal), rows: &[(u8, &str, &str)]) -> Result<(), Fail> {
     let mut executor = device(rt.alloc())?;
-    for (service, body, value) in RUNS.iter() {
-        let request = asked(rt.alloc(), *service, body)?;
-        executor.run(&request)?;
-        let left = present_value(rt.alloc(), &executor)?;
-        assert_eq!(rt; left.as_str(), *value);
+    for (service, body, value) in rows {
+        let found = left(rt.alloc(), &mut executor, *service, body)?;
+        assert_eq!(rt; found.as_str(), *value);
     }
     Ok(())
+}
+
+#[test]
+fn an_executor_leaves_what_the_object_machine_leaves(rt: HostRuntime) -> Result<(), Fail> {
+    assert_runs(&rt, &RUNS)
 }
 
 #[test]
 fn a_copy_goes_its_own_way(rt: HostRuntime) -> Result<(), Fail> {
-    let write = asked(rt.alloc(), 15, "0C 01 40 00 01 19 55 3E 91 00 3F 49 08")?;
     let mut executor = device(rt.alloc())?;
     let opened = executor.copy()?;
-    executor.run(&write)?;
-    let written = executor.copy()?;
+    let (service, body, written) = RUNS[1];
+    let value = left(rt.alloc(), &mut executor, service, body)?;
+    assert_eq!(rt; value.as_str(), written);
+    let value = copied_value(rt.alloc(), &executor)?;
+    assert_eq!(rt; value.as_str(), written);
     let value = present_value(rt.alloc(), &opened)?;
     assert_eq!(rt; value.as_str(), "Values([Enum(1)])");
-    let value = present_value(rt.alloc(), &written)?;
-    assert_eq!(rt; value.as_str(), "Values([Enum(0)])");
     Ok(())
 }
 
-#[test]
-fn a_reply_is_refused_memory_or_whole(rt: HostRuntime) -> Result<(), Fail> {
-    let (service, body, _) = REPLIES[4];
+/// Whether the executor is refused memory for a reply, which is else this one.
+fn is_reply_refused<A: Allocator + Copy, E: Executor<A>>(
+    executor: &E,
+    request: &Request<A>,
+    answer: &Reply<A>,
+) -> Result<bool, Fail> {
+    match executor.reply(request) {
+        Ok(reply) if reply == *answer => Ok(false),
+        Ok(_) => Err("another reply".into()),
+        Err(_) => Ok(true),
+    }
+}
+
+/// How many allocations of a reply are refused in turn.
+fn replies_refused<A: Allocator, B: Allocator + Copy, E: Executor<B>>(
+    memory: &Refusing<A>,
+    executor: &E,
+    request: &Request<B>,
+    answer: &Reply<B>,
+) -> Result<u64, Fail> {
     for n in 1..100u64 {
-        let memory = Refusing::new(rt.alloc());
-        let executor = device(&memory)?;
-        let request = asked(&memory, service, body)?;
-        let answer = executor.reply(&request)?;
         memory.refuse_only(n);
-        let reply = executor.reply(&request);
-        if memory.is_waiting() {
-            memory.refuse_only(0);
-            assert_eq!(rt; reply?, answer);
-            assert!(rt; 1 < n);
-            return Ok(());
+        let is_refused = is_reply_refused(executor, request, answer)?;
+        if is_refused == memory.is_waiting() {
+            return Err("another cause".into());
         }
-        assert!(rt; reply.is_err());
-        memory.refuse_only(0);
-        assert_eq!(rt; executor.reply(&request)?, answer);
+        if !is_refused {
+            return Ok(n - 1);
+        }
     }
     Err("some allocation is always refused".into())
 }
 
-/// A Character String takes memory where it is written: here the Description.
+#[test]
+fn a_reply_is_refused_memory_or_whole(rt: HostRuntime) -> Result<(), Fail> {
+    let memory = Refusing::new(rt.alloc());
+    let executor = device(&memory)?;
+    let (service, body, _) = REPLIES[4];
+    let request = asked(&memory, service, body)?;
+    let answer = executor.reply(&request)?;
+    assert!(rt; replies_refused(&memory, &executor, &request, &answer)? > 0);
+    Ok(())
+}
+
+/// Present_Value and Description of Binary Value 1.
+fn value_and_description<A: Allocator + Copy, E: Executor<A>>(
+    alloc: A,
+    executor: &E,
+) -> Result<String<A>, Fail> {
+    replied(alloc, executor, 14, "0C 01 40 00 01 1E 09 55 09 1C 1F")
+}
+
+/// How many allocations of a run are refused in turn; each refusal leaves both properties.
+fn runs_refused<A: Allocator, B: Allocator + Copy, E: Executor<B>>(
+    memory: &Refusing<A>,
+    alloc: B,
+    executor: &mut E,
+    request: &Request<B>,
+) -> Result<u64, Fail> {
+    let before = value_and_description(alloc, executor)?;
+    for n in 1..100u64 {
+        memory.refuse_only(n);
+        let is_refused = executor.run(request).is_err();
+        if is_refused == memory.is_waiting() {
+            return Err("another cause".into());
+        }
+        memory.refuse_only(0);
+        if !is_refused {
+            return Ok(n - 1);
+        }
+        if value_and_description(alloc, executor)?.as_str() != before.as_str() {
+            return Err("another value".into());
+        }
+    }
+    Err("some allocation is always refused".into())
+}
+
+/// What is read of both once they are written.
+const WRITTEN: &str =
+    "Many([ObjectResults { object: ObjectId { object_type: 5, instance: 1 }, results: [PropertyResult { property: 85, index: None, result: Ok([Enum(0)]) }, PropertyResult { property: 28, index: None, result: Ok([Text { set: 0, octets: [111, 110] }]) }] }])";
+
+/// A Character String takes memory where it is written: here the Description, behind a command.
 #[test]
 fn a_run_is_refused_memory_or_whole(rt: HostRuntime) -> Result<(), Fail> {
-    let describe = "0C 01 40 00 01 1E 09 55 2E 91 00 2F 39 08 09 1C 2E 73 00 6F 6E 2F 1F";
-    let description = "0C 01 40 00 01 1E 09 55 09 1C 1F";
+    let memory = Refusing::new(rt.alloc());
+    let mut executor = device(&memory)?;
+    let request = asked(
+        &memory,
+        16,
+        "0C 01 40 00 01 1E 09 55 2E 91 00 2F 39 08 09 1C 2E 73 00 6F 6E 2F 1F",
+    )?;
+    assert!(rt; runs_refused(&memory, &memory, &mut executor, &request)? > 0);
+    let written = value_and_description(&memory, &executor)?;
+    assert_eq!(rt; written.as_str(), WRITTEN);
+    Ok(())
+}
+
+/// How many allocations of a copy are refused in turn.
+fn copies_refused<A: Allocator, B: Allocator + Copy, E: Executor<B> + Drop>(
+    memory: &Refusing<A>,
+    executor: &E,
+) -> Result<u64, Fail> {
     for n in 1..100u64 {
-        let memory = Refusing::new(rt.alloc());
-        let mut executor = device(&memory)?;
-        let request = asked(&memory, 16, describe)?;
-        let before = replied(&memory, &executor, 14, description)?;
         memory.refuse_only(n);
-        let ran = executor.run(&request);
-        if memory.is_waiting() {
-            memory.refuse_only(0);
-            assert!(rt; ran.is_ok() && 1 < n);
-            let after = replied(&memory, &executor, 14, description)?;
-            assert!(rt; after.as_str() != before.as_str());
-            return Ok(());
+        let is_refused = executor.copy().is_err();
+        if is_refused == memory.is_waiting() {
+            return Err("another cause".into());
         }
-        assert!(rt; ran.is_err());
-        memory.refuse_only(0);
-        let after = replied(&memory, &executor, 14, description)?;
-        assert_eq!(rt; after.as_str(), before.as_str());
-        executor.run(&request)?;
-        let value = present_value(&memory, &executor)?;
-        assert_eq!(rt; value.as_str(), "Values([Enum(0)])");
+        if !is_refused {
+            return Ok(n - 1);
+        }
     }
     Err("some allocation is always refused".into())
 }
 
 #[test]
 fn a_copy_is_refused_memory_or_whole(rt: HostRuntime) -> Result<(), Fail> {
-    for n in 1..100u64 {
-        let memory = Refusing::new(rt.alloc());
-        let executor = device(&memory)?;
-        memory.refuse_only(n);
-        let copy = executor.copy();
-        if memory.is_waiting() {
-            memory.refuse_only(0);
-            let value = present_value(&memory, &copy?)?;
-            assert_eq!(rt; value.as_str(), "Values([Enum(1)])");
-            assert!(rt; 1 < n);
-            return Ok(());
-        }
-        assert!(rt; copy.is_err());
-    }
-    Err("some allocation is always refused".into())
+    let memory = Refusing::new(rt.alloc());
+    let executor = device(&memory)?;
+    assert!(rt; copies_refused(&memory, &executor)? > 0);
+    memory.refuse_only(0);
+    let value = copied_value(&memory, &executor)?;
+    assert_eq!(rt; value.as_str(), "Values([Enum(1)])");
+    Ok(())
+}
+
+/// Whether a request runs while each allocation is refused.
+fn runs_without_memory<A: Allocator>(
+    memory: &Refusing<A>,
+    service: u8,
+    body: &str,
+) -> Result<bool, Fail> {
+    let mut executor = device(memory)?;
+    let request = asked(memory, service, body)?;
+    memory.refuse_all();
+    let is_run = executor.run(&request).is_ok();
+    memory.refuse_only(0);
+    Ok(is_run)
 }
 
 #[test]
 fn what_changes_nothing_takes_no_memory(rt: HostRuntime) -> Result<(), Fail> {
     let memory = Refusing::new(rt.alloc());
-    let mut executor = device(&memory)?;
-    let read = asked(&memory, 12, "0C 01 40 00 01 19 55")?;
-    let many = asked(&memory, 14, "0C 01 40 00 01 1E 09 55 1F")?;
+    for (service, body) in [
+        (12, "0C 01 40 00 01 19 55"),
+        (14, "0C 01 40 00 01 1E 09 55 1F"),
+    ] {
+        assert!(rt; runs_without_memory(&memory, service, body)?);
+    }
+    Ok(())
+}
+
+#[test]
+fn an_error_takes_no_memory(rt: HostRuntime) -> Result<(), Fail> {
+    let memory = Refusing::new(rt.alloc());
+    let executor = device(&memory)?;
     let unknown = asked(&memory, 12, "0C 01 40 00 02 19 55")?;
     memory.refuse_all();
-    assert!(rt; executor.run(&read).is_ok() && executor.run(&many).is_ok());
     assert!(rt; matches!(executor.reply(&unknown)?, Reply::Error(_, _)));
-    assert!(rt; memory.is_waiting());
     Ok(())
 }

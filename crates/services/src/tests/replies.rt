@@ -1,16 +1,16 @@
 //! Rows of answers, and the replies that they spell to their requests (15, 20.1).
 
-ghost use Rattle.std.specs.Prelude.{Some, IfOk};
-ghost use Rattle.primitives.specs.Answers.{IsAnswerTo};
-ghost use Rattle.primitives.specs.Sound.{IsSoundReply, IsSoundRequest};
+ghost use Rattle.std.specs.Prelude.{Some};
+ghost use Rattle.primitives.specs.Sound.{IsSoundRequest};
 ghost use Rattle.services.specs.Reply.{IsSoundAnswer, IsSoundFailure};
 
 use super::{asked, hex};
 use crate::*;
 use objects::{ErrorClass, ErrorCode, Reply, Request};
 use refusing::Refusing;
-use std::alloc::Allocator;
-use std::test::Fail;
+use std::alloc::{AllocGlobal, Allocator, Global};
+use std::process::Abort;
+use std::test::*;
 use tags::ObjectId;
 
 /// The reply that an answer spells, as its `Debug` prints it, or `none`.
@@ -25,8 +25,11 @@ fn shown<A: Allocator + Copy>(
     }
 }
 
+/// A request, service data of its answer, and what becomes of them.
+type Row = (u8, &'static str, &'static str, &'static str);
+
 /// A request, the service data of its answer, and the reply: from worked datagrams.
-const ANSWERS: [(u8, &str, &str, &str); 5] = [
+const ANSWERS: [Row; 5] = [
     (
         12,
         "0C 01 40 00 01 19 55",
@@ -59,15 +62,20 @@ const ANSWERS: [(u8, &str, &str, &str); 5] = [
     ),
 ];
 
-#[test]
-fn answers_of_worked_datagrams(rt: HostRuntime) -> Result<(), Fail> {
-    for (service, body, ack, reply) in ANSWERS.iter() {
+/// Each answer spells the reply of its row.
+fn assert_replies(rt: &(impl Abort + AllocGlobal), rows: &[Row]) -> Result<(), Fail> {
+    for (service, body, ack, reply) in rows {
         let request = asked(rt.alloc(), *service, body)?;
         let octets = hex(rt.alloc(), ack)?;
-        let answer = Answer::Complex(octets.as_slice());
-        assert_eq!(rt; shown(rt.alloc(), &request, &answer)?.as_str(), *reply);
+        let found = shown(rt.alloc(), &request, &Answer::Complex(octets.as_slice()))?;
+        assert_eq!(rt; found.as_str(), *reply);
     }
     Ok(())
+}
+
+#[test]
+fn answers_of_worked_datagrams(rt: HostRuntime) -> Result<(), Fail> {
+    assert_replies(&rt, &ANSWERS)
 }
 
 /// The service data that are written of the reply that an answer spells.
@@ -87,33 +95,42 @@ fn service_data<A: Allocator + Copy>(
     Ok(out)
 }
 
-/// The same of service data.
-fn written_again<A: Allocator + Copy>(
+/// Whether service data of an answer are written as these octets.
+fn is_written<A: Allocator + Copy>(
     alloc: A,
     request: &Request<A>,
     octets: &[u8],
-) -> Result<Vec<u8, A>, Fail>
+    written: &[u8],
+) -> Result<bool, Fail>
     requires { IsSoundRequest request.now }
 {
     if octets.len() >= 0x8000_0000 {
         return Err("too long".into());
     }
-    service_data(alloc, request, &Answer::Complex(octets))
+    let found = service_data(alloc, request, &Answer::Complex(octets))?;
+    Ok(found.as_slice() == written)
 }
 
-#[test]
-fn answers_are_written_as_they_were_read(rt: HostRuntime) -> Result<(), Fail> {
-    for (service, body, ack, _) in ANSWERS.iter() {
+/// The answers of these rows are written as they were read.
+fn assert_written_again(rt: &(impl Abort + AllocGlobal), rows: &[Row]) -> Result<(), Fail> {
+    for (service, body, ack, _) in rows {
         let request = asked(rt.alloc(), *service, body)?;
         let octets = hex(rt.alloc(), ack)?;
-        let again = written_again(rt.alloc(), &request, octets.as_slice())?;
-        assert_eq!(rt; again.as_slice(), octets.as_slice());
+        assert!(rt;
+            is_written(rt.alloc(), &request, octets.as_slice(), octets.as_slice())?,
+            "{ack}"
+        );
     }
     Ok(())
 }
 
+#[test]
+fn answers_are_written_as_they_were_read(rt: HostRuntime) -> Result<(), Fail> {
+    assert_written_again(&rt, &ANSWERS)
+}
+
 /// Answers in longer forms than need be, and what is written of their replies.
-const LONGER: [(u8, &str, &str, &str); 2] = [
+const LONGER: [Row; 2] = [
     (
         12,
         "0C 01 40 00 01 19 55",
@@ -128,15 +145,23 @@ const LONGER: [(u8, &str, &str, &str); 2] = [
     ),
 ];
 
-#[test]
-fn answers_are_written_in_their_shortest_form(rt: HostRuntime) -> Result<(), Fail> {
-    for (service, body, ack, shortest) in LONGER.iter() {
+/// The answers of these rows are written as the rows say.
+fn assert_written(rt: &(impl Abort + AllocGlobal), rows: &[Row]) -> Result<(), Fail> {
+    for (service, body, ack, shortest) in rows {
         let request = asked(rt.alloc(), *service, body)?;
         let octets = hex(rt.alloc(), ack)?;
-        let again = written_again(rt.alloc(), &request, octets.as_slice())?;
-        assert_eq!(rt; again.as_slice(), hex(rt.alloc(), shortest)?.as_slice());
+        let shortest = hex(rt.alloc(), shortest)?;
+        assert!(rt;
+            is_written(rt.alloc(), &request, octets.as_slice(), shortest.as_slice())?,
+            "{ack}"
+        );
     }
     Ok(())
+}
+
+#[test]
+fn answers_are_written_in_their_shortest_form(rt: HostRuntime) -> Result<(), Fail> {
+    assert_written(&rt, &LONGER)
 }
 
 /// The worked ReadProperty, and service data that are no answer to it: another object, property or
@@ -225,21 +250,29 @@ const NO_MANY: [(&str, &str); 14] = [
     ("0C 01 40 00 01 1E 09 55 1F", ""),
 ];
 
-#[test]
-fn answers_to_other_requests(rt: HostRuntime) -> Result<(), Fail> {
-    for (body, ack) in NO_READS.iter() {
-        let request = asked(rt.alloc(), 12, body)?;
+/// Service data of no row are an answer to its request.
+fn assert_no_answers(
+    rt: &(impl Abort + AllocGlobal),
+    service: u8,
+    rows: &[(&str, &str)],
+) -> Result<(), Fail> {
+    for (body, ack) in rows {
+        let request = asked(rt.alloc(), service, body)?;
         let octets = hex(rt.alloc(), ack)?;
-        let answer = Answer::Complex(octets.as_slice());
-        assert_eq!(rt; shown(rt.alloc(), &request, &answer)?.as_str(), "none");
-    }
-    for (body, ack) in NO_MANY.iter() {
-        let request = asked(rt.alloc(), 14, body)?;
-        let octets = hex(rt.alloc(), ack)?;
-        let answer = Answer::Complex(octets.as_slice());
-        assert_eq!(rt; shown(rt.alloc(), &request, &answer)?.as_str(), "none");
+        let found = shown(rt.alloc(), &request, &Answer::Complex(octets.as_slice()))?;
+        assert_eq!(rt; found.as_str(), "none", "{ack}");
     }
     Ok(())
+}
+
+#[test]
+fn answers_to_other_reads(rt: HostRuntime) -> Result<(), Fail> {
+    assert_no_answers(&rt, 12, &NO_READS)
+}
+
+#[test]
+fn answers_to_other_reads_of_many(rt: HostRuntime) -> Result<(), Fail> {
+    assert_no_answers(&rt, 14, &NO_MANY)
 }
 
 /// Requests of the four services.
@@ -298,19 +331,30 @@ fn object_name() -> ObjectPropertyReference
     }
 }
 
+/// A request is told by each of the four answers what its row says.
+fn assert_told(
+    rt: &(impl Abort + AllocGlobal),
+    request: &Request<Global>,
+    complex: &[u8],
+    told: &[&str; 4],
+) -> Result<(), Fail> {
+    let simple = shown(rt.alloc(), request, &Answer::Simple)?;
+    assert_eq!(rt; simple.as_str(), told[0]);
+    let complex = shown(rt.alloc(), request, &Answer::Complex(complex))?;
+    assert_eq!(rt; complex.as_str(), told[1]);
+    let error = shown(rt.alloc(), request, &denied(None))?;
+    assert_eq!(rt; error.as_str(), told[2]);
+    let failed = shown(rt.alloc(), request, &denied(Some(object_name())))?;
+    assert_eq!(rt; failed.as_str(), told[3]);
+    Ok(())
+}
+
 #[test]
 fn kinds_of_answers(rt: HostRuntime) -> Result<(), Fail> {
-    let octets = hex(rt.alloc(), "0C 01 40 00 01 19 55 3E 91 01 3F")?;
+    let complex = hex(rt.alloc(), "0C 01 40 00 01 19 55 3E 91 01 3F")?;
     for (n, (service, body)) in REQUESTS.iter().enumerate() {
         let request = asked(rt.alloc(), *service, body)?;
-        let simple = shown(rt.alloc(), &request, &Answer::Simple)?;
-        assert_eq!(rt; simple.as_str(), TOLD[n][0]);
-        let complex = shown(rt.alloc(), &request, &Answer::Complex(octets.as_slice()))?;
-        assert_eq!(rt; complex.as_str(), TOLD[n][1]);
-        let error = shown(rt.alloc(), &request, &denied(None))?;
-        assert_eq!(rt; error.as_str(), TOLD[n][2]);
-        let failed = shown(rt.alloc(), &request, &denied(Some(object_name())))?;
-        assert_eq!(rt; failed.as_str(), TOLD[n][3]);
+        assert_told(&rt, &request, complex.as_slice(), &TOLD[n])?;
     }
     Ok(())
 }
@@ -348,16 +392,26 @@ fn goes_in<A: Allocator + Copy>(
 }
 
 #[test]
-fn replies_go_in_their_answers(rt: HostRuntime) -> Result<(), Fail> {
+fn values_go_in_their_answers(rt: HostRuntime) -> Result<(), Fail> {
     let octets = hex(rt.alloc(), "0C 01 40 00 01 19 55 3E 91 01 3F")?;
     let body = octets.as_slice();
     let read = asked(rt.alloc(), 12, "0C 01 40 00 01 19 55")?;
     assert!(rt; goes_in(rt.alloc(), &read, &Answer::Complex(body), body)?);
     assert!(rt; goes_in(rt.alloc(), &read, &denied(None), body)?);
+    Ok(())
+}
+
+#[test]
+fn values_of_many_go_in_their_answers(rt: HostRuntime) -> Result<(), Fail> {
+    let octets = hex(rt.alloc(), "0C 01 40 00 01 1E 1F")?;
+    let body = octets.as_slice();
     let many = asked(rt.alloc(), 14, "0C 01 40 00 01 1E 09 50 1F")?;
-    let none = hex(rt.alloc(), "0C 01 40 00 01 1E 1F")?;
-    let none = none.as_slice();
-    assert!(rt; goes_in(rt.alloc(), &many, &Answer::Complex(none), none)?);
+    assert!(rt; goes_in(rt.alloc(), &many, &Answer::Complex(body), body)?);
+    Ok(())
+}
+
+#[test]
+fn writes_go_in_their_answers(rt: HostRuntime) -> Result<(), Fail> {
     let writes = asked(rt.alloc(), 16, "0C 01 40 00 01 1E 09 4D 2E 71 00 2F 1F")?;
     assert!(rt; goes_in(rt.alloc(), &writes, &Answer::Simple, &[])?);
     assert!(rt; goes_in(rt.alloc(), &writes, &denied(Some(object_name())), &[])?);
@@ -377,84 +431,106 @@ fn other_replies_have_no_service_data(rt: HostRuntime) -> Result<(), Fail> {
     Ok(())
 }
 
-#[test]
-fn reading_with_each_allocation_refused_in_turn(rt: HostRuntime) -> Result<(), Fail> {
-    let (service, body, ack, _) = ANSWERS[3];
-    let octets = hex(rt.alloc(), ack)?;
+/// How many allocations are refused in turn where an answer is read.
+fn readings_refused<'a, A: Allocator>(
+    memory: &'a Refusing<A>,
+    request: &Request<&'a Refusing<A>>,
+    answer: &Answer<'_>,
+) -> Result<u64, Fail> {
     for n in 1..20u64 {
-        let memory = Refusing::new(rt.alloc());
-        let request = asked(&memory, service, body)?;
         memory.refuse_only(n);
-        let answer = Answer::Complex(octets.as_slice());
-        let is_refused = decode_reply(&memory, &request, &answer).is_err();
-        assert_eq!(rt; is_refused, !memory.is_waiting());
-        if memory.is_waiting() {
-            assert!(rt; n > 3);
-            return Ok(());
+        let is_refused = decode_reply(memory, request, answer).is_err();
+        if is_refused == memory.is_waiting() {
+            return Err("another cause".into());
+        }
+        if !is_refused {
+            return Ok(n - 1);
         }
     }
     Err("some allocation is always refused".into())
 }
 
 #[test]
+fn reading_with_each_allocation_refused_in_turn(rt: HostRuntime) -> Result<(), Fail> {
+    let (service, body, ack, _) = ANSWERS[3];
+    let octets = hex(rt.alloc(), ack)?;
+    let memory = Refusing::new(rt.alloc());
+    let request = asked(&memory, service, body)?;
+    let answer = Answer::Complex(octets.as_slice());
+    assert!(rt; readings_refused(&memory, &request, &answer)? > 2);
+    Ok(())
+}
+
+/// Whether an answer without service data spells a reply; it takes no memory.
+fn is_told_without_memory<A: Allocator + Copy>(
+    alloc: A,
+    (service, body): (u8, &str),
+    answer: &Answer<'_>,
+) -> Result<bool, Fail> {
+    let memory = Refusing::new(alloc);
+    let request = asked(&memory, service, body)?;
+    memory.refuse_all();
+    Ok(decode_reply(&memory, &request, answer)?.is_some())
+}
+
+#[test]
 fn what_has_no_service_data_takes_no_memory(rt: HostRuntime) -> Result<(), Fail> {
-    for (n, (service, body)) in REQUESTS.iter().enumerate() {
-        let memory = Refusing::new(rt.alloc());
-        let request = asked(&memory, *service, body)?;
-        memory.refuse_all();
-        let simple = decode_reply(&memory, &request, &Answer::Simple)?;
-        assert_eq!(rt; simple.is_some(), TOLD[n][0] != "none");
-        let error = decode_reply(&memory, &request, &denied(None))?;
-        assert_eq!(rt; error.is_some(), TOLD[n][2] != "none");
-        assert!(rt; memory.is_waiting());
+    for (n, row) in REQUESTS.iter().enumerate() {
+        let is_done = is_told_without_memory(rt.alloc(), *row, &Answer::Simple)?;
+        assert_eq!(rt; is_done, TOLD[n][0] != "none");
+        let is_error = is_told_without_memory(rt.alloc(), *row, &denied(None))?;
+        assert_eq!(rt; is_error, TOLD[n][2] != "none");
     }
     Ok(())
 }
 
-/// Whether writing was refused memory. The buffer is then as before.
-fn is_writing_refused<A: Allocator, B: Allocator>(
+/// Whether writing is refused its `n`th allocation. The buffer is then as before, and else `length`
+/// octets longer.
+fn is_writing_refused_at<A: Allocator, B: Allocator>(
+    alloc: A,
+    request: &Request<B>,
+    reply: &Reply<B>,
+    length: usize,
+    n: u64,
+) -> Result<bool, Fail> {
+    if !request.is_sound() || !reply.is_sound() || !reply.answers(request) {
+        return Err("no reply to the request".into());
+    }
+    let memory = Refusing::new(alloc);
+    let mut out = Vec::new(&memory);
+    out.push(7u8)?;
+    memory.refuse_only(n);
+    let is_refused = encode_reply(request, reply, &mut out).is_err();
+    if is_refused == memory.is_waiting() {
+        return Err("another cause".into());
+    }
+    let is_before = out.as_slice() == [7].as_slice();
+    if is_refused != is_before || !is_refused && out.len() != length.saturating_add(1) {
+        return Err("half a body".into());
+    }
+    Ok(is_refused)
+}
+
+/// How many allocations are refused in turn where the reply of an answer is written.
+fn writings_refused<A: Allocator + Copy>(
+    alloc: A,
     request: &Request<A>,
-    reply: &Reply<A>,
-    out: &mut Vec<u8, B>,
-) -> Result<bool, Fail>
-    requires asked { IsSoundRequest request.now }
-    requires sound { IsSoundReply reply.now }
-    requires answers { IsAnswerTo request.now reply.now }
-{
-    if encode_reply(request, reply, out).is_ok() {
-        return Ok(false);
+    octets: &[u8],
+) -> Result<u64, Fail> {
+    let reply = decode_reply(alloc, request, &Answer::Complex(octets))?.ok_or("no reply")?;
+    for n in 1..20u64 {
+        if !is_writing_refused_at(alloc, request, &reply, octets.len(), n)? {
+            return Ok(n - 1);
+        }
     }
-    if out.as_slice() != [7].as_slice() {
-        return Err("the buffer has changed".into());
-    }
-    Ok(true)
+    Err("some allocation is always refused".into())
 }
 
 #[test]
 fn writing_with_each_allocation_refused_in_turn(rt: HostRuntime) -> Result<(), Fail> {
     let (service, body, ack, _) = ANSWERS[3];
     let octets = hex(rt.alloc(), ack)?;
-    if octets.len() >= 0x8000_0000 {
-        return Err("too long".into());
-    }
-    for n in 1..20u64 {
-        let request = asked(rt.alloc(), service, body)?;
-        let memory = Refusing::new(rt.alloc());
-        let mut out = Vec::new(&memory);
-        out.push(7u8)?;
-        memory.refuse_only(n);
-        match decode_reply(rt.alloc(), &request, &Answer::Complex(octets.as_slice()))? {
-            Some(reply) => {
-                let is_refused = is_writing_refused(&request, &reply, &mut out)?;
-                assert_eq!(rt; is_refused, !memory.is_waiting());
-            }
-            None => return Err("no reply".into()),
-        }
-        if memory.is_waiting() {
-            assert_eq!(rt; out.len(), octets.len() + 1);
-            assert!(rt; n > 1);
-            return Ok(());
-        }
-    }
-    Err("some allocation is always refused".into())
+    let request = asked(rt.alloc(), service, body)?;
+    assert!(rt; writings_refused(rt.alloc(), &request, octets.as_slice())? > 0);
+    Ok(())
 }

@@ -1,13 +1,12 @@
 //! Rows of service bodies, and the requests that they spell or the reason of their Reject (15, 18.9).
 
-ghost use Rattle.primitives.specs.Sound.{IsSoundRequest};
-
-use super::hex;
+use super::{asked, hex};
 use crate::*;
 use objects::Request;
 use refusing::Refusing;
-use std::alloc::Allocator;
-use std::test::Fail;
+use std::alloc::{AllocGlobal, Allocator};
+use std::process::Abort;
+use std::test::*;
 
 /// The request that the octets spell, as its `Debug` prints it, or the number of the Reject.
 fn shown<A: Allocator + Copy>(alloc: A, service: u8, octets: &[u8]) -> Result<String<A>, Fail> {
@@ -61,14 +60,33 @@ const REQUESTS: [(u8, &str, &str); 8] = [
     ),
 ];
 
+/// Each body spells the request of its row.
+fn assert_requests(rt: &(impl Abort + AllocGlobal), rows: &[(u8, &str, &str)]) -> Result<(), Fail> {
+    for (service, body, request) in rows {
+        let octets = hex(rt.alloc(), body)?;
+        let found = shown(rt.alloc(), *service, octets.as_slice())?;
+        assert_eq!(rt; found.as_str(), *request);
+    }
+    Ok(())
+}
+
 #[test]
 fn requests_of_worked_datagrams(rt: HostRuntime) -> Result<(), Fail> {
-    for (service, body, request) in REQUESTS.iter() {
-        let octets = hex(rt.alloc(), body)?;
-        assert_eq!(rt;
-            shown(rt.alloc(), *service, octets.as_slice())?.as_str(),
-            *request
-        );
+    assert_requests(&rt, &REQUESTS)
+}
+
+/// Each body of a service, which is this front and the end of its row, gets the Reject of its row.
+fn assert_faults(
+    rt: &(impl Abort + AllocGlobal),
+    service: u8,
+    front: &str,
+    rows: &[(&str, &str)],
+) -> Result<(), Fail> {
+    for (end, reason) in rows {
+        let mut octets = hex(rt.alloc(), front)?;
+        octets.extend_from_slice(hex(rt.alloc(), end)?.as_slice())?;
+        let found = shown(rt.alloc(), service, octets.as_slice())?;
+        assert_eq!(rt; found.as_str(), *reason);
     }
     Ok(())
 }
@@ -101,11 +119,7 @@ const BAD_READS: [(&str, &str); 22] = [
 
 #[test]
 fn faults_of_read_property(rt: HostRuntime) -> Result<(), Fail> {
-    for (body, reason) in BAD_READS.iter() {
-        let octets = hex(rt.alloc(), body)?;
-        assert_eq!(rt; shown(rt.alloc(), 12, octets.as_slice())?.as_str(), *reason);
-    }
-    Ok(())
+    assert_faults(&rt, 12, "", &BAD_READS)
 }
 
 /// What follows the object and the property in bodies of WriteProperty, and the number of the Reject.
@@ -138,12 +152,7 @@ const BAD_WRITES: [(&str, &str); 24] = [
 
 #[test]
 fn faults_of_write_property(rt: HostRuntime) -> Result<(), Fail> {
-    for (end, reason) in BAD_WRITES.iter() {
-        let mut octets = hex(rt.alloc(), "0C 01 40 00 01 19 55")?;
-        octets.extend_from_slice(hex(rt.alloc(), end)?.as_slice())?;
-        assert_eq!(rt; shown(rt.alloc(), 15, octets.as_slice())?.as_str(), *reason);
-    }
-    Ok(())
+    assert_faults(&rt, 15, "0C 01 40 00 01 19 55", &BAD_WRITES)
 }
 
 /// Bodies of ReadPropertyMultiple, and the number of their Reject.
@@ -170,11 +179,7 @@ const BAD_READ_MANIES: [(&str, &str); 18] = [
 
 #[test]
 fn faults_of_read_property_multiple(rt: HostRuntime) -> Result<(), Fail> {
-    for (body, reason) in BAD_READ_MANIES.iter() {
-        let octets = hex(rt.alloc(), body)?;
-        assert_eq!(rt; shown(rt.alloc(), 14, octets.as_slice())?.as_str(), *reason);
-    }
-    Ok(())
+    assert_faults(&rt, 14, "", &BAD_READ_MANIES)
 }
 
 /// Bodies of WritePropertyMultiple, and the number of their Reject.
@@ -206,11 +211,7 @@ const BAD_WRITE_MANIES: [(&str, &str); 23] = [
 
 #[test]
 fn faults_of_write_property_multiple(rt: HostRuntime) -> Result<(), Fail> {
-    for (body, reason) in BAD_WRITE_MANIES.iter() {
-        let octets = hex(rt.alloc(), body)?;
-        assert_eq!(rt; shown(rt.alloc(), 16, octets.as_slice())?.as_str(), *reason);
-    }
-    Ok(())
+    assert_faults(&rt, 16, "", &BAD_WRITE_MANIES)
 }
 
 #[test]
@@ -252,20 +253,31 @@ fn is_refused_at<A: Allocator + Copy>(
     Ok(is_refused)
 }
 
-#[test]
-fn reading_with_each_allocation_refused_in_turn(rt: HostRuntime) -> Result<(), Fail> {
-    for (service, body, _) in REQUESTS.iter() {
-        let octets = hex(rt.alloc(), body)?;
-        let mut refused = 0u64;
-        for n in 1..20u64 {
-            if is_refused_at(rt.alloc(), n, *service, octets.as_slice())? {
-                refused = n;
-            }
+/// The last of the allocations that are refused in turn, or 0 where there is none.
+fn last_refused<A: Allocator + Copy>(alloc: A, service: u8, octets: &[u8]) -> Result<u64, Fail> {
+    let mut refused = 0u64;
+    for n in 1..20u64 {
+        if is_refused_at(alloc, n, service, octets)? {
+            refused = n;
         }
-        assert_eq!(rt; refused == 0, *service == 12);
-        assert!(rt; refused < 19);
+    }
+    Ok(refused)
+}
+
+/// Each request with a list is refused memory, and ReadProperty takes none.
+fn assert_refused(rt: &(impl Abort + AllocGlobal), rows: &[(u8, &str, &str)]) -> Result<(), Fail> {
+    for (service, body, _) in rows {
+        let octets = hex(rt.alloc(), body)?;
+        let last = last_refused(rt.alloc(), *service, octets.as_slice())?;
+        assert_eq!(rt; last == 0, *service == 12);
+        assert!(rt; last < 19);
     }
     Ok(())
+}
+
+#[test]
+fn reading_with_each_allocation_refused_in_turn(rt: HostRuntime) -> Result<(), Fail> {
+    assert_refused(&rt, &REQUESTS)
 }
 
 /// What is written of the request that is read.
@@ -290,14 +302,22 @@ fn written_again<A: Allocator + Copy>(
     Ok(out)
 }
 
-#[test]
-fn requests_are_written_as_they_were_read(rt: HostRuntime) -> Result<(), Fail> {
-    for (service, body, _) in REQUESTS.iter() {
+/// Each body is written as it was read.
+fn assert_written_again(
+    rt: &(impl Abort + AllocGlobal),
+    rows: &[(u8, &str, &str)],
+) -> Result<(), Fail> {
+    for (service, body, _) in rows {
         let octets = hex(rt.alloc(), body)?;
         let again = written_again(rt.alloc(), *service, octets.as_slice())?;
         assert_eq!(rt; again.as_slice(), octets.as_slice());
     }
     Ok(())
+}
+
+#[test]
+fn requests_are_written_as_they_were_read(rt: HostRuntime) -> Result<(), Fail> {
+    assert_written_again(&rt, &REQUESTS)
 }
 
 /// Bodies in longer forms than need be, and what is written of their requests.
@@ -319,52 +339,54 @@ const LONGER: [(u8, &str, &str); 3] = [
     ),
 ];
 
-#[test]
-fn requests_are_written_in_their_shortest_form(rt: HostRuntime) -> Result<(), Fail> {
-    for (service, body, shortest) in LONGER.iter() {
+/// Each body is written as its row says.
+fn assert_written(rt: &(impl Abort + AllocGlobal), rows: &[(u8, &str, &str)]) -> Result<(), Fail> {
+    for (service, body, shortest) in rows {
         let octets = hex(rt.alloc(), body)?;
         let again = written_again(rt.alloc(), *service, octets.as_slice())?;
-        assert_eq!(rt; again.as_slice(), hex(rt.alloc(), shortest)?.as_slice());
+        let shortest = hex(rt.alloc(), shortest)?;
+        assert_eq!(rt; again.as_slice(), shortest.as_slice());
     }
     Ok(())
 }
 
-/// Whether writing was refused memory. The buffer is then as before.
-fn is_writing_refused<A: Allocator, B: Allocator>(
-    request: &Request<A>,
-    out: &mut Vec<u8, B>,
-) -> Result<bool, Fail>
-    requires { IsSoundRequest request.now }
-{
-    if encode_request(request, out).is_ok() {
-        return Ok(false);
+#[test]
+fn requests_are_written_in_their_shortest_form(rt: HostRuntime) -> Result<(), Fail> {
+    assert_written(&rt, &LONGER)
+}
+
+/// Whether writing is refused its `n`th allocation. The buffer is then as before, and else `length`
+/// octets longer.
+fn is_writing_refused_at<A: Allocator, B: Allocator>(
+    alloc: A,
+    request: &Request<B>,
+    length: usize,
+    n: u64,
+) -> Result<bool, Fail> {
+    if !request.is_sound() {
+        return Err("no sound request".into());
     }
-    if out.as_slice() != [7].as_slice() {
-        return Err("the buffer has changed".into());
+    let memory = Refusing::new(alloc);
+    let mut out = Vec::new(&memory);
+    out.push(7u8)?;
+    memory.refuse_only(n);
+    let is_refused = encode_request(request, &mut out).is_err();
+    if is_refused == memory.is_waiting() {
+        return Err("another cause".into());
     }
-    Ok(true)
+    let is_before = out.as_slice() == [7].as_slice();
+    if is_refused != is_before || !is_refused && out.len() != length.saturating_add(1) {
+        return Err("half a body".into());
+    }
+    Ok(is_refused)
 }
 
 #[test]
 fn writing_with_each_allocation_refused_in_turn(rt: HostRuntime) -> Result<(), Fail> {
-    let octets = hex(rt.alloc(), "0C 01 40 00 01 1E 09 55 2E 91 00 2F 39 08 1F")?;
-    if octets.len() >= 0x8000_0000 {
-        return Err("too long".into());
-    }
+    let body = "0C 01 40 00 01 1E 09 55 2E 91 00 2F 39 08 1F";
+    let request = asked(rt.alloc(), 16, body)?;
     for n in 1..20u64 {
-        let memory = Refusing::new(rt.alloc());
-        let mut out = Vec::new(&memory);
-        out.push(7u8)?;
-        memory.refuse_only(n);
-        match decode_request(rt.alloc(), 16, octets.as_slice())? {
-            Ok(request) => {
-                let is_refused = is_writing_refused(&request, &mut out)?;
-                assert_eq!(rt; is_refused, !memory.is_waiting());
-            }
-            Err(_) => return Err("no request".into()),
-        }
-        if memory.is_waiting() {
-            assert_eq!(rt; out.len(), octets.len() + 1);
+        if !is_writing_refused_at(rt.alloc(), &request, 15, n)? {
             assert!(rt; n > 1);
             return Ok(());
         }
