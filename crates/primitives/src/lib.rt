@@ -3,7 +3,8 @@
 //!
 //! To the layers above it promises: classes, codes, object types and properties have the
 //! standard's numbers, each in one place; whether a request or a reply has a spelling, and whether
-//! the one answers the other, is told exactly; a copy is equal to what was copied. Nothing here knows of octets or of the objects of a device.
+//! a reply answers a request, is told exactly; a copy is equal to what was copied. Nothing here
+//! knows of octets or of the objects of a device.
 //!
 //! - `plain_data`: requests, replies and what they are made of.
 //! - `soundness`: whether a request or a reply has a spelling.

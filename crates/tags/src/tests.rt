@@ -453,3 +453,18 @@ fn copying_with_its_allocation_refused(rt: HostRuntime) -> Result<(), Fail> {
     assert_eq!(rt; value.copy(&memory)?, value);
     Ok(())
 }
+
+/// Whether a value that lies in one memory, which is then refused, is copied to another.
+fn is_copied<'a, A: Allocator>(from: &'a Refusing<A>, to: &'a Refusing<A>) -> Result<bool, Fail> {
+    let value = Value::Built(Items::from_slice(from, &[0x09, 0x05])?);
+    from.refuse_all();
+    Ok(value.copy(to).is_ok())
+}
+
+#[test]
+fn a_copy_lies_in_the_memory_that_it_is_given(rt: HostRuntime) -> Result<(), Fail> {
+    let from = Refusing::new(rt.alloc());
+    let to = Refusing::new(rt.alloc());
+    assert!(rt; is_copied(&from, &to)?);
+    Ok(())
+}

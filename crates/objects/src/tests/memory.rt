@@ -188,6 +188,26 @@ fn a_write_is_done_or_nothing_changes(rt: HostRuntime) -> Result<(), Fail> {
     Ok(())
 }
 
+/// Whether a text is written where the memory that the request lies in is refused: the table keeps
+/// it in memory of its own.
+fn is_kept<'a, B: Allocator>(
+    memory: &'a Refusing<B>,
+    asked: &'a Refusing<B>,
+) -> Result<bool, Fail> {
+    let mut table = Table::new(memory, site(memory)?)?;
+    let request = write(asked, LABEL, 85, text(asked, "off")?, Some(8))?;
+    asked.refuse_all();
+    Ok(table.apply(&request)? == Reply::Done && is_off(memory, &table)?)
+}
+
+#[test]
+fn a_written_text_lies_in_memory_of_the_table(rt: HostRuntime) -> Result<(), Fail> {
+    let memory = Refusing::new(rt.alloc());
+    let asked = Refusing::new(rt.alloc());
+    assert!(rt; is_kept(&memory, &asked)?);
+    Ok(())
+}
+
 #[test]
 fn several_writes_are_done_or_nothing_changes(rt: HostRuntime) -> Result<(), Fail> {
     let memory = Refusing::new(rt.alloc());
