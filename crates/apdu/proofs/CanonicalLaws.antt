@@ -7,7 +7,7 @@ use Rattle.tags.specs.declared.object_id.ObjectId.{ObjectId}
 use Rattle.tags.specs.declared.tag.Class.{Class}
 use Rattle.tags.specs.declared.tag.Class.TheVariants.{Application, Context}
 use Rattle.tags.specs.Canonical.{tagged, canonical_tag}
-use Rattle.tags.specs.Number.{unsigned_octets, object_octets, SpellsUnsigned, IsSoundObject}
+use Rattle.tags.specs.Number.{bit, unsigned_octets, object_octets, SpellsUnsigned, IsSoundObject}
 use Rattle.tags.specs.Tag.{HasContents, TakesTag, contents, opening, closing}
 use Rattle.apdu.specs.ParameterWriting.{option_field}
 use Rattle.apdu.specs.Parameter.{opening_tag, closing_tag, IsObject, Takes}
@@ -15,7 +15,7 @@ use Rattle.apdu.specs.ServiceError.{TakesClassAndCode, EndsReference, TakesRefer
 use Rattle.apdu.specs.Sizes.{segments_code}
 use Rattle.apdu.specs.PduType.{type_number}
 use Rattle.apdu.specs.Apdu.{PlainApdu, confirmed, unconfirmed, simple_ack, complex_ack, segment_ack, error_pdu, reject_pdu, abort_pdu, type_of, HasFlags, SpellsFields}
-use Rattle.apdu.specs.ApduWriting.{bit, flag_bits, class_and_code_octets, reference_octets, error_octets, field_octets, NamesWriteOf, CanBeNamed, CanBeWritten, FitsReference, HasNumbers}
+use Rattle.apdu.specs.ApduWriting.{flag_bits, class_and_code_octets, reference_octets, error_octets, field_octets, NamesWriteOf, CanBeNamed, CanBeWritten, FitsReference, HasNumbers}
 use Rattle.apdu.specs.ApduLaws.{CanonicalSpells}
 use Rattle.apdu.specs.declared.service_error.ObjectPropertyReference.{ObjectPropertyReference}
 use Rattle.apdu.specs.declared.sizes.MaxSegments.{MaxSegments}

@@ -26,18 +26,21 @@ pub data PlainApdu : Type 0 where
 
 -- what the code's APDU says
 abbrev pub apdu_of : Apdu → PlainApdu
-apdu_of (variant.ConfirmedRequest segment accepted max_segments max_apdu invoke service octets) = confirmed segment accepted max_segments (apdu_code max_apdu) invoke service octets.now
+apdu_of (variant.ConfirmedRequest segment accepted max_segments max_apdu invoke service octets) =
+    confirmed segment accepted max_segments (apdu_code max_apdu) invoke service octets.now
 apdu_of (variant.UnconfirmedRequest service octets) = unconfirmed service octets.now
 apdu_of (variant.SimpleAck invoke service) = simple_ack invoke service
 apdu_of (variant.ComplexAck segment invoke service octets) = complex_ack segment invoke service octets.now
 apdu_of (variant.SegmentAck negative server invoke sequence window) = segment_ack negative server invoke sequence window
-apdu_of (variant.Error invoke service e) = error_pdu invoke service (class_number e.class) (code_number e.code) e.first_failed
+apdu_of (variant.Error invoke service e) = error_pdu invoke service (class_number e.class)
+    (code_number e.code) e.first_failed
 apdu_of (variant.Reject invoke reason) = reject_pdu invoke (reject_number reason)
 apdu_of (variant.Abort server invoke reason) = abort_pdu server invoke (abort_number reason)
 
 -- its numbers go by their names where they have one (18, 20.1.2.5)
 abbrev pub HasNamedNumbers : Apdu → Type 0
-HasNamedNumbers (variant.ConfirmedRequest segment accepted max_segments max_apdu invoke service octets) = IsNamedSize max_apdu
+HasNamedNumbers (variant.ConfirmedRequest segment accepted max_segments max_apdu invoke service octets) =
+    IsNamedSize max_apdu
 HasNamedNumbers (variant.Error invoke service e) = HasNames e
 HasNamedNumbers (variant.Reject invoke reason) = IsNamedReject reason
 HasNamedNumbers (variant.Abort server invoke reason) = IsNamedAbort reason
@@ -59,11 +62,14 @@ pub record IsSegmented (first : ℕ) (segment : Option Segment) : Type 0 where
   pub is : (first / 8 % 2 == 1) ≡ is_some segment
   pub more : IfSome segment (λ s. s.more_follows ≡ (first / 4 % 2 == 1))
 
--- the other flags are SA in bit 1 (20.1.2.3), NAK in bit 1 (20.1.6.1) and SRV in bit 0 (20.1.6.2, 20.1.9.1); no other bit is looked at
+-- the other flags are SA in bit 1 (20.1.2.3), NAK in bit 1 (20.1.6.1) and SRV in bit 0 (20.1.6.2, 20.1.9.1); no other
+-- bit is looked at
 abbrev pub HasFlags : ℕ → PlainApdu → Type 0
-HasFlags first (confirmed segment accepted max_segments max_apdu invoke service octets) = IsSegmented first segment × (accepted ≡ (first / 2 % 2 == 1))
+HasFlags first (confirmed segment accepted max_segments max_apdu invoke service octets) = IsSegmented first segment ×
+    (accepted ≡ (first / 2 % 2 == 1))
 HasFlags first (complex_ack segment invoke service octets) = IsSegmented first segment
-HasFlags first (segment_ack negative server invoke sequence window) = (negative ≡ (first / 2 % 2 == 1)) × (server ≡ (first % 2 == 1))
+HasFlags first (segment_ack negative server invoke sequence window) = (negative ≡ (first / 2 % 2 == 1)) ×
+    (server ≡ (first % 2 == 1))
 HasFlags first (abort_pdu server invoke reason) = server ≡ (first % 2 == 1)
 HasFlags first a = Unit {0}
 
@@ -72,29 +78,42 @@ abbrev pub segment_octets : Option Segment → List ℕ
 segment_octets None = []
 segment_octets (Some s) = s.sequence_number ∷ (s.window ∷ [])
 
--- sizes, invoke ID, segment and service stand before the data; bit 7 of the sizes is not looked at (20.1.2)
-pub record SpellsConfirmedRequest (octets : List ℕ) (segment : Option Segment) (max_segments : MaxSegments) (max_apdu invoke service : ℕ) (data_octets : List ℕ) : Type 0 where
+-- what stands behind the first octet, these being the sizes of a request and the contents of an Error (20.1.2 to
+-- 20.1.9)
+abbrev pub octets_behind : ℕ → List ℕ → PlainApdu → List ℕ
+octets_behind sizes contents (confirmed segment accepted max_segments max_apdu invoke service data_octets) =
+    sizes ∷ (invoke ∷ (segment_octets segment ++ (service ∷ data_octets)))
+octets_behind sizes contents (unconfirmed service data_octets) = service ∷ data_octets
+octets_behind sizes contents (simple_ack invoke service) = invoke ∷ (service ∷ [])
+octets_behind sizes contents (complex_ack segment invoke service data_octets) =
+    invoke ∷ (segment_octets segment ++ (service ∷ data_octets))
+octets_behind sizes contents (segment_ack negative server invoke sequence window) = invoke ∷ (sequence ∷ (window ∷ []))
+octets_behind sizes contents (error_pdu invoke service class code first_failed) = invoke ∷ (service ∷ contents)
+octets_behind sizes contents (reject_pdu invoke reason) = invoke ∷ (reason ∷ [])
+octets_behind sizes contents (abort_pdu server invoke reason) = invoke ∷ (reason ∷ [])
+
+-- a request's sizes say how many segments and octets are taken; bit 7 is not looked at (20.1.2.4, 20.1.2.5)
+pub record SpellsRequest (octets : List ℕ) (max_segments : MaxSegments) (max_apdu : ℕ) (a : PlainApdu) : Type 0 where
   pub sizes : ℕ
   pub segments : segments_code max_segments ≡ sizes / 16 % 8
   pub apdu : max_apdu ≡ sizes % 16
-  pub parts : octets ≡ sizes ∷ (invoke ∷ (segment_octets segment ++ (service ∷ data_octets)))
+  pub parts : octets ≡ octets_behind sizes [] a
 
--- invoke ID and service stand before the error (20.1.7)
-pub record SpellsErrorPdu (octets : List ℕ) (invoke service class code : ℕ) (first_failed : Option ObjectPropertyReference) : Type 0 where
+-- an Error's contents are those of its service (20.1.7)
+pub record SpellsErrorPdu (octets : List ℕ) (service class code : ℕ) (first_failed : Option ObjectPropertyReference)
+    (a : PlainApdu) : Type 0 where
   pub contents : List ℕ
-  pub parts : octets ≡ invoke ∷ (service ∷ contents)
+  pub parts : octets ≡ octets_behind 0 contents a
   pub spelled : SpellsError service contents class code first_failed
 
--- what stands behind the first octet (20.1.2 to 20.1.9)
+-- the octets stand behind the first octet (20.1.2 to 20.1.9)
 abbrev pub SpellsFields : List ℕ → PlainApdu → Type 0
-SpellsFields octets (confirmed segment accepted max_segments max_apdu invoke service data_octets) = SpellsConfirmedRequest octets segment max_segments max_apdu invoke service data_octets
-SpellsFields octets (unconfirmed service data_octets) = octets ≡ service ∷ data_octets
-SpellsFields octets (simple_ack invoke service) = octets ≡ invoke ∷ (service ∷ [])
-SpellsFields octets (complex_ack segment invoke service data_octets) = octets ≡ invoke ∷ (segment_octets segment ++ (service ∷ data_octets))
-SpellsFields octets (segment_ack negative server invoke sequence window) = octets ≡ invoke ∷ (sequence ∷ (window ∷ []))
-SpellsFields octets (error_pdu invoke service class code first_failed) = SpellsErrorPdu octets invoke service class code first_failed
-SpellsFields octets (reject_pdu invoke reason) = octets ≡ invoke ∷ (reason ∷ [])
-SpellsFields octets (abort_pdu server invoke reason) = octets ≡ invoke ∷ (reason ∷ [])
+SpellsFields octets (confirmed segment accepted max_segments max_apdu invoke service data_octets) =
+    SpellsRequest octets max_segments max_apdu
+    (confirmed segment accepted max_segments max_apdu invoke service data_octets)
+SpellsFields octets (error_pdu invoke service class code first_failed) =
+    SpellsErrorPdu octets service class code first_failed (error_pdu invoke service class code first_failed)
+SpellsFields octets a = octets ≡ octets_behind 0 [] a
 
 -- the same for an APDU of this type, whose first octet is known
 pub record SpellsBehind (k : PduType) (first : ℕ) (rest : List ℕ) (a : PlainApdu) : Type 0 where

@@ -21,7 +21,8 @@ CanonicalSpells = (a : PlainApdu) → CanBeWritten a → HasNumbers a → Spells
 
 -- no octets that spell an APDU are fewer than those that are written
 abbrev pub CanonicalIsShortest : Type 0
-CanonicalIsShortest = (octets : List ℕ) (a : PlainApdu) → AreOctets octets → Spells octets a → length (canonical a) ≤ length octets
+CanonicalIsShortest = (octets : List ℕ) (a : PlainApdu) → AreOctets octets → Spells octets a →
+    length (canonical a) ≤ length octets
 
 -- octets are refused for one cause, and spell no APDU
 abbrev pub RefusedOnce : Type 0
@@ -47,7 +48,8 @@ IAmSpellOne = (octets : List ℕ) (i j : IAm) → SpellsIAm octets i → SpellsI
 
 -- the octets that are written of a Who-Is spell it
 abbrev pub WhoIsSpells : Type 0
-WhoIsSpells = (o : Option Limits) → IfSome o (λ l. (l.low < 2 ^ 32) × (l.high < 2 ^ 32)) → SpellsWhoIs (limits_octets o) o
+WhoIsSpells = (o : Option Limits) → IfSome o (λ l. (l.low < 2 ^ 32) × (l.high < 2 ^ 32)) →
+    SpellsWhoIs (limits_octets o) o
 
 -- the octets that are written of an I-Am spell it
 abbrev pub IAmSpells : Type 0
@@ -55,21 +57,29 @@ IAmSpells = (i : IAm) → i.instance < 2 ^ 22 → i.max_apdu < 2 ^ 32 → i.vend
 
 -- no octets that spell a Who-Is are fewer than those that are written
 abbrev pub WhoIsIsShortest : Type 0
-WhoIsIsShortest = (octets : List ℕ) (o : Option Limits) → AreOctets octets → SpellsWhoIs octets o → length (limits_octets o) ≤ length octets
+WhoIsIsShortest = (octets : List ℕ) (o : Option Limits) → AreOctets octets → SpellsWhoIs octets o →
+    length (limits_octets o) ≤ length octets
 
 -- no octets that spell an I-Am are fewer than those that are written
 abbrev pub IAmIsShortest : Type 0
-IAmIsShortest = (octets : List ℕ) (i : IAm) → AreOctets octets → SpellsIAm octets i → length (i_am_octets i) ≤ length octets
+IAmIsShortest = (octets : List ℕ) (i : IAm) → AreOctets octets → SpellsIAm octets i →
+    length (i_am_octets i) ≤ length octets
 
--- rows that a slip in a definition would break: a request, a segment of one and of an answer, a SimpleACK, a NAK, an Abort
+-- rows that a slip in a definition would break: a request, a segment of one and of an answer, a SimpleACK, a NAK, an
+-- Abort
 
 row_request : canonical (confirmed None true SixtyFour 5 1 12 (0x0C ∷ [])) ≡ 0x02 ∷ 0x65 ∷ 0x01 ∷ 0x0C ∷ 0x0C ∷ []
 row_request = refl
 
-row_segment : canonical (confirmed (Some (record { more_follows = true; sequence_number = 0; window = 4 })) true SixtyFour 5 0 14 []) ≡ 0x0E ∷ 0x65 ∷ 0x00 ∷ 0x00 ∷ 0x04 ∷ 0x0E ∷ []
+row_segment : canonical (confirmed (Some (record {
+  more_follows = true;
+  sequence_number = 0;
+  window = 4;
+})) true SixtyFour 5 0 14 []) ≡ 0x0E ∷ 0x65 ∷ 0x00 ∷ 0x00 ∷ 0x04 ∷ 0x0E ∷ []
 row_segment = refl
 
-row_answer : canonical (complex_ack (Some (record { more_follows = false; sequence_number = 4; window = 4 })) 0 14 []) ≡ 0x38 ∷ 0x00 ∷ 0x04 ∷ 0x04 ∷ 0x0E ∷ []
+row_answer : canonical (complex_ack (Some (record { more_follows = false; sequence_number = 4; window = 4 })) 0 14 []) ≡
+    0x38 ∷ 0x00 ∷ 0x04 ∷ 0x04 ∷ 0x0E ∷ []
 row_answer = refl
 
 row_simple_ack : canonical (simple_ack 2 15) ≡ 0x20 ∷ 0x02 ∷ 0x0F ∷ []

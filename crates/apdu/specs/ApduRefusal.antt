@@ -16,7 +16,8 @@ pub record HasNoError (k : PduType) (rest : List ℕ) : Type 0 where
   pub parts : rest ≡ invoke ∷ (service ∷ contents)
   pub none : NoError service contents
 
--- what each refusal stands for, behind the first octet: a header that is cut, an Error without its error, octets left over
+-- what each refusal stands for, behind the first octet: a header that is cut, an Error without its error, octets left
+-- over
 abbrev pub RefusesBehind : Fault → PduType → ℕ → List ℕ → Type 0
 RefusesBehind Short k first rest = 1 + length rest < header_length k first
 RefusesBehind BadTag k first rest = HasNoError k rest

@@ -1,19 +1,16 @@
 -- The shortest octets of an APDU, all bits that are not looked at being 0 (20.1).
-use Rattle.std.specs.Prelude.{◌≡◌, ◌≢◌, ℕ, ◌+◌, ◌*◌, ◌<◌, ◌^◌, Bool, true, false, List, [], ◌∷◌, ◌++◌, Option, Some, None, IfSome}
+use Rattle.std.specs.Prelude.{◌≡◌, ◌≢◌, ℕ, ◌+◌, ◌*◌, ◌<◌, ◌^◌, List, [], ◌∷◌, ◌++◌, Option, Some, None, IfSome}
 use Rattle.tags.specs.declared.tag.Class.TheVariants.{Application}
 use Rattle.tags.specs.Canonical.{tagged}
-use Rattle.tags.specs.Number.{unsigned_octets, IsSoundObject}
-use Rattle.apdu.specs.Apdu.{PlainApdu, confirmed, unconfirmed, simple_ack, complex_ack, segment_ack, error_pdu, reject_pdu, abort_pdu, type_of, segment_octets}
+use Rattle.tags.specs.Number.{bit, unsigned_octets, IsSoundObject}
+use Rattle.apdu.specs.Numbers.{service_number}
+use Rattle.apdu.specs.declared.numbers.ConfirmedService.TheVariants.{WritePropertyMultiple}
+use Rattle.apdu.specs.Apdu.{PlainApdu, confirmed, complex_ack, segment_ack, error_pdu, abort_pdu, type_of, octets_behind}
 use Rattle.apdu.specs.ParameterWriting.{object_field, number_field, option_field, opening_octets, closing_octets}
 use Rattle.apdu.specs.PduType.{type_number}
 use Rattle.apdu.specs.Sizes.{segments_code}
 use Rattle.apdu.specs.declared.apdu.Segment.{Segment}
 use Rattle.apdu.specs.declared.service_error.ObjectPropertyReference.{ObjectPropertyReference}
-
--- the bit of a flag: 1 where it is set, else 0 (20.1.2 to 20.1.9)
-abbrev pub bit : Bool → ℕ
-bit false = 0
-bit true = 1
 
 -- SEG in bit 3 and MOR in bit 2 (20.1.2.1, 20.1.2.2)
 abbrev pub segment_bits : Option Segment → ℕ
@@ -22,7 +19,8 @@ segment_bits (Some s) = 8 + 4 * bit s.more_follows
 
 -- the low four bits of the first octet (20.1.2 to 20.1.9)
 abbrev pub flag_bits : PlainApdu → ℕ
-flag_bits (confirmed segment accepted max_segments max_apdu invoke service octets) = segment_bits segment + 2 * bit accepted
+flag_bits (confirmed segment accepted max_segments max_apdu invoke service octets) = segment_bits segment +
+    2 * bit accepted
 flag_bits (complex_ack segment invoke service octets) = segment_bits segment
 flag_bits (segment_ack negative server invoke sequence window) = 2 * bit negative + bit server
 flag_bits (abort_pdu server invoke reason) = bit server
@@ -30,27 +28,29 @@ flag_bits a = 0
 
 -- class and code (21, Error)
 abbrev pub class_and_code_octets : ℕ → ℕ → List ℕ
-class_and_code_octets class code = tagged Application 9 (unsigned_octets class) ++ tagged Application 9 (unsigned_octets code)
+class_and_code_octets class code = tagged Application 9 (unsigned_octets class) ++
+    tagged Application 9 (unsigned_octets code)
 
 -- object [0], property [1] and index [2] (21, BACnetObjectPropertyReference)
 abbrev pub reference_octets : ObjectPropertyReference → List ℕ
 reference_octets r = object_field 0 r.object ++ (number_field 1 r.property ++ option_field 2 r.index)
 
--- an Error's contents, for WritePropertyMultiple with the first write that failed (20.1.7, 21, WritePropertyMultiple-Error)
+-- an Error's contents, for WritePropertyMultiple with the first write that failed (20.1.7, 21,
+-- WritePropertyMultiple-Error)
 abbrev pub error_octets : ℕ → ℕ → Option ObjectPropertyReference → List ℕ
 error_octets class code None = class_and_code_octets class code
-error_octets class code (Some r) = opening_octets 0 ++ (class_and_code_octets class code ++ (closing_octets 0 ++ (opening_octets 1 ++ (reference_octets r ++ closing_octets 1))))
+error_octets class code (Some r) = opening_octets 0 ++
+    (class_and_code_octets class code ++ (closing_octets 0 ++
+    (opening_octets 1 ++ (reference_octets r ++ closing_octets 1))))
 
--- what stands behind the first octet (20.1.2 to 20.1.9)
+-- what is written behind the first octet (20.1.2 to 20.1.9)
 abbrev pub field_octets : PlainApdu → List ℕ
-field_octets (confirmed segment accepted max_segments max_apdu invoke service octets) = (16 * segments_code max_segments + max_apdu) ∷ (invoke ∷ (segment_octets segment ++ (service ∷ octets)))
-field_octets (unconfirmed service octets) = service ∷ octets
-field_octets (simple_ack invoke service) = invoke ∷ (service ∷ [])
-field_octets (complex_ack segment invoke service octets) = invoke ∷ (segment_octets segment ++ (service ∷ octets))
-field_octets (segment_ack negative server invoke sequence window) = invoke ∷ (sequence ∷ (window ∷ []))
-field_octets (error_pdu invoke service class code first_failed) = invoke ∷ (service ∷ error_octets class code first_failed)
-field_octets (reject_pdu invoke reason) = invoke ∷ (reason ∷ [])
-field_octets (abort_pdu server invoke reason) = invoke ∷ (reason ∷ [])
+field_octets (confirmed segment accepted max_segments max_apdu invoke service octets) =
+    octets_behind (16 * segments_code max_segments + max_apdu) []
+    (confirmed segment accepted max_segments max_apdu invoke service octets)
+field_octets (error_pdu invoke service class code first_failed) =
+    octets_behind 0 (error_octets class code first_failed) (error_pdu invoke service class code first_failed)
+field_octets a = octets_behind 0 [] a
 
 -- the shortest octets, with all bits 0 that are not looked at
 abbrev pub canonical : PlainApdu → List ℕ
@@ -61,15 +61,16 @@ abbrev pub CanBeNamed : Option ObjectPropertyReference → Type 0
 CanBeNamed None = Unit {0}
 CanBeNamed (Some r) = IsSoundObject r.object.object_type r.object.instance
 
--- WritePropertyMultiple (16) alone names the write that failed (15.10.1.3)
+-- WritePropertyMultiple alone names the write that failed (15.10.1.3)
 abbrev pub NamesWriteOf : ℕ → Option ObjectPropertyReference → Type 0
-NamesWriteOf service None = service ≢ 16
-NamesWriteOf service (Some r) = service ≡ 16
+NamesWriteOf service None = service ≢ service_number WritePropertyMultiple
+NamesWriteOf service (Some r) = service ≡ service_number WritePropertyMultiple
 
 -- what an APDU's types leave open: the size code has four bits, and an Error the form of its service
 abbrev pub CanBeWritten : PlainApdu → Type 0
 CanBeWritten (confirmed segment accepted max_segments max_apdu invoke service octets) = max_apdu < 16
-CanBeWritten (error_pdu invoke service class code first_failed) = NamesWriteOf service first_failed × CanBeNamed first_failed
+CanBeWritten (error_pdu invoke service class code first_failed) = NamesWriteOf service first_failed ×
+    CanBeNamed first_failed
 CanBeWritten a = Unit {0}
 
 -- a property and an index of 32 bits

@@ -23,13 +23,15 @@ abbrev pub IsObject : List ℕ → ObjectId → Type 0
 IsObject inner object = SpellsObject inner object.object_type object.instance
 
 -- a tag of this class and number stands at the front, its contents say a, and rest is what follows
-pub record Takes {A : Type 0} (Says : List ℕ → A → Type 0) (class : Class) (number : ℕ) (octets : List ℕ) (a : A) (rest : List ℕ) : Type 0 where
+pub record Takes {A : Type 0} (Says : List ℕ → A → Type 0) (class : Class) (number : ℕ) (octets : List ℕ) (a : A)
+    (rest : List ℕ) : Type 0 where
   pub inner : List ℕ
   pub tag : TakesTag octets (carrying class number inner) rest
   pub said : Says inner a
 
 -- .. and none that says anything else
-pub record Only {A : Type 0} (Says : List ℕ → A → Type 0) (class : Class) (number : ℕ) (octets : List ℕ) (a : A) (rest : List ℕ) : Type 0 where
+pub record Only {A : Type 0} (Says : List ℕ → A → Type 0) (class : Class) (number : ℕ) (octets : List ℕ) (a : A)
+    (rest : List ℕ) : Type 0 where
   pub only : (b : A) (after : List ℕ) → Takes Says class number octets b after → (a ≡ b) × (rest ≡ after)
 
 -- no such tag stands at the front

@@ -4,6 +4,8 @@ use Rattle.primitives.specs.Errors.{IsNamedClass, IsNamedCode}
 use Rattle.tags.specs.declared.tag.Class.TheVariants.{Application, Context}
 use Rattle.tags.specs.Number.{SpellsUnsigned}
 use Rattle.tags.specs.Tag.{TakesTag}
+use Rattle.apdu.specs.Numbers.{service_number}
+use Rattle.apdu.specs.declared.numbers.ConfirmedService.TheVariants.{WritePropertyMultiple}
 use Rattle.apdu.specs.Parameter.{opening_tag, closing_tag, IsObject, Takes}
 use Rattle.apdu.specs.declared.service_error.ObjectPropertyReference.{ObjectPropertyReference}
 use Rattle.apdu.specs.declared.service_error.ServiceError.{ServiceError}
@@ -50,18 +52,23 @@ abbrev pub SpellsFailedWrite : List ℕ → ℕ → ℕ → Option ObjectPropert
 SpellsFailedWrite octets class code None = ⊥
 SpellsFailedWrite octets class code (Some r) = SpellsWriteError octets class code r
 
--- the contents of an Error of this service: WritePropertyMultiple (16) alone names the write that failed (15.10.1.3, 20.1.7)
+-- the contents of an Error of this service: WritePropertyMultiple alone names the write that failed (15.10.1.3,
+-- 20.1.7)
 abbrev pub SpellsError : ℕ → List ℕ → ℕ → ℕ → Option ObjectPropertyReference → Type 0
-SpellsError service octets class code None = (service ≢ 16) × TakesClassAndCode octets class code []
-SpellsError service octets class code (Some r) = (service ≡ 16) × SpellsWriteError octets class code r
+SpellsError service octets class code None = (service ≢ service_number WritePropertyMultiple) ×
+    TakesClassAndCode octets class code []
+SpellsError service octets class code (Some r) = (service ≡ service_number WritePropertyMultiple) ×
+    SpellsWriteError octets class code r
 
 -- class and code go by their names (18)
 abbrev pub HasNames : ServiceError → Type 0
 HasNames e = IsNamedClass e.class × IsNamedCode e.code
 
 -- the octets spell this error and no other
-pub record OnlyError (service : ℕ) (octets : List ℕ) (class code : ℕ) (first_failed : Option ObjectPropertyReference) : Type 0 where
-  pub only : (c d : ℕ) (o : Option ObjectPropertyReference) → SpellsError service octets c d o → (class ≡ c) × (code ≡ d) × (first_failed ≡ o)
+pub record OnlyError (service : ℕ) (octets : List ℕ) (class code : ℕ)
+    (first_failed : Option ObjectPropertyReference) : Type 0 where
+  pub only : (c d : ℕ) (o : Option ObjectPropertyReference) → SpellsError service octets c d o →
+      (class ≡ c) × (code ≡ d) × (first_failed ≡ o)
 
 -- no error of this service is spelled
 pub record NoError (service : ℕ) (octets : List ℕ) : Type 0 where
@@ -92,8 +99,10 @@ pub record NoReference (octets : List ℕ) : Type 0 where
   pub none : (r : ObjectPropertyReference) → TakesReference octets r → ⊥
 
 -- the octets spell no other error with a failed write (21, WritePropertyMultiple-Error)
-pub record OnlyFailedWrite (octets : List ℕ) (class code : ℕ) (first_failed : Option ObjectPropertyReference) : Type 0 where
-  pub only : (c d : ℕ) (o : Option ObjectPropertyReference) → SpellsFailedWrite octets c d o → (class ≡ c) × (code ≡ d) × (first_failed ≡ o)
+pub record OnlyFailedWrite (octets : List ℕ) (class code : ℕ)
+    (first_failed : Option ObjectPropertyReference) : Type 0 where
+  pub only : (c d : ℕ) (o : Option ObjectPropertyReference) → SpellsFailedWrite octets c d o →
+      (class ≡ c) × (code ≡ d) × (first_failed ≡ o)
 
 -- no error with a failed write is spelled (21, WritePropertyMultiple-Error)
 pub record NoFailedWrite (octets : List ℕ) : Type 0 where

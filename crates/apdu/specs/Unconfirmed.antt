@@ -4,6 +4,8 @@ use Rattle.tags.specs.declared.object_id.ObjectId.{ObjectId}
 use Rattle.tags.specs.declared.tag.Class.TheVariants.{Application, Context}
 use Rattle.tags.specs.Canonical.{tagged}
 use Rattle.tags.specs.Number.{SpellsUnsigned, unsigned_octets, object_octets}
+use Rattle.primitives.specs.Numbers.{type_number}
+use Rattle.primitives.specs.declared.object_type.ObjectType.TheVariants.{Device}
 use Rattle.apdu.specs.Parameter.{IsObject, Takes}
 use Rattle.apdu.specs.declared.unconfirmed.UnconfirmedService.{UnconfirmedService}
 use Rattle.apdu.specs.declared.unconfirmed.UnconfirmedService.TheVariants as service
@@ -65,9 +67,9 @@ abbrev pub limits_octets : Option Limits → List ℕ
 limits_octets None = []
 limits_octets (Some l) = tagged Context 0 (unsigned_octets l.low) ++ tagged Context 1 (unsigned_octets l.high)
 
--- an instance of the Device object type, 8 (21, BACnetObjectType)
+-- an instance of the Device object type (21, BACnetObjectType)
 abbrev pub device : ℕ → ObjectId
-device instance = record { object_type = 8; instance = instance }
+device instance = record { object_type = type_number Device; instance = instance }
 
 -- one to four octets of a segmentation (21, BACnetSegmentation)
 pub record SaysSegmentation (inner : List ℕ) (s : Segmentation) : Type 0 where
@@ -93,4 +95,7 @@ pub record NoIAm (octets : List ℕ) : Type 0 where
 
 -- the shortest octets of an I-Am
 abbrev pub i_am_octets : IAm → List ℕ
-i_am_octets i = tagged Application 12 (object_octets 8 i.instance) ++ (tagged Application 2 (unsigned_octets i.max_apdu) ++ (tagged Application 9 (unsigned_octets (segmentation_number i.segmentation)) ++ tagged Application 2 (unsigned_octets i.vendor)))
+i_am_octets i = tagged Application 12 (object_octets (type_number Device) i.instance) ++
+    (tagged Application 2 (unsigned_octets i.max_apdu) ++
+    (tagged Application 9 (unsigned_octets (segmentation_number i.segmentation)) ++
+    tagged Application 2 (unsigned_octets i.vendor)))

@@ -6,8 +6,7 @@
 //! spell the APDU, and where memory is wanted the buffer is as it was. The same of the two
 //! unconfirmed services, Who-Is and I-Am.
 //!
-//! - `apdu`: the eight types of APDUs, with what each has.
-//! - `apdu_reader`, `apdu_writer`: APDUs, both ways.
+//! - `apdu`: the eight types of APDUs, with what each has, both ways.
 //! - `pdu_type`, `sizes`: the numbers of the types, and what a requester can take.
 //! - `numbers`: confirmed services, and the reasons of a Reject and an Abort.
 //! - `service_error`: why a service failed, as an Error says it.
@@ -18,8 +17,6 @@
 
 pub mod apdu;
 pub mod apdu_laws;
-mod apdu_reader;
-mod apdu_writer;
 pub mod numbers;
 mod parameter;
 pub mod pdu_type;
@@ -30,14 +27,15 @@ pub mod unconfirmed;
 pub use apdu::{Apdu, Segment};
 pub use apdu_laws::{apdu_spelling, i_am_spelling, who_is_spelling};
 pub use numbers::{AbortReason, ConfirmedService, RejectReason, UnknownService};
+pub use parameter::contents_of;
 pub use pdu_type::PduType;
 pub use service_error::{
     ObjectPropertyReference, ServiceError, class_and_code_from, write_class_and_code,
 };
 pub use sizes::{MaxApdu, MaxSegments};
 pub use unconfirmed::{
-    DEVICE, IAm, Limits, Segmentation, UnconfirmedService, WhoIs, i_am_from, who_is_from,
-    write_i_am, write_who_is,
+    IAm, Limits, Segmentation, UnconfirmedService, WhoIs, i_am_from, who_is_from, write_i_am,
+    write_who_is,
 };
 
 #[cfg(test)]

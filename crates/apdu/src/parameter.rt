@@ -7,8 +7,8 @@ ghost use Rattle.apdu.specs.Parameter.{carrying, opening_tag, closing_tag, IsObj
 
 use tags::{Class, Content, ObjectId, Reader, Tag, unsigned_from_contents};
 
-/// The contents of a tag, where it is of this class and number.
-pub(crate) fn contents_of<'a>(tag: Tag<'a>, class: Class, number: u8) -> Option<&'a [u8]>
+/// The contents of a tag, where it is of this class and number (20.2.1).
+pub fn contents_of<'a>(tag: Tag<'a>, class: Class, number: u8) -> Option<&'a [u8]>
     ensures some { IfSome result (λ inner. plain_tag tag.entry ≡ carrying class number inner.now) }
     ensures none { IfNone result (CarriesOther class number (plain_tag tag.entry)) }
 {

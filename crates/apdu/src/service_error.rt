@@ -11,8 +11,8 @@ use crate::parameter::{closing_from, contents_of, number_from, object_from, open
 use primitives::{ErrorClass, ErrorCode};
 use std::alloc::Allocator;
 use tags::{
-    Class, Fault, ObjectId, Reader, Tag, unsigned_from_contents, write_object, write_tag,
-    write_unsigned,
+    Class, Fault, ObjectId, Reader, Tag, all_or_none, unsigned_from_contents, write_object,
+    write_tag, write_unsigned,
 };
 
 /// An element or a whole property of an object (21, BACnetObjectPropertyReference).
@@ -42,8 +42,10 @@ impl ServiceError {
     /// The error that the octets spell, all of them, as the contents of an Error of this service.
     #[tactic(auto, using(crate::proofs::ServiceErrors::error_rules))]
     pub(crate) fn from_contents(service: u8, contents: &[u8]) -> Option<ServiceError>
-        ensures read { IfSome result (λ e. SpellsError service contents.now (class_number e.class) (code_number e.code) e.first_failed) }
-        ensures only { IfSome result (λ e. OnlyError service contents.now (class_number e.class) (code_number e.code) e.first_failed) }
+        ensures read { IfSome result (λ e. SpellsError service contents.now (class_number e.class)
+            (code_number e.code) e.first_failed) }
+        ensures only { IfSome result (λ e. OnlyError service contents.now (class_number e.class)
+            (code_number e.code) e.first_failed) }
         ensures named { IfSome result HasNames }
         ensures refused { IfNone result (NoError service contents.now) }
     {
@@ -77,8 +79,10 @@ impl ServiceError {
     /// Appends the shortest contents of an Error (20.1.7).
     pub(crate) fn put<B: Allocator>(&self, out: &mut Vec<u8, B>) -> Result<(), Fault>
         requires { CanBeNamed self.now.first_failed }
-        ensures put { OnOk result (out.new.items ≡ out.old.items ++ error_octets (class_number self.now.class) (code_number self.now.code) self.now.first_failed) }
-        ensures fits { OnOk result (FitsError (class_number self.now.class) (code_number self.now.code) self.now.first_failed) }
+        ensures put { OnOk result (out.new.items ≡ out.old.items ++ error_octets (class_number self.now.class)
+            (code_number self.now.code) self.now.first_failed) }
+        ensures fits { OnOk result (FitsError (class_number self.now.class)
+            (code_number self.now.code) self.now.first_failed) }
         ensures err { OnErr result (Extends out.old.items out.new.items) }
     {
         let Some(reference) = self.first_failed else {
@@ -116,16 +120,19 @@ impl ObjectPropertyReference {
 }
 
 /// The class and the code at the front, both Enumerated (21, Error). `None` where other octets stand
-/// there; how far the reader went is then not said.
+/// there; the reader is then as it was.
 #[tactic(auto, using(crate::proofs::ServiceErrors::class_and_code_rules))]
 pub fn class_and_code_from(reader: &mut Reader<'_>) -> Option<(ErrorClass, ErrorCode)>
     ensures read { IfSome result (λ e. TakesClassAndCode reader.old (class_number e.0) (code_number e.1) reader.new) }
     ensures only { IfSome result (λ e. OnlyClassAndCode reader.old (class_number e.0) (code_number e.1) reader.new) }
     ensures named { IfSome result (λ e. IsNamedClass e.0 × IsNamedCode e.1) }
     ensures refused { IfNone result (NoClassAndCode reader.old) }
+    ensures unchanged { IfNone result (reader.new ≡ reader.old) }
 {
-    let class = number_from(Class::Application, 9, reader)?;
-    let code = number_from(Class::Application, 9, reader)?;
+    let mut ahead = Reader::new(reader.rest());
+    let class = number_from(Class::Application, 9, &mut ahead)?;
+    let code = number_from(Class::Application, 9, &mut ahead)?;
+    *reader = ahead;
     Some((ErrorClass::from(class), ErrorCode::from(code)))
 }
 
@@ -139,25 +146,25 @@ pub fn write_class_and_code<B: Allocator>(
     code: ErrorCode,
     out: &mut Vec<u8, B>,
 ) -> Result<(), Fault>
-    ensures written { OnOk result (out.new.items ≡ out.old.items ++ class_and_code_octets (class_number class) (code_number code)) }
+    ensures written { OnOk result (out.new.items ≡ out.old.items ++ class_and_code_octets (class_number class)
+        (code_number code)) }
     ensures fits { OnOk result ((class_number class < 2 ^ 32) × (code_number code < 2 ^ 32)) }
     ensures memory { IfErr result (λ e. e ≡ Fault.Memory) }
     ensures unchanged { OnErr result (out.new.items ≡ out.old.items) }
 {
     let start = out.len();
     write_unsigned(Class::Application, 9, u32::from(class), out)?;
-    if write_unsigned(Class::Application, 9, u32::from(code), out).is_err() {
-        out.truncate(start);
-        return Err(Fault::Memory);
-    }
-    Ok(())
+    let put = write_unsigned(Class::Application, 9, u32::from(code), out);
+    all_or_none(put, start, out)
 }
 
 /// The contents of an Error of WritePropertyMultiple (21, WritePropertyMultiple-Error).
 #[tactic(auto, using(crate::proofs::ServiceErrors::failed_write_rules))]
 fn failed_write_from(reader: &mut Reader<'_>) -> Option<ServiceError>
-    ensures read { IfSome result (λ e. SpellsFailedWrite reader.old (class_number e.class) (code_number e.code) e.first_failed) }
-    ensures only { IfSome result (λ e. OnlyFailedWrite reader.old (class_number e.class) (code_number e.code) e.first_failed) }
+    ensures read { IfSome result (λ e. SpellsFailedWrite reader.old (class_number e.class)
+        (code_number e.code) e.first_failed) }
+    ensures only { IfSome result (λ e. OnlyFailedWrite reader.old (class_number e.class)
+        (code_number e.code) e.first_failed) }
     ensures named { IfSome result HasNames }
     ensures refused { IfNone result (NoFailedWrite reader.old) }
 {

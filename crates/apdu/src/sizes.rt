@@ -50,7 +50,8 @@ impl From<MaxSegments> for u8 {
 impl TryFrom<u8> for MaxSegments {
     type Error = Fault;
 
-    ghost try_from_gives = { λ n r. MatchResult r (λ segments. segments_code segments ≡ n) (λ e. (e ≡ NoSuch) × (8 ≤ n)) };
+    ghost try_from_gives = { λ n r. MatchResult r (λ segments. segments_code segments ≡ n)
+        (λ e. (e ≡ NoSuch) × (8 ≤ n)) };
 
     fn try_from(code: u8) -> Result<MaxSegments, Fault> {
         Ok(match code {

@@ -7,8 +7,9 @@ ghost use Rattle.tags.specs.Canonical.{Extends};
 ghost use Rattle.tags.specs.declared.fault.Fault.TheVariants.{NoSuch};
 
 use crate::parameter::{number_from, object_from};
+use primitives::ObjectType;
 use std::alloc::Allocator;
-use tags::{Class, Fault, ObjectId, Reader, write_object, write_unsigned};
+use tags::{Class, Fault, ObjectId, Reader, all_or_none, write_object, write_unsigned};
 
 /// The unconfirmed services of this product (21, BACnetUnconfirmedServiceChoice).
 #[derive(Clone, Copy, Debug, PartialEq, Eq)]
@@ -29,7 +30,8 @@ impl From<UnconfirmedService> for u8 {
 impl TryFrom<u8> for UnconfirmedService {
     type Error = Fault;
 
-    ghost try_from_gives = { λ n r. MatchResult r (λ service. service_number service ≡ n) (λ e. (e ≡ NoSuch) × NoService n) };
+    ghost try_from_gives = { λ n r. MatchResult r (λ service. service_number service ≡ n)
+        (λ e. (e ≡ NoSuch) × NoService n) };
 
     fn try_from(number: u8) -> Result<UnconfirmedService, Fault> {
         match number {
@@ -94,7 +96,8 @@ impl From<Segmentation> for u32 {
 impl TryFrom<u32> for Segmentation {
     type Error = Fault;
 
-    ghost try_from_gives = { λ n r. MatchResult r (λ segmentation. segmentation_number segmentation ≡ n) (λ e. (e ≡ NoSuch) × (4 ≤ n)) };
+    ghost try_from_gives = { λ n r. MatchResult r (λ segmentation. segmentation_number segmentation ≡ n)
+        (λ e. (e ≡ NoSuch) × (4 ≤ n)) };
 
     fn try_from(number: u32) -> Result<Segmentation, Fault> {
         match number {
@@ -119,9 +122,6 @@ pub struct IAm {
     /// The vendor's identifier.
     pub vendor: u32,
 }
-
-/// The number of the Device object type (21, BACnetObjectType).
-pub const DEVICE: u16 = 8;
 
 /// The Who-Is that the octets spell, all of them: no limits, or both (16.10.1). `None` where they
 /// spell none.
@@ -172,11 +172,8 @@ pub fn write_who_is<B: Allocator>(who_is: &WhoIs, out: &mut Vec<u8, B>) -> Resul
         return Ok(());
     };
     let start = out.len();
-    if put_limits(limits, out).is_err() {
-        out.truncate(start);
-        return Err(Fault::Memory);
-    }
-    Ok(())
+    let put = put_limits(limits, out);
+    all_or_none(put, start, out)
 }
 
 fn put_limits<B: Allocator>(limits: Limits, out: &mut Vec<u8, B>) -> Result<(), Fault>
@@ -198,7 +195,7 @@ pub fn i_am_from(data: &[u8]) -> Option<IAm>
 {
     let mut reader = Reader::new(data);
     let device = object_from(Class::Application, 12, &mut reader)?;
-    if device.object_type != DEVICE {
+    if device.object_type != u16::from(ObjectType::Device) {
         return None;
     }
     let max_apdu = number_from(Class::Application, 2, &mut reader)?;
@@ -240,11 +237,8 @@ pub fn write_i_am<B: Allocator>(i_am: &IAm, out: &mut Vec<u8, B>) -> Result<(), 
     ensures unchanged { OnErr result (out.new.items ≡ out.old.items) }
 {
     let start = out.len();
-    if put_i_am(i_am, out).is_err() {
-        out.truncate(start);
-        return Err(Fault::Memory);
-    }
-    Ok(())
+    let put = put_i_am(i_am, out);
+    all_or_none(put, start, out)
 }
 
 fn put_i_am<B: Allocator>(i_am: &IAm, out: &mut Vec<u8, B>) -> Result<(), Fault>
@@ -254,7 +248,7 @@ fn put_i_am<B: Allocator>(i_am: &IAm, out: &mut Vec<u8, B>) -> Result<(), Fault>
     ensures err { OnErr result (Extends out.old.items out.new.items) }
 {
     let device = ObjectId {
-        object_type: DEVICE,
+        object_type: u16::from(ObjectType::Device),
         instance: i_am.instance,
     };
     write_object(Class::Application, 12, device, out)?;

@@ -13,7 +13,8 @@ use Rattle.bvll.specs.declared.function.Function.TheVariants as f
 use Rattle.bvll.specs.Datagram.{Datagram, datagram_of, outcome, write_distribution, read_distribution, distribution, forwarded, register, read_foreign, foreign, delete_foreign, distribute, unicast, broadcast, function, contents, contents_length, HasFields, header, whole_length, Spells, NoDatagram}
 use Rattle.bvll.specs.Entry.{distribution_octets, foreign_octets, IsDistributionEntry, IsForeignDevice}
 use Rattle.bvll.specs.Function.{number_of}
-use Rattle.bvll.specs.Octets.{IsBytes, cell}
+use Rattle.tags.specs.Number.{AreOctets}
+use Rattle.tags.proofs.OctetLists.{cons_equal}
 use Rattle.bvll.specs.Refusal.{HasContents, IsLength, IsOtherVersion, IsUnknown, IsCut, IsMisfit, Refuses}
 
 -- the functions in the order of their numbers
@@ -186,7 +187,7 @@ cut_third k high lt = record {
   whole = 256 * high;
   more = 0 ∷ [];
   some = λ e. cc;
-  completed = cell _ _ _ _ refl (cell _ _ _ _ refl (cell _ _ _ _ (omega arith) (cell _ _ _ _ (omega arith) refl)));
+  completed = cons_equal _ _ _ _ refl (cons_equal _ _ _ _ refl (cons_equal _ _ _ _ (omega arith) (cons_equal _ _ _ _ (omega arith) refl)));
 }
 
 pub cut_before_function : (octets : List ℕ) → length octets < 2 → (0 < length octets → get_or octets 0 0 ≡ 0x81) → IsCut octets
@@ -194,7 +195,7 @@ cut_before_function [] lt first = cut_empty
 cut_before_function (a ∷ []) lt first = subst (λ (x : ℕ). IsCut (x ∷ [])) (sym (first (omega arith))) cut_first
 cut_before_function (a ∷ b ∷ rest) lt first = absurd (omega arith)
 
-pub cut_behind_function : (octets : List ℕ) (k : Function) → IsBytes octets → 2 ≤ length octets → length octets < 4 → get_or octets 0 0 ≡ 0x81 → get_or octets 1 0 ≡ number_of k → IsCut octets
+pub cut_behind_function : (octets : List ℕ) (k : Function) → AreOctets octets → 2 ≤ length octets → length octets < 4 → get_or octets 0 0 ≡ 0x81 → get_or octets 1 0 ≡ number_of k → IsCut octets
 cut_behind_function [] k fits le lt first number = absurd (omega arith)
 cut_behind_function (a ∷ []) k fits le lt first number = absurd (omega arith)
 cut_behind_function (a ∷ b ∷ []) k fits le lt first number =

@@ -3,7 +3,8 @@ use Rattle.std.proofs.Common.{◌≡◌, ℕ, zero, suc, ◌+◌, ◌*◌, ◌/�
 use Rattle.std.proofs.Math.Seq.{take-add, take-length}
 use Rattle.std.proofs.lemmas.List.{drop-drop, length-drop}
 use Rattle.std.proofs.lemmas.Option.{slice_get_past}
-use Rattle.bvll.specs.Octets.{IsBytes, IsBytes-drop}
+use Rattle.tags.specs.Number.{AreOctets}
+use Rattle.tags.proofs.OctetLists.{AreOctets-drop}
 use Rattle.bvll.specs.Table.{SpellsEntry, SpellsTable, first_entries, entries_at}
 
 length-first_entries : {E : Type 0} (entry_at : List ℕ → E) (n : ℕ) (octets : List ℕ) → length (first_entries entry_at n octets) ≡ n
@@ -27,15 +28,15 @@ pub slice_get-entries_at_past : {E : Type 0} (entry_at : List ℕ → E) (octets
 slice_get-entries_at_past entry_at octets i le =
     slice_get_past (entries_at entry_at octets) i (omega (arith, length-entries_at entry_at octets))
 
-first_spelled : {E : Type 0} (entry_at : List ℕ → E) (octets_of : E → List ℕ) (IsEntry : E → Type 0) → ((octets : List ℕ) → IsBytes octets → 10 ≤ length octets → SpellsEntry octets_of IsEntry (take 10 octets) (entry_at octets)) → (n : ℕ) (octets : List ℕ) → IsBytes octets → 10 * n ≤ length octets → SpellsTable octets_of IsEntry (take (10 * n) octets) (first_entries entry_at n octets)
+first_spelled : {E : Type 0} (entry_at : List ℕ → E) (octets_of : E → List ℕ) (IsEntry : E → Type 0) → ((octets : List ℕ) → AreOctets octets → 10 ≤ length octets → SpellsEntry octets_of IsEntry (take 10 octets) (entry_at octets)) → (n : ℕ) (octets : List ℕ) → AreOctets octets → 10 * n ≤ length octets → SpellsTable octets_of IsEntry (take (10 * n) octets) (first_entries entry_at n octets)
 first_spelled entry_at octets_of IsEntry spelled zero octets fits le = record { fields = tt; parts = refl }
 first_spelled entry_at octets_of IsEntry spelled (suc n) octets fits le =
     let one = spelled octets fits (omega arith) in
-    let others = first_spelled entry_at octets_of IsEntry spelled n (drop 10 octets) (IsBytes-drop 10 octets fits) (omega (arith, length-drop 10 octets)) in
+    let others = first_spelled entry_at octets_of IsEntry spelled n (drop 10 octets) (AreOctets-drop 10 octets fits) (omega (arith, length-drop 10 octets)) in
     let at : 10 * suc n ≡ 10 + 10 * n = omega arith in
     record { fields = (one.fields, others.fields); parts = ap (λ k. take k octets) at ∙ take-add 10 (10 * n) octets ∙ rw (← one.parts, ← others.parts) refl }
 
-pub entries_spelled : {E : Type 0} (entry_at : List ℕ → E) (octets_of : E → List ℕ) (IsEntry : E → Type 0) → ((octets : List ℕ) → IsBytes octets → 10 ≤ length octets → SpellsEntry octets_of IsEntry (take 10 octets) (entry_at octets)) → (octets : List ℕ) → IsBytes octets → length octets % 10 ≡ 0 → SpellsTable octets_of IsEntry octets (entries_at entry_at octets)
+pub entries_spelled : {E : Type 0} (entry_at : List ℕ → E) (octets_of : E → List ℕ) (IsEntry : E → Type 0) → ((octets : List ℕ) → AreOctets octets → 10 ≤ length octets → SpellsEntry octets_of IsEntry (take 10 octets) (entry_at octets)) → (octets : List ℕ) → AreOctets octets → length octets % 10 ≡ 0 → SpellsTable octets_of IsEntry octets (entries_at entry_at octets)
 entries_spelled entry_at octets_of IsEntry spelled octets fits whole =
     let at : 10 * (length octets / 10) ≡ length octets = omega arith in
     let first = first_spelled entry_at octets_of IsEntry spelled (length octets / 10) octets fits (omega arith) in

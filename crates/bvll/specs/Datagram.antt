@@ -117,6 +117,7 @@ pub record OnlyDatagram (octets : List ℕ) (d : Datagram) : Type 0 where
 pub record NoDatagram (octets : List ℕ) : Type 0 where
   pub none : (d : Datagram) → Spells octets d → ⊥
 
+-- what the code's datagram says
 abbrev pub datagram_of : Bvll → Datagram
 datagram_of (variant.Result code) = outcome (code_number code)
 datagram_of (variant.WriteBroadcastDistributionTable table) = write_distribution (entries_of distribution_at table)

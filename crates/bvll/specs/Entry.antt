@@ -9,6 +9,7 @@ use Rattle.bvll.specs.Address.{address_octets, address_at, IsAddress}
 abbrev pub distribution_octets : DistributionEntry → List ℕ
 distribution_octets e = address_octets e.address ++ e.mask
 
+-- an address, and a mask of four octets (J.2.2)
 pub record IsDistributionEntry (e : DistributionEntry) : Type 0 where
   pub address : IsAddress e.address
   pub mask : length e.mask ≡ 4
@@ -17,6 +18,7 @@ pub record IsDistributionEntry (e : DistributionEntry) : Type 0 where
 abbrev pub foreign_octets : ForeignDevice → List ℕ
 foreign_octets e = address_octets e.address ++ (big_bytes 2 e.seconds_to_live ++ big_bytes 2 e.seconds_left)
 
+-- an address, and times of sixteen bits (J.2.8)
 pub record IsForeignDevice (e : ForeignDevice) : Type 0 where
   pub address : IsAddress e.address
   pub to_live : e.seconds_to_live < 2 ^ 16
@@ -26,5 +28,10 @@ pub record IsForeignDevice (e : ForeignDevice) : Type 0 where
 abbrev pub distribution_at : List ℕ → DistributionEntry
 distribution_at octets = record { address = address_at octets; mask = take 4 (drop 6 octets) }
 
+-- the entry that the first ten octets are
 abbrev pub foreign_at : List ℕ → ForeignDevice
-foreign_at octets = record { address = address_at octets; seconds_to_live = big_number 2 (drop 6 octets); seconds_left = big_number 2 (drop 8 octets) }
+foreign_at octets = record {
+  address = address_at octets;
+  seconds_to_live = big_number 2 (drop 6 octets);
+  seconds_left = big_number 2 (drop 8 octets);
+}

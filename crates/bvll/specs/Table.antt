@@ -6,12 +6,14 @@ use Rattle.bvll.specs.declared.table.Table.{Table}
 use Rattle.bvll.specs.declared.table.Table.TheVariants.{Octets, Entries}
 
 -- the octets, all of them, are those of the entry
-pub record SpellsEntry {E : Type 0} (octets_of : E → List ℕ) (IsEntry : E → Type 0) (octets : List ℕ) (entry : E) : Type 0 where
+pub record SpellsEntry {E : Type 0} (octets_of : E → List ℕ) (IsEntry : E → Type 0) (octets : List ℕ)
+    (entry : E) : Type 0 where
   pub fields : IsEntry entry
   pub parts : octets ≡ octets_of entry
 
 -- the octets, all of them, are those of the entries in order
-pub record SpellsTable {E : Type 0} (octets_of : E → List ℕ) (IsEntry : E → Type 0) (octets : List ℕ) (entries : List E) : Type 0 where
+pub record SpellsTable {E : Type 0} (octets_of : E → List ℕ) (IsEntry : E → Type 0) (octets : List ℕ)
+    (entries : List E) : Type 0 where
   pub fields : AllByRecursion IsEntry entries
   pub parts : octets ≡ flat_map octets_of entries
 

@@ -7,7 +7,7 @@ use crate::function::Function;
 use crate::table::Table;
 use byteorder::{BigEndian, ByteOrder};
 use std::alloc::{AllocError, Allocator};
-use tags::Fault;
+use tags::{Fault, all_or_none};
 
 /// The first octet of each datagram: BACnet/IP (J.2).
 pub const BACNET_IP: u8 = 0x81;
@@ -87,11 +87,8 @@ impl<'a> Bvll<'a> {
         ensures unchanged { OnErr result (out.new.items ≡ out.old.items) }
     {
         let start = out.len();
-        if self.put(out).is_err() {
-            out.truncate(start);
-            return Err(Fault::Memory);
-        }
-        Ok(())
+        let put = self.put(out);
+        all_or_none(put, start, out)
     }
 
     /// What the datagram asks for or carries.
@@ -119,7 +116,8 @@ impl<'a> Bvll<'a> {
     /// The length of the whole in octets, where two octets can say it. Only then can the datagram
     /// be written.
     pub fn whole_length(&self) -> Option<u16>
-        ensures { MatchOption result (2 ^ 16 ≤ whole_length (datagram_of self.now)) (λ n. n ≡ whole_length (datagram_of self.now)) }
+        ensures { MatchOption result (2 ^ 16 ≤ whole_length (datagram_of self.now))
+            (λ n. n ≡ whole_length (datagram_of self.now)) }
     {
         let contents = match self {
             Bvll::Result(_) | Bvll::RegisterForeignDevice { .. } => 2,
@@ -185,7 +183,8 @@ impl<'a> Bvll<'a> {
     fn from_contents(function: Function, contents: &'a [u8]) -> Result<Bvll<'a>, Fault>
         ensures read { IfOk result (λ b. HasContents function contents.entry.now (datagram_of b)) }
         ensures named { IfOk result HasNamedCode }
-        ensures refused { IfErr result (λ e. (e ≡ Fault.BadLength) × (IsLength function (length contents.entry.now) → ⊥)) }
+        ensures refused { IfErr result (λ e. (e ≡ Fault.BadLength) ×
+            (IsLength function (length contents.entry.now) → ⊥)) }
     {
         Ok(match function {
             Function::Result => Bvll::Result(ResultCode::from(Bvll::number_from(contents)?)),

@@ -1,7 +1,7 @@
 //! The entries of a broadcast manager's two tables.
 
 ghost use Rattle.std.specs.Prelude.{◌≡◌, ◌≤◌, ℕ, List, length, take};
-ghost use Rattle.bvll.specs.Octets.{IsBytes};
+ghost use Rattle.tags.specs.Number.{AreOctets};
 ghost use Rattle.bvll.specs.Table.{SpellsEntry};
 
 use crate::address::Address;
@@ -29,7 +29,8 @@ pub trait Entry: Copy {
         ensures fields { IsEntry self.now };
 
     // what is read is spelled by the octets
-    ghost spelled: { (octets : List ℕ) → IsBytes octets → 10 ≤ length octets → SpellsEntry octets_of IsEntry (take 10 octets) (entry_at octets) };
+    ghost spelled: { (octets : List ℕ) → AreOctets octets → 10 ≤ length octets →
+        SpellsEntry octets_of IsEntry (take 10 octets) (entry_at octets) };
 }
 
 /// An entry of the broadcast distribution table (J.2.2).

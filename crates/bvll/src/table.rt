@@ -77,7 +77,8 @@ impl<'a, E: Entry> Table<'a, E> {
     }
 
     pub(crate) fn put<B: Allocator>(&self, out: &mut Vec<u8, B>) -> Result<(), AllocError>
-        ensures put { OnOk result (out.new.items ≡ out.old.items ++ flat_map E.octets_of (entries_of E.entry_at self.now)) }
+        ensures put { OnOk result (out.new.items ≡ out.old.items ++
+            flat_map E.octets_of (entries_of E.entry_at self.now)) }
         ensures fields { OnOk result (AllByRecursion E.IsEntry (entries_of E.entry_at self.now)) }
         ensures err { OnErr result (Extends out.old.items out.new.items) }
     {

@@ -10,12 +10,14 @@ use Rattle.npdu.specs.declared.message.Message.{Message}
 use Rattle.npdu.specs.declared.view.Dnet.{Dnet}
 
 -- the octets begin with the spelling of a field of this kind, and the rest is behind it
-pub record Takes {A : Type 0} (IsField : A → Type 0) (spelling : A → List ℕ) (octets : List ℕ) (a : A) (rest : List ℕ) : Type 0 where
+pub record Takes {A : Type 0} (IsField : A → Type 0) (spelling : A → List ℕ) (octets : List ℕ) (a : A)
+    (rest : List ℕ) : Type 0 where
   pub fits : IsField a
   pub parts : octets ≡ spelling a ++ rest
 
 -- .. and with that of no other
-pub record Only {A : Type 0} (IsField : A → Type 0) (spelling : A → List ℕ) (octets : List ℕ) (a : A) (rest : List ℕ) : Type 0 where
+pub record Only {A : Type 0} (IsField : A → Type 0) (spelling : A → List ℕ) (octets : List ℕ) (a : A)
+    (rest : List ℕ) : Type 0 where
   pub only : (b : A) (after : List ℕ) → Takes IsField spelling octets b after → (a ≡ b) × (rest ≡ after)
 
 -- the octets begin with the spelling of no such field
@@ -36,9 +38,11 @@ IsNet n = (0 < n) × (n < 65535)
 abbrev pub address_octets : List ℕ → List ℕ
 address_octets mac = length mac ∷ mac
 
+-- an address of a destination: any length that an octet can say
 abbrev pub IsMac : List ℕ → Type 0
 IsMac mac = length mac < 256
 
+-- an address of a source has an octet
 abbrev pub IsAddress : List ℕ → Type 0
 IsAddress mac = (0 < length mac) × (length mac < 256)
 
@@ -47,12 +51,15 @@ pub record Place : Type 0 where
   pub net : Dnet
   pub mac : List ℕ
 
+-- what the code's place says
 abbrev pub place_of : CodePlace → Place
 place_of p = record { net = p.net; mac = p.mac.now }
 
+-- the place that a destination has
 abbrev pub place_in : PlainDestination → Place
 place_in d = record { net = d.net; mac = d.mac }
 
+-- DNET, DLEN and DADR (6.2.2)
 abbrev pub place_octets : Option Place → List ℕ
 place_octets None = []
 place_octets (Some p) = big_bytes 2 (dnet_number p.net) ++ (length p.mac ∷ p.mac)
@@ -62,6 +69,7 @@ pub record IsPlaceIf (present : Bool) (o : Option Place) : Type 0 where
   pub announced : present ≡ is_some o
   pub sound : IfSome o (λ p. IsDnet p.net × (length p.mac < 256))
 
+-- the same of SNET and SADR
 pub record IsSourceIf (present : Bool) (o : Option PlainSource) : Type 0 where
   pub announced : present ≡ is_some o
   pub sound : IfSome o IsSource
@@ -71,6 +79,7 @@ pub record IsDestinationAt (at : Option Place) (o : Option PlainDestination) : T
   pub place : option_map place_in o ≡ at
   pub sound : IfSome o (λ d. d.hops < 256)
 
+-- the same of the message type
 pub record IsMessageIf (present : Bool) (o : Option Message) : Type 0 where
   pub announced : present ≡ is_some o
   pub sound : IfSome o IsMessage
@@ -82,14 +91,17 @@ pub record SpellsFields (control : ℕ) (octets : List ℕ) (h : Header) : Type 
   pub at_source : List ℕ
   pub at_hops : List ℕ
   pub at_message : List ℕ
-  pub place : Takes (IsPlaceIf (control / 32 % 2 == 1)) place_octets octets (option_map place_in h.destination) at_source
+  pub place : Takes (IsPlaceIf (control / 32 % 2 == 1)) place_octets octets
+      (option_map place_in h.destination) at_source
   pub source : Takes (IsSourceIf (control / 8 % 2 == 1)) snet_octets at_source h.source at_hops
   pub hops : Takes (IsDestinationAt (option_map place_in h.destination)) hop_octets at_hops h.destination at_message
   pub message : Takes (IsMessageIf (control / 128 % 2 == 1)) message_octets at_message h.message h.body
 
+-- the control octet and the octets behind it spell no header
 pub record NoFields (control : ℕ) (octets : List ℕ) : Type 0 where
   pub none : (h : Header) → SpellsFields control octets h → ⊥
 
+-- some octets behind make the whole a header's
 pub record IsCutFields (control : ℕ) (octets : List ℕ) : Type 0 where
   pub more : List ℕ
   pub header : Header

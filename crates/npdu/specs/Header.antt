@@ -1,6 +1,8 @@
--- The header of every message of the network layer (6.2): what it says, which headers there are, and the octets that spell them.
+-- The header of every message of the network layer (6.2): what it says, which headers there are, and the octets that
+-- spell them.
 use Rattle.std.specs.Prelude.{◌≡◌, ℕ, ◌+◌, ◌*◌, ◌/◌, ◌%◌, ◌<◌, ◌==◌, Bool, true, false, List, [], ◌∷◌, ◌++◌, length, Option, Some, None, is_some, option_map, IfSome}
 use Rattle.byteorder.specs.Endian.{big_bytes}
+use Rattle.tags.specs.Number.{bit}
 use Rattle.npdu.specs.Dnet.{dnet_number, IsDnet}
 use Rattle.npdu.specs.Message.{type_octets, IsMessage}
 use Rattle.npdu.specs.Priority.{priority_number}
@@ -31,15 +33,24 @@ pub record Header : Type 0 where
   pub message : Option Message
   pub body : List ℕ
 
+-- what the code's destination says
 abbrev pub destination_of : Destination → PlainDestination
 destination_of d = record { net = d.net; mac = d.mac.now; hops = d.hops }
 
+-- what the code's source says
 abbrev pub source_of : Source → PlainSource
 source_of s = record { net = s.net; mac = s.mac.now }
 
 -- what the code's view of a header says
 abbrev pub header_of : View → Header
-header_of v = record { expects_reply = v.expects_reply; priority = v.priority; destination = option_map destination_of v.destination; source = option_map source_of v.source; message = v.message; body = v.body.now }
+header_of v = record {
+  expects_reply = v.expects_reply;
+  priority = v.priority;
+  destination = option_map destination_of v.destination;
+  source = option_map source_of v.source;
+  message = v.message;
+  body = v.body.now;
+}
 
 -- an address of no octet is a broadcast on the network (6.2.2)
 abbrev pub IsDestination : PlainDestination → Type 0
@@ -70,13 +81,15 @@ abbrev pub hop_octets : Option PlainDestination → List ℕ
 hop_octets None = []
 hop_octets (Some d) = d.hops ∷ []
 
+-- the message type, and the vendor where it is a vendor's own (6.2.4)
 abbrev pub message_octets : Option Message → List ℕ
 message_octets None = []
 message_octets (Some message) = type_octets message
 
 -- what stands behind the control octet, in this order (6.2)
 abbrev pub fields : Header → List ℕ
-fields h = dnet_octets h.destination ++ (snet_octets h.source ++ (hop_octets h.destination ++ (message_octets h.message ++ h.body)))
+fields h = dnet_octets h.destination ++ (snet_octets h.source ++
+    (hop_octets h.destination ++ (message_octets h.message ++ h.body)))
 
 -- the control octet: bits 7, 5 and 3 announce fields; bits 6 and 4 are not looked at (6.2.2)
 pub record IsControl (control : ℕ) (h : Header) : Type 0 where
@@ -102,13 +115,10 @@ pub record OnlyHeader (octets : List ℕ) (h : Header) : Type 0 where
 pub record NoHeader (octets : List ℕ) : Type 0 where
   pub none : (h : Header) → Spells octets h → ⊥
 
-abbrev pub bit : Bool → ℕ
-bit false = 0
-bit true = 1
-
 -- the control octet with bits 6 and 4 clear (6.2.2)
 abbrev pub control_of : Header → ℕ
-control_of h = 128 * bit (is_some h.message) + 32 * bit (is_some h.destination) + 8 * bit (is_some h.source) + 4 * bit h.expects_reply + priority_number h.priority
+control_of h = 128 * bit (is_some h.message) + 32 * bit (is_some h.destination) + 8 * bit (is_some h.source) +
+    4 * bit h.expects_reply + priority_number h.priority
 
 -- the octets that spell it with control bits 6 and 4 clear (6.2)
 abbrev pub canonical : Header → List ℕ

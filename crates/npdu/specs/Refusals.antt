@@ -65,11 +65,13 @@ RefusesFields Short control octets = IsCutFields control octets
 RefusesFields BadLength control octets = IsBadPlace (control / 32 % 2 == 1) octets ⊎ IsBadSourceBehind control octets
 RefusesFields _ control octets = ⊥
 
+-- why no DNET and DADR are read where the control octet says that they stand
 abbrev pub RefusesPlace : Fault → Bool → List ℕ → Type 0
 RefusesPlace Short present octets = Begins (IsPlaceIf present) place_octets octets
 RefusesPlace BadLength present octets = IsBadPlace present octets
 RefusesPlace _ present octets = ⊥
 
+-- why no SNET and SADR are read where the control octet says that they stand
 abbrev pub RefusesSource : Fault → Bool → List ℕ → Type 0
 RefusesSource Short present octets = Begins (IsSourceIf present) snet_octets octets
 RefusesSource BadLength present octets = IsBadSource present octets

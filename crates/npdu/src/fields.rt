@@ -71,8 +71,10 @@ fn put_address<B: Allocator>(net: u16, mac: &[u8], out: &mut Vec<u8, B>) -> Resu
 /// DNET, DLEN and DADR.
 #[tactic(auto, using(crate::proofs::FieldLaws::place_steps))]
 pub(crate) fn place_from(present: bool, octets: &[u8]) -> Result<(Option<Place<'_>>, &[u8]), Fault>
-    ensures read { IfOk result (λ x. Takes (IsPlaceIf present) place_octets octets.now (option_map place_of x.0) x.1.now) }
-    ensures only { IfOk result (λ x. Only (IsPlaceIf present) place_octets octets.now (option_map place_of x.0) x.1.now) }
+    ensures read { IfOk result (λ x. Takes (IsPlaceIf present) place_octets octets.now
+        (option_map place_of x.0) x.1.now) }
+    ensures only { IfOk result (λ x. Only (IsPlaceIf present) place_octets octets.now
+        (option_map place_of x.0) x.1.now) }
     ensures refused { OnErr result (Lacks (IsPlaceIf present) place_octets octets.now) }
     ensures fault { IfErr result (λ fault. RefusesPlace fault present octets.now) }
 {
@@ -93,7 +95,8 @@ pub(crate) fn put_place<B: Allocator>(
     out: &mut Vec<u8, B>,
 ) -> Result<(), AllocError>
     requires { IfSome (option_map destination_of destination.now) IsDestination }
-    ensures put { OnOk result (out.new.items ≡ out.old.items ++ dnet_octets (option_map destination_of destination.now)) }
+    ensures put { OnOk result (out.new.items ≡ out.old.items ++
+        dnet_octets (option_map destination_of destination.now)) }
     ensures err { OnErr result (Extends out.old.items out.new.items) }
 {
     if let Some(destination) = destination {
@@ -108,8 +111,10 @@ pub(crate) fn source_from(
     present: bool,
     octets: &[u8],
 ) -> Result<(Option<Source<'_>>, &[u8]), Fault>
-    ensures read { IfOk result (λ x. Takes (IsSourceIf present) snet_octets octets.now (option_map source_of x.0) x.1.now) }
-    ensures only { IfOk result (λ x. Only (IsSourceIf present) snet_octets octets.now (option_map source_of x.0) x.1.now) }
+    ensures read { IfOk result (λ x. Takes (IsSourceIf present) snet_octets octets.now
+        (option_map source_of x.0) x.1.now) }
+    ensures only { IfOk result (λ x. Only (IsSourceIf present) snet_octets octets.now
+        (option_map source_of x.0) x.1.now) }
     ensures refused { OnErr result (Lacks (IsSourceIf present) snet_octets octets.now) }
     ensures fault { IfErr result (λ fault. RefusesSource fault present octets.now) }
 {
@@ -146,10 +151,14 @@ pub(crate) fn hops_from<'a>(
     place: Option<Place<'a>>,
     octets: &'a [u8],
 ) -> Result<(Option<Destination<'a>>, &'a [u8]), Fault>
-    ensures read { IfOk result (λ x. Takes (IsDestinationAt (option_map place_of place.entry)) hop_octets octets.entry.now (option_map destination_of x.0) x.1.now) }
-    ensures only { IfOk result (λ x. Only (IsDestinationAt (option_map place_of place.entry)) hop_octets octets.entry.now (option_map destination_of x.0) x.1.now) }
-    ensures refused { OnErr result (Lacks (IsDestinationAt (option_map place_of place.entry)) hop_octets octets.entry.now) }
-    ensures cut { OnErr result (Begins (IsDestinationAt (option_map place_of place.entry)) hop_octets octets.entry.now) }
+    ensures read { IfOk result (λ x. Takes (IsDestinationAt
+        (option_map place_of place.entry)) hop_octets octets.entry.now (option_map destination_of x.0) x.1.now) }
+    ensures only { IfOk result (λ x. Only (IsDestinationAt
+        (option_map place_of place.entry)) hop_octets octets.entry.now (option_map destination_of x.0) x.1.now) }
+    ensures refused { OnErr result (Lacks (IsDestinationAt
+        (option_map place_of place.entry)) hop_octets octets.entry.now) }
+    ensures cut { OnErr result (Begins (IsDestinationAt
+        (option_map place_of place.entry)) hop_octets octets.entry.now) }
     ensures fault { IsOkUnless result Fault.Short }
 {
     let Some(Place { net, mac }) = place else {
@@ -172,7 +181,8 @@ pub(crate) fn put_hops<B: Allocator>(
     destination: &Option<Destination<'_>>,
     out: &mut Vec<u8, B>,
 ) -> Result<(), AllocError>
-    ensures put { OnOk result (out.new.items ≡ out.old.items ++ hop_octets (option_map destination_of destination.now)) }
+    ensures put { OnOk result (out.new.items ≡ out.old.items ++
+        hop_octets (option_map destination_of destination.now)) }
     ensures err { OnErr result (Extends out.old.items out.new.items) }
 {
     if let Some(destination) = destination {

@@ -13,7 +13,7 @@ use crate::fields::{
 use crate::priority::Priority;
 use crate::view::View;
 use std::alloc::{AllocError, Allocator};
-use tags::Fault;
+use tags::{Fault, all_or_none};
 
 /// The one version of the network layer's protocol (6.2.1).
 const VERSION: u8 = 1;
@@ -141,9 +141,6 @@ pub fn write<B: Allocator>(view: &View<'_>, out: &mut Vec<u8, B>) -> Result<(), 
     ensures err { OnErr result (out.new.items ≡ out.old.items) }
 {
     let start = out.len();
-    if put_header(view, out).is_err() {
-        out.truncate(start);
-        return Err(Fault::Memory);
-    }
-    Ok(())
+    let put = put_header(view, out);
+    all_or_none(put, start, out)
 }

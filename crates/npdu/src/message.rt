@@ -71,7 +71,8 @@ impl From<RejectReason> for u8 {
 impl TryFrom<u8> for RejectReason {
     type Error = Fault;
 
-    ghost try_from_gives = { λ n r. MatchResult r (λ reason. reason_number reason ≡ n) (λ fault. (fault ≡ NoSuch) × (n ≢ 1) × (n ≢ 3) × (n ≢ 4)) };
+    ghost try_from_gives = { λ n r. MatchResult r (λ reason. reason_number reason ≡ n)
+        (λ fault. (fault ≡ NoSuch) × (n ≢ 1) × (n ≢ 3) × (n ≢ 4)) };
 
     fn try_from(number: u8) -> Result<RejectReason, Fault> {
         match number {

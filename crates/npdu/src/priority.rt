@@ -26,7 +26,8 @@ impl From<Priority> for u8 {
 impl TryFrom<u8> for Priority {
     type Error = Fault;
 
-    ghost try_from_gives = { λ n r. MatchResult r (λ priority. priority_number priority ≡ n) (λ fault. (fault ≡ NoSuch) × (4 ≤ n)) };
+    ghost try_from_gives = { λ n r. MatchResult r (λ priority. priority_number priority ≡ n)
+        (λ fault. (fault ≡ NoSuch) × (4 ≤ n)) };
 
     fn try_from(number: u8) -> Result<Priority, Fault> {
         match number {

@@ -11,7 +11,8 @@ use Rattle.objects.specs.Writing.{ObjectWrite, failed_at, write}
 -- two objects have one identifier, one type and as many slots
 abbrev pub AreAlike : {A : Type 0} → Object A → Object A → Type 0
 AreAlike (object.Device d) (object.Device e) = d.instance ≡ e.instance
-AreAlike (object.Value o) (object.Value p) = (o.kind ≡ p.kind) × (o.instance ≡ p.instance) × (length o.slots ≡ length p.slots)
+AreAlike (object.Value o) (object.Value p) = (o.kind ≡ p.kind) × (o.instance ≡ p.instance) ×
+    (length o.slots ≡ length p.slots)
 AreAlike o p = ⊥
 
 -- the objects of two tables are alike, each to that of its place

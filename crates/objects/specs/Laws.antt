@@ -42,7 +42,8 @@ WriteLeavesShape A = (t u : PlainTable A) (id : ObjectId) (w : PropertyWrite A) 
 
 -- tables of one shape refuse the same writes, for the same reasons (15.9.1.3)
 abbrev pub ShapeRefuses : Type 0 → Type 0
-ShapeRefuses A = (t u : PlainTable A) (id : ObjectId) (w : PropertyWrite A) (e : Refusal) → HaveOneShape t u → (write t id w ≡ Err e) ↔ (write u id w ≡ Err e)
+ShapeRefuses A = (t u : PlainTable A) (id : ObjectId) (w : PropertyWrite A) (e : Refusal) → HaveOneShape t u →
+    (write t id w ≡ Err e) ↔ (write u id w ≡ Err e)
 
 -- the reply to several writes is the first failure among them, each looked for in the table as it was (15.10.2)
 abbrev pub RepliesFirstFailure : Type 0 → Type 0
@@ -50,11 +51,16 @@ RepliesFirstFailure A = (t : PlainTable A) (ws : List (ObjectWrite A)) → (writ
 
 -- the first write that fails ends the request: those before it stay, and those behind it are not done (15.10.2)
 abbrev pub WritesEndAtFailure : Type 0 → Type 0
-WritesEndAtFailure A = (t u : PlainTable A) (before behind : List (ObjectWrite A)) (w : ObjectWrite A) (e : Refusal) → write_all t before ≡ record { table = u; reply = Done } → write u w.object w.write ≡ Err e → write_all t (before ++ w ∷ behind) ≡ record { table = u; reply = failed_at w e }
+WritesEndAtFailure A = (t u : PlainTable A) (before behind : List (ObjectWrite A)) (w : ObjectWrite A) (e : Refusal) →
+    write_all t before ≡ record { table = u; reply = Done } → write u w.object w.write ≡ Err e →
+    write_all t (before ++ w ∷ behind) ≡ record { table = u; reply = failed_at w e }
 
 -- a WriteProperty whose reply is that all was written is a write that is done (15.9.2)
 abbrev pub DoneIsWritten : Type 0 → Type 0
-DoneIsWritten A = (t : PlainTable A) (id : ObjectId) (number : ℕ) (index : Option ℕ) (values : List (Value A)) (priority : Option ℕ) → reply t (Write id number index values priority) ≡ Done → write t id (record { property = number; index = index; values = values; priority = priority }) ≡ Ok (after t (Write id number index values priority))
+DoneIsWritten A = (t : PlainTable A) (id : ObjectId) (number : ℕ) (index : Option ℕ) (values : List (Value A))
+    (priority : Option ℕ) → reply t (Write id number index values priority) ≡ Done →
+    write t id (record { property = number; index = index; values = values; priority = priority }) ≡
+    Ok (after t (Write id number index values priority))
 
 -- a reply after which nothing was written: what was read, or the error of a request with one property
 abbrev pub SaysNoWrite : {A : Type 0} → Reply A → Type 0
@@ -88,11 +94,13 @@ RequestLeavesObjectList A = (t : PlainTable A) (q : Request A) → object_list (
 
 -- a write leaves every other object as it was (15.9.2)
 abbrev pub WriteLeavesOtherObjects : Type 0 → Type 0
-WriteLeavesOtherObjects A = (t u : PlainTable A) (id other : ObjectId) (w : PropertyWrite A) → write t id w ≡ Ok u → other ≢ id → object_at u other ≡ object_at t other
+WriteLeavesOtherObjects A = (t u : PlainTable A) (id other : ObjectId) (w : PropertyWrite A) → write t id w ≡ Ok u →
+    other ≢ id → object_at u other ≡ object_at t other
 
 -- and so all that is read of it (15.9.2)
 abbrev pub WriteLeavesOtherReads : Type 0 → Type 0
-WriteLeavesOtherReads A = (t u : PlainTable A) (id other : ObjectId) (w : PropertyWrite A) (number : ℕ) (index : Option ℕ) → write t id w ≡ Ok u → other ≢ id → read u other number index ≡ read t other number index
+WriteLeavesOtherReads A = (t u : PlainTable A) (id other : ObjectId) (w : PropertyWrite A) (number : ℕ)
+    (index : Option ℕ) → write t id w ≡ Ok u → other ≢ id → read u other number index ≡ read t other number index
 
 -- the properties through which a written one shows, itself among them (12.8.6, 19.2)
 abbrev pub shown_by : Property → List Property
@@ -105,13 +113,19 @@ shown_by p = p ∷ []
 abbrev pub IsNotShownBy : Property → ℕ → Type 0
 IsNotShownBy written number = AllByRecursion (λ p. property_number p ≢ number) (shown_by written)
 
--- of its own object, a write leaves what is read of all properties but those through which the written one shows (15.9.2)
+-- of its own object, a write leaves what is read of all properties but those through which the written one shows
+-- (15.9.2)
 abbrev pub WriteLeavesOtherProperties : Type 0 → Type 0
-WriteLeavesOtherProperties A = (t u : PlainTable A) (id : ObjectId) (w : PropertyWrite A) (written : Property) (number : ℕ) (index : Option ℕ) → write t id w ≡ Ok u → property_number written ≡ w.property → IsNotShownBy written number → read u id number index ≡ read t id number index
+WriteLeavesOtherProperties A = (t u : PlainTable A) (id : ObjectId) (w : PropertyWrite A) (written : Property)
+    (number : ℕ) (index : Option ℕ) → write t id w ≡ Ok u → property_number written ≡ w.property →
+    IsNotShownBy written number → read u id number index ≡ read t id number index
 
 -- a command leaves what is read of every slot of another level (19.2)
 abbrev pub CommandLeavesOtherLevels : Type 0 → Type 0
-CommandLeavesOtherLevels A = (t u : PlainTable A) (id : ObjectId) (w : PropertyWrite A) (level : ℕ) → write t id w ≡ Ok u → w.property ≡ property_number property.PresentValue → level ≢ level_of w.priority → read u id (property_number property.PriorityArray) (Some level) ≡ read t id (property_number property.PriorityArray) (Some level)
+CommandLeavesOtherLevels A = (t u : PlainTable A) (id : ObjectId) (w : PropertyWrite A) (level : ℕ) →
+    write t id w ≡ Ok u → w.property ≡ property_number property.PresentValue → level ≢ level_of w.priority →
+    read u id (property_number property.PriorityArray) (Some level) ≡ read t id (property_number property.PriorityArray)
+    (Some level)
 
 -- a value is in force: that of the filled slot of the least number, or the default where no slot is filled (19.2)
 abbrev pub IsValueInForce : {A : Type 0} → ValueObject A → Value A → Type 0
@@ -119,7 +133,9 @@ IsValueInForce o v = IsInForce o.slots v ⊎ (NoneFilled o.slots × (v ≡ o.def
 
 -- Present_Value of a value object reads the value in force, and no other (15.5.2, 19.2)
 abbrev pub PresentIsInForce : Type 0 → Type 0
-PresentIsInForce A = (t : PlainTable A) (id : ObjectId) (o : ValueObject A) (v : Value A) → object_at t id ≡ Some (object.Value o) → (read t id (property_number property.PresentValue) None ≡ Ok (v ∷ [])) ↔ IsValueInForce o v
+PresentIsInForce A = (t : PlainTable A) (id : ObjectId) (o : ValueObject A) (v : Value A) →
+    object_at t id ≡ Some (object.Value o) → (read t id (property_number property.PresentValue) None ≡
+    Ok (v ∷ [])) ↔ IsValueInForce o v
 
 -- the slots of all higher priorities of an object are empty (19.2)
 pub record NoneHigherAt {A : Type 0} (t : PlainTable A) (id : ObjectId) (level : ℕ) : Type 0 where
@@ -127,12 +143,17 @@ pub record NoneHigherAt {A : Type 0} (t : PlainTable A) (id : ObjectId) (level :
 
 -- the slot of its level reads back what was commanded; Null so empties that slot (19.2.1)
 abbrev pub CommandReadsBack : Type 0 → Type 0
-CommandReadsBack A = (t u : PlainTable A) (id : ObjectId) (w : PropertyWrite A) → IsSoundTable t → IsSoundPriority w.priority → write t id w ≡ Ok u → w.property ≡ property_number property.PresentValue → read u id (property_number property.PriorityArray) (Some (level_of w.priority)) ≡ Ok w.values
+CommandReadsBack A = (t u : PlainTable A) (id : ObjectId) (w : PropertyWrite A) → IsSoundTable t →
+    IsSoundPriority w.priority → write t id w ≡ Ok u → w.property ≡ property_number property.PresentValue →
+    read u id (property_number property.PriorityArray) (Some (level_of w.priority)) ≡ Ok w.values
 
 -- Present_Value reads back a value that was commanded while the slots of all higher priorities are empty (19.2)
 abbrev pub CommandShows : Type 0 → Type 0
-CommandShows A = (t u : PlainTable A) (id : ObjectId) (w : PropertyWrite A) → IsSoundTable t → IsSoundPriority w.priority → write t id w ≡ Ok u → w.property ≡ property_number property.PresentValue → w.values ≢ value.Null ∷ [] → NoneHigherAt t id (level_of w.priority) → read u id w.property None ≡ Ok w.values
+CommandShows A = (t u : PlainTable A) (id : ObjectId) (w : PropertyWrite A) → IsSoundTable t →
+    IsSoundPriority w.priority → write t id w ≡ Ok u → w.property ≡ property_number property.PresentValue →
+    w.values ≢ value.Null ∷ [] → NoneHigherAt t id (level_of w.priority) → read u id w.property None ≡ Ok w.values
 
 -- every other property reads back what was written (15.9.2)
 abbrev pub WriteReadsBack : Type 0 → Type 0
-WriteReadsBack A = (t u : PlainTable A) (id : ObjectId) (w : PropertyWrite A) → write t id w ≡ Ok u → w.property ≢ property_number property.PresentValue → read u id w.property None ≡ Ok w.values
+WriteReadsBack A = (t u : PlainTable A) (id : ObjectId) (w : PropertyWrite A) → write t id w ≡ Ok u →
+    w.property ≢ property_number property.PresentValue → read u id w.property None ≡ Ok w.values

@@ -29,7 +29,12 @@ abbrev pub outcome : {A : Type 0} → PlainTable A → Request A → Outcome A
 outcome t (Read object property index) = record { table = t; reply = reading_reply (read t object property index) }
 outcome t (ReadMany asked) = record { table = t; reply = Many (map (results_of t) asked) }
 outcome t (Write object property index values priority) =
-    write_outcome t (write t object (record { property = property; index = index; values = values; priority = priority }))
+    write_outcome t (write t object (record {
+      property = property;
+      index = index;
+      values = values;
+      priority = priority;
+    }))
 outcome t (WriteMany asked) = write_all t (in_order asked)
 
 -- what the device replies

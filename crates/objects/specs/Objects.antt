@@ -107,7 +107,8 @@ abbrev pub units_of : {A : Type 0} → ValueKind → List (Value A)
 units_of (kind.Integer units) = value.Enum units ∷ []
 units_of k = []
 
--- what a property of a value object holds: all elements of an array, else one value; nothing for a property of other types (12.8, 12.20, 12.37, 12.43)
+-- what a property of a value object holds: all elements of an array, else one value; nothing for a property of other
+-- types (12.8, 12.20, 12.37, 12.43)
 abbrev pub held_by_value : {A : Type 0} → ValueObject A → Property → List (Value A)
 held_by_value o property.ObjectIdentifier = value.Object (identifier (object.Value o)) ∷ []
 held_by_value o property.ObjectName = text o.name ∷ []
@@ -136,7 +137,7 @@ object_list t = map (λ o. value.Object (identifier o)) t
 abbrev pub held_by_device : {A : Type 0} → PlainTable A → DeviceObject A → Property → List (Value A)
 held_by_device t d property.ObjectIdentifier = value.Object (identifier (object.Device d)) ∷ []
 held_by_device t d property.ObjectName = text d.name ∷ []
-held_by_device t d property.ObjectType = value.Enum 8 ∷ []
+held_by_device t d property.ObjectType = value.Enum (type_number type.Device) ∷ []
 held_by_device t d property.SystemStatus = value.Enum 0 ∷ []
 held_by_device t d property.VendorName = text (codes "bacsite") ∷ []
 held_by_device t d property.VendorIdentifier = value.Unsigned d.vendor ∷ []

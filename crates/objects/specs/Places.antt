@@ -14,7 +14,8 @@ place_of (p ∷ ps) id = if same_id p id then Some 0 else option_map suc (place_
 abbrev pub id_cmp : ObjectId → ObjectId → Ordering
 id_cmp p q = ordering_then (nat_cmp p.object_type q.object_type) (nat_cmp p.instance q.instance)
 
--- where an identifier first stands once another is put at a place behind all: where it stood, or there if it is that one
+-- where an identifier first stands once another is put at a place behind all: where it stood, or there if it is that
+-- one
 abbrev pub also_at : Option ℕ → ObjectId → ℕ → ObjectId → Option ℕ
 also_at (Some found) put place id = Some found
 also_at None put place id = if same_id put id then Some place else None

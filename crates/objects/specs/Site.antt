@@ -18,11 +18,25 @@ use Rattle.objects.specs.Writing.{datatype_of, value_refusal, text_refusal}
 
 -- a value object as it opens: its slots are empty, and it is in service (12.8, 19.2)
 abbrev pub opening_value : {A : Type 0} → SiteObject A → Object A
-opening_value o = object.Value (record { kind = o.kind; instance = o.instance; name = o.name; slots = no_slots; default = o.default; out_of_service = false; description = o.description })
+opening_value o = object.Value (record {
+  kind = o.kind;
+  instance = o.instance;
+  name = o.name;
+  slots = no_slots;
+  default = o.default;
+  out_of_service = false;
+  description = o.description;
+})
 
 -- the Device object as it opens: its description is empty (12.11)
 abbrev pub opening_device : {A : Type 0} → SiteObjects A → Object A
-opening_device s = object.Device (record { instance = s.instance; name = s.name; vendor = s.vendor; data_link = s.data_link; description = [] })
+opening_device s = object.Device (record {
+  instance = s.instance;
+  name = s.name;
+  vendor = s.vendor;
+  data_link = s.data_link;
+  description = [];
+})
 
 -- the opening table of a site's objects: the Device object, then the others in their order (12.11.16)
 abbrev pub opening_table : {A : Type 0} → SiteObjects A → PlainTable A
@@ -101,6 +115,7 @@ pub record IsSoundTable {A : Type 0} (t : PlainTable A) : Type 0 where
 abbrev pub IsSite : {A : Type 0} → SiteObjects A → Type 0
 IsSite s = IsSoundTable (opening_table s)
 
--- some text, number or value of a site is out of range, there are over 512 value objects, or two objects have one identifier or name (12)
+-- some text, number or value of a site is out of range, there are over 512 value objects, or two objects have one
+-- identifier or name (12)
 pub record IsFaultySite {A : Type 0} (s : SiteObjects A) : Type 0 where
   pub faulty : IsSite s → ⊥

@@ -69,7 +69,8 @@ in_range fits = if fits then None else Some out_of_range
 -- why a text is not taken: its character set, its length, or octets that are no UTF-8 (20.2.9)
 abbrev pub text_refusal : ℕ → List ℕ → Option Refusal
 text_refusal set octets =
-    if set == 0 then (if nat_lt 128 (length octets) then Some no_space else in_range (is_utf8 octets)) else Some other_character_set
+    if set == 0 then (if nat_lt 128 (length octets) then Some no_space else in_range (is_utf8 octets))
+    else Some other_character_set
 
 -- why a value is not taken where this type is wanted (15.9.1.3)
 abbrev pub value_refusal : {A : Type 0} → Datatype → Value A → Option Refusal
@@ -140,10 +141,12 @@ unless None t = Ok t
 unless (Some e) t = Err e
 
 -- a write to a place (15.9.2)
-abbrev pub write_place : {A : Type 0} → PlainTable A → ObjectId → PropertyWrite A → Result (Place A) Refusal → Result (PlainTable A) Refusal
+abbrev pub write_place : {A : Type 0} → PlainTable A → ObjectId → PropertyWrite A → Result (Place A) Refusal →
+    Result (PlainTable A) Refusal
 write_place t id w (Err e) = Err e
 write_place t id w (Ok at) =
-    unless (write_refusal (access at.object at.property) (level_of w.priority) w.values) (with_object t id (put at.property (level_of w.priority) w.values))
+    unless (write_refusal (access at.object at.property) (level_of w.priority) w.values)
+    (with_object t id (put at.property (level_of w.priority) w.values))
 
 -- what a write leaves, or the first rule that refuses it, which changes nothing (15.9.2)
 abbrev pub write : {A : Type 0} → PlainTable A → ObjectId → PropertyWrite A → Result (PlainTable A) Refusal
@@ -172,7 +175,8 @@ abbrev pub failed_at : {A : Type 0} → ObjectWrite A → Refusal → Reply A
 failed_at w e = ErrorAt (e.0) (e.1) w.object w.write.property w.write.index
 
 -- a failed write ends the request and changes nothing; after one that is done the others follow (15.10.2)
-abbrev pub go_on : {A : Type 0} → PlainTable A → ObjectWrite A → Result (PlainTable A) Refusal → (PlainTable A → Outcome A) → Outcome A
+abbrev pub go_on : {A : Type 0} → PlainTable A → ObjectWrite A → Result (PlainTable A) Refusal →
+    (PlainTable A → Outcome A) → Outcome A
 go_on t w (Err e) next = record { table = t; reply = failed_at w e }
 go_on t w (Ok written) next = next written
 

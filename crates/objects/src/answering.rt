@@ -178,7 +178,8 @@ impl<A: Allocator + Copy> Table<A> {
         reference: PropertyReference,
         entries: &mut Items<PropertyResult<A>, A>,
     ) -> Result<(), AllocError>
-        ensures { OnOk result (entries.new ≡ entries.old ++ selected_entries self.now id object.now reference.property reference.index) }
+        ensures { OnOk result (entries.new ≡ entries.old ++
+            selected_entries self.now id object.now reference.property reference.index) }
     {
         if reference.index.is_some() {
             return entries.push(PropertyResult {
@@ -198,7 +199,8 @@ impl<A: Allocator + Copy> Table<A> {
         number: u32,
         entries: &mut Items<PropertyResult<A>, A>,
     ) -> Result<(), AllocError>
-        ensures { OnOk result (entries.new ≡ entries.old ++ map (λ p. entry self.now id (property_number p) None) (filter (is_selected number) properties.now)) }
+        ensures { OnOk result (entries.new ≡ entries.old ++ map (λ p. entry self.now id (property_number p) None)
+            (filter (is_selected number) properties.now)) }
     {
         for property in properties {
             if is_selected(*property, number) {
@@ -282,7 +284,8 @@ fn refusal_at<A: Allocator>(
     values: &[Value<A>],
     priority: Option<u8>,
 ) -> Option<Refusal>
-    ensures refused { result ≡ place_refusal (locate_property objects.now (Some object.now) number index) values.now priority }
+    ensures refused { result ≡ place_refusal (locate_property objects.now
+        (Some object.now) number index) values.now priority }
     ensures sound { result ≡ None → AreSound values.now }
 {
     match locate(objects, object, number, index) {

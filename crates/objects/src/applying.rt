@@ -150,7 +150,8 @@ fn put_at<A: Allocator>(
     values: Values<A>,
 )
     requires { place < length objects.old.items }
-    ensures { (o : Object A) (p : Property) → slice_get objects.old.items place ≡ Some o → property_at o number ≡ Some p → objects.new.items ≡ slice_set objects.old.items place (put p level values o) }
+    ensures { (o : Object A) (p : Property) → slice_get objects.old.items place ≡ Some o →
+        property_at o number ≡ Some p → objects.new.items ≡ slice_set objects.old.items place (put p level values o) }
 {
     if let Some(property) = objects[place].property(number) {
         put(&mut objects[place], property, level, values);

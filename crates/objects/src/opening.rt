@@ -54,7 +54,8 @@ fn has_objects_apart<A: Allocator>(site: &SiteObjects<A>) -> bool
 
 /// Whether no value object has the Device object's identifier or name.
 fn is_device_apart<A: Allocator>(site: &SiteObjects<A>) -> bool
-    ensures { IsTrue result ↔ AllByRecursion (IsOther (identifier (opening_device site.now)) (name_of (opening_device site.now))) (map opening_value site.now.objects) }
+    ensures { IsTrue result ↔ AllByRecursion (IsOther (identifier (opening_device site.now))
+        (name_of (opening_device site.now))) (map opening_value site.now.objects) }
 {
     is_other(
         device_identifier(site),
@@ -156,7 +157,8 @@ fn are_apart<A: Allocator>(objects: &[SiteObject<A>]) -> bool
 
 /// Whether none of the others has an object's identifier or name.
 fn is_apart<A: Allocator>(object: &SiteObject<A>, others: &[SiteObject<A>]) -> bool
-    ensures { IsTrue result ↔ AllByRecursion (IsOther (identifier (opening_value object.now)) (name_of (opening_value object.now))) (map opening_value others.now) }
+    ensures { IsTrue result ↔ AllByRecursion (IsOther (identifier (opening_value object.now))
+        (name_of (opening_value object.now))) (map opening_value others.now) }
 {
     is_other(value_identifier(object), object.name.as_slice(), others)
 }

@@ -69,7 +69,8 @@ fn note_place<A: Allocator + Copy>(
     id: ObjectId,
     place: usize,
 ) -> Result<(), AllocError>
-    ensures noted { OnOk result ((q : ObjectId) → tree.get id_cmp places.new q ≡ also_at (tree.get id_cmp places.old q) id place q) }
+    ensures noted { OnOk result ((q : ObjectId) → tree.get id_cmp places.new q ≡
+        also_at (tree.get id_cmp places.old q) id place q) }
     ensures unchanged { OnErr result ((q : ObjectId) → tree.get id_cmp places.new q ≡ tree.get id_cmp places.old q) }
 {
     if !places.contains_key(&id) {

@@ -52,8 +52,10 @@ pub fn locate<A: Allocator>(
     number: u32,
     index: Option<u32>,
 ) -> Result<Property, Refusal>
-    ensures found { IfOk result (λ property. locate_property objects.now (Some object.now) number index ≡ Ok (record { object = object.now; property = property })) }
-    ensures refused { IfErr result (λ refusal. locate_property objects.now (Some object.now) number index ≡ Err refusal) }
+    ensures found { IfOk result (λ property. locate_property objects.now (Some object.now) number index ≡
+        Ok (record { object = object.now; property = property })) }
+    ensures refused { IfErr result (λ refusal. locate_property objects.now (Some object.now) number index ≡
+        Err refusal) }
     ensures indexed { IfOk result (λ property. index ≢ None → is_array property ≡ true) }
 {
     let Some(property) = object.property(number) else {
@@ -419,7 +421,10 @@ fn one_object<A: Allocator + Copy>(
     object_type: ObjectType,
     instance: u32,
 ) -> Result<Values<A>, AllocError>
-    ensures { IfOk result (λ values. values ≡ value.Object (record { object_type = type_number object_type; instance = instance }) ∷ []) }
+    ensures { IfOk result (λ values. values ≡ value.Object (record {
+      object_type = type_number object_type;
+      instance = instance;
+    }) ∷ []) }
 {
     one(
         alloc,

@@ -50,7 +50,8 @@ impl<A: Allocator + Copy> Table<A> {
     pub fn new(alloc: A, site: SiteObjects<A>) -> Result<Self, Fault>
         ensures opened { IfOk result (λ table. table ≡ opening_table site) }
         ensures sound { OnOk result (IsSite site) }
-        ensures refused { IfErr result (λ fault. (fault ≡ Fault.Memory) ⊎ ((fault ≡ Fault.BadSite) × IsFaultySite site)) }
+        ensures refused { IfErr result (λ fault. (fault ≡ Fault.Memory) ⊎
+            ((fault ≡ Fault.BadSite) × IsFaultySite site)) }
     {
         if !is_site(&site) {
             return Err(Fault::BadSite);
@@ -113,7 +114,8 @@ fn read_found<A: Allocator + Copy>(
     index: Option<u32>,
 ) -> Result<Result<Values<A>, Refusal>, AllocError>
     requires { length objects.now < 2 ^ 31 }
-    ensures { IfOk result (λ reading. reading ≡ read_place objects.now (locate_property objects.now (Some object.now) number index) index) }
+    ensures { IfOk result (λ reading. reading ≡ read_place objects.now
+        (locate_property objects.now (Some object.now) number index) index) }
 {
     match locate(objects, object, number, index) {
         Ok(property) => Ok(Ok(reading::read(alloc, objects, object, property, index)?)),

@@ -63,7 +63,8 @@ IsSoundRequest (WriteMany asked) = (asked ≢ []) × AllByRecursion IsSoundWrite
 
 -- a class and a code of 32 bits, each under its name (18)
 abbrev pub IsSoundError : ErrorClass → ErrorCode → Type 0
-IsSoundError class code = (class_number class < 2 ^ 32) × IsNamedClass class × (code_number code < 2 ^ 32) × IsNamedCode code
+IsSoundError class code = (class_number class < 2 ^ 32) × IsNamedClass class × (code_number code < 2 ^ 32) ×
+    IsNamedCode code
 
 -- sound values, or a sound error
 abbrev pub IsSoundReading : {A : Type 0} → Result (List (Value A)) (ErrorClass × ErrorCode) → Type 0

@@ -33,7 +33,8 @@ impl From<ObjectType> for u16 {
 impl TryFrom<u16> for ObjectType {
     type Error = Fault;
 
-    ghost try_from_gives = { λ number result. MatchResult result (λ object_type. type_number object_type ≡ number) (λ fault. (fault ≡ NoSuch) × NoObjectType number) };
+    ghost try_from_gives = { λ number result. MatchResult result (λ object_type. type_number object_type ≡ number)
+        (λ fault. (fault ≡ NoSuch) × NoObjectType number) };
 
     fn try_from(number: u16) -> Result<ObjectType, Fault> {
         match number {

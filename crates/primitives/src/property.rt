@@ -114,7 +114,8 @@ impl From<Property> for u32 {
 impl TryFrom<u32> for Property {
     type Error = Fault;
 
-    ghost try_from_gives = { λ number result. MatchResult result (λ property. property_number property ≡ number) (λ fault. (fault ≡ NoSuch) × NoProperty number) };
+    ghost try_from_gives = { λ number result. MatchResult result (λ property. property_number property ≡ number)
+        (λ fault. (fault ≡ NoSuch) × NoProperty number) };
 
     fn try_from(number: u32) -> Result<Property, Fault> {
         Ok(match number {

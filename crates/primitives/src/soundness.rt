@@ -81,7 +81,7 @@ impl<A: Allocator> Reply<A> {
 }
 
 /// What requests and replies are made of, and what may lack a spelling.
-pub(crate) trait Part {
+pub(crate) trait HasSpelling {
     ghost use Rattle.std.specs.Prelude.{◌↔◌, IsTrue};
 
     ghost IsSound: { Self → Type 0 };
@@ -92,7 +92,7 @@ pub(crate) trait Part {
 }
 
 /// Whether each has a spelling.
-fn all_have_spelling<T: Part>(parts: &[T]) -> bool
+fn all_have_spelling<T: HasSpelling>(parts: &[T]) -> bool
     ensures { IsTrue result ↔ AllByRecursion T.IsSound parts.now }
 {
     let mut left = parts;
@@ -105,7 +105,7 @@ fn all_have_spelling<T: Part>(parts: &[T]) -> bool
     true
 }
 
-impl<A: Allocator> Part for Value<A> {
+impl<A: Allocator> HasSpelling for Value<A> {
     ghost use Rattle.tags.specs.Value.{IsSound};
 
     ghost IsSound = { IsSound };
@@ -115,7 +115,7 @@ impl<A: Allocator> Part for Value<A> {
     }
 }
 
-impl Part for PropertyReference {
+impl HasSpelling for PropertyReference {
     ghost use Rattle.primitives.specs.Sound.{IsSoundReference};
 
     ghost IsSound = { IsSoundReference };
@@ -125,7 +125,7 @@ impl Part for PropertyReference {
     }
 }
 
-impl<A: Allocator> Part for ObjectRefs<A> {
+impl<A: Allocator> HasSpelling for ObjectRefs<A> {
     ghost use Rattle.primitives.specs.Sound.{IsSoundRefs};
 
     ghost IsSound = { IsSoundRefs };
@@ -135,7 +135,7 @@ impl<A: Allocator> Part for ObjectRefs<A> {
     }
 }
 
-impl<A: Allocator> Part for PropertyWrite<A> {
+impl<A: Allocator> HasSpelling for PropertyWrite<A> {
     ghost use Rattle.primitives.specs.Sound.{IsSoundWrite};
 
     ghost IsSound = { IsSoundWrite };
@@ -148,7 +148,7 @@ impl<A: Allocator> Part for PropertyWrite<A> {
     }
 }
 
-impl<A: Allocator> Part for ObjectWrites<A> {
+impl<A: Allocator> HasSpelling for ObjectWrites<A> {
     ghost use Rattle.primitives.specs.Sound.{IsSoundWrites};
 
     ghost IsSound = { IsSoundWrites };
@@ -160,7 +160,7 @@ impl<A: Allocator> Part for ObjectWrites<A> {
     }
 }
 
-impl<A: Allocator> Part for PropertyResult<A> {
+impl<A: Allocator> HasSpelling for PropertyResult<A> {
     ghost use Rattle.primitives.specs.Sound.{IsSoundResult};
 
     ghost IsSound = { IsSoundResult };
@@ -174,7 +174,7 @@ impl<A: Allocator> Part for PropertyResult<A> {
     }
 }
 
-impl<A: Allocator> Part for ObjectResults<A> {
+impl<A: Allocator> HasSpelling for ObjectResults<A> {
     ghost use Rattle.primitives.specs.Sound.{IsSoundResults};
 
     ghost IsSound = { IsSoundResults };

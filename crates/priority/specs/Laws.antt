@@ -19,15 +19,18 @@ pub record NoneFilled {T : Type 0} (slots : List (Option T)) : Type 0 where
 
 -- what is put into a slot stands there
 abbrev pub PutIsHeld : Type 0 → Type 0
-PutIsHeld T = (slots : List (Option T)) (level : ℕ) (value : Option T) → 1 ≤ level → level ≤ length slots → slot (put_slot slots level value) level ≡ value
+PutIsHeld T = (slots : List (Option T)) (level : ℕ) (value : Option T) → 1 ≤ level → level ≤ length slots →
+    slot (put_slot slots level value) level ≡ value
 
 -- what stands in every other slot stays
 abbrev pub PutLeavesOthers : Type 0 → Type 0
-PutLeavesOthers T = (slots : List (Option T)) (level other : ℕ) (value : Option T) → 1 ≤ level → 1 ≤ other → other ≢ level → slot (put_slot slots level value) other ≡ slot slots other
+PutLeavesOthers T = (slots : List (Option T)) (level other : ℕ) (value : Option T) → 1 ≤ level → 1 ≤ other →
+    other ≢ level → slot (put_slot slots level value) other ≡ slot slots other
 
 -- there are as many slots as before
 abbrev pub PutKeepsLength : Type 0 → Type 0
-PutKeepsLength T = (slots : List (Option T)) (level : ℕ) (value : Option T) → length (put_slot slots level value) ≡ length slots
+PutKeepsLength T = (slots : List (Option T)) (level : ℕ) (value : Option T) →
+    length (put_slot slots level value) ≡ length slots
 
 -- the first filled slot is the one that is in force
 abbrev pub FirstIsInForce : Type 0 → Type 0
@@ -39,7 +42,8 @@ NoFirstIsNoneFilled T = (slots : List (Option T)) → (first_filled slots ≡ No
 
 -- a value put into a slot is in force where the slots of all higher priorities are empty
 abbrev pub PutIsInForce : Type 0 → Type 0
-PutIsInForce T = (slots : List (Option T)) (level : ℕ) (value : T) → 1 ≤ level → level ≤ length slots → NoneHigher slots level → first_filled (put_slot slots level (Some value)) ≡ Some value
+PutIsInForce T = (slots : List (Option T)) (level : ℕ) (value : T) → 1 ≤ level → level ≤ length slots →
+    NoneHigher slots level → first_filled (put_slot slots level (Some value)) ≡ Some value
 
 -- sixteen empty slots are sixteen, and each is empty
 abbrev pub NewAreEmpty : Type 0 → Type 0
@@ -47,4 +51,5 @@ NewAreEmpty T = (length (no_slots {T = T}) ≡ 16) × NoneFilled (no_slots {T = 
 
 -- as many slots that hold the same at each level are the same
 abbrev pub SameAtEachLevel : Type 0 → Type 0
-SameAtEachLevel T = (slots others : List (Option T)) → length slots ≡ length others → ((level : ℕ) → 1 ≤ level → level ≤ length slots → slot slots level ≡ slot others level) → slots ≡ others
+SameAtEachLevel T = (slots others : List (Option T)) → length slots ≡ length others →
+    ((level : ℕ) → 1 ≤ level → level ≤ length slots → slot slots level ≡ slot others level) → slots ≡ others

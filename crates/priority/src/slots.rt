@@ -34,7 +34,8 @@ pub struct Slots<T> {
 impl<T> Model for Slots<T> {
     ghost Value = { List (Option T) };
 
-    ghost view = { λ s. s.level_1 ∷ s.level_2 ∷ s.level_3 ∷ s.level_4 ∷ s.level_5 ∷ s.level_6 ∷ s.level_7 ∷ s.level_8 ∷ s.level_9 ∷ s.level_10 ∷ s.level_11 ∷ s.level_12 ∷ s.level_13 ∷ s.level_14 ∷ s.level_15 ∷ s.level_16 ∷ [] };
+    ghost view = { λ s. s.level_1 ∷ s.level_2 ∷ s.level_3 ∷ s.level_4 ∷ s.level_5 ∷ s.level_6 ∷ s.level_7 ∷ s.level_8 ∷
+        s.level_9 ∷ s.level_10 ∷ s.level_11 ∷ s.level_12 ∷ s.level_13 ∷ s.level_14 ∷ s.level_15 ∷ s.level_16 ∷ [] };
 }
 
 impl<T: Drop> Slots<T> {

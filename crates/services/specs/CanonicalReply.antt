@@ -17,7 +17,8 @@ use Rattle.services.specs.CanonicalRequest.{values_field, in_turn, read_octets}
 -- values between the tags 4, or class and code between the tags 5 (15.7.3.2)
 abbrev pub reading_octets : {A : Type 0} → Result (List (Value A)) (ErrorClass × ErrorCode) → List ℕ
 reading_octets (Ok values) = values_field 4 values
-reading_octets (Err e) = opening_octets 5 ++ class_and_code_octets (class_number e.0) (code_number e.1) ++ closing_octets 5
+reading_octets (Err e) = opening_octets 5 ++ class_and_code_octets (class_number e.0)
+    (code_number e.1) ++ closing_octets 5
 
 -- a property, its index, and what was read of it (15.7.3.2)
 abbrev pub result_octets : {A : Type 0} → PropertyResult A → List ℕ
@@ -29,6 +30,7 @@ results_octets r = object_field 0 r.object ++ opening_octets 1 ++ in_turn result
 
 -- the octets behind the header of the ComplexACK: none where the reply goes in another PDU (15.5.1, 15.7.3.2)
 abbrev pub canonical_reply : {A : Type 0} → Request A → Reply A → List ℕ
-canonical_reply (Read object property index) (Values values) = read_octets object property index ++ values_field 3 values
+canonical_reply (Read object property index) (Values values) = read_octets object property index ++
+    values_field 3 values
 canonical_reply (ReadMany asked) (Many results) = in_turn results_octets results
 canonical_reply request reply = []

@@ -30,7 +30,8 @@ refs_octets r = object_field 0 r.object ++ opening_octets 1 ++ in_turn reference
 
 -- a property, its index, its values and its priority (21, BACnetPropertyValue)
 abbrev pub write_octets : {A : Type 0} → PropertyWrite A → List ℕ
-write_octets w = number_field 0 w.property ++ option_field 1 w.index ++ values_field 2 w.values ++ option_field 3 w.priority
+write_octets w = number_field 0 w.property ++ option_field 1 w.index ++ values_field 2 w.values ++
+    option_field 3 w.priority
 
 -- an object and the writes to it (15.10.3.1, WriteAccessSpecification)
 abbrev pub writes_octets : {A : Type 0} → ObjectWrites A → List ℕ
@@ -44,5 +45,6 @@ read_octets object property index = object_field 0 object ++ number_field 1 prop
 abbrev pub canonical_request : {A : Type 0} → Request A → List ℕ
 canonical_request (Read object property index) = read_octets object property index
 canonical_request (ReadMany asked) = in_turn refs_octets asked
-canonical_request (Write object property index values priority) = read_octets object property index ++ values_field 3 values ++ option_field 4 priority
+canonical_request (Write object property index values priority) = read_octets object property index ++
+    values_field 3 values ++ option_field 4 priority
 canonical_request (WriteMany asked) = in_turn writes_octets asked

@@ -11,6 +11,7 @@ use Rattle.tags.specs.Refusal.{IsBadNumber, RefusesValue}
 use Rattle.tags.specs.Value.{TakesValue}
 use Rattle.primitives.specs.Sound.{IsSoundPriority}
 use Rattle.apdu.specs.Parameter.{IsObject, Takes}
+use Rattle.apdu.specs.Parameter as parameter
 use Rattle.apdu.specs.declared.numbers.RejectReason.{RejectReason}
 use Rattle.apdu.specs.declared.numbers.RejectReason.TheVariants.{InvalidParameterDataType, InvalidTag, MissingRequiredParameter, ParameterOutOfRange, TooManyArguments}
 
@@ -31,8 +32,8 @@ abbrev pub TakesClosing : List ℕ → ℕ → List ℕ → Type 0
 TakesClosing octets number rest = TakesTag octets (context number closing) rest
 
 -- no context tag of this number with contents stands at the front
-pub record NoContents (octets : List ℕ) (number : ℕ) : Type 0 where
-  pub none : (inner rest : List ℕ) → TakesTag octets (context number (contents inner)) rest → ⊥
+abbrev pub NoContents : List ℕ → ℕ → Type 0
+NoContents octets number = parameter.NoContents Context number octets
 
 -- no opening tag of this number stands at the front
 pub record NoOpening (octets : List ℕ) (number : ℕ) : Type 0 where
@@ -84,8 +85,8 @@ pub record HasBadNumber (octets : List ℕ) (number : ℕ) : Type 0 where
   pub bad : IsBadNumber inner
 
 -- a tag other than the context tag of this number with contents
-pub record IsOtherTag (t : PlainTag) (number : ℕ) : Type 0 where
-  pub other : (inner : List ℕ) → t ≡ context number (contents inner) → ⊥
+abbrev pub IsOtherTag : PlainTag → ℕ → Type 0
+IsOtherTag t number = parameter.CarriesOther Context number t
 
 -- a tag stands at the front, and it is another one
 pub record HasOtherTag (octets : List ℕ) (number : ℕ) : Type 0 where
@@ -142,12 +143,14 @@ RejectsOpening reason octets number = ⊥
 -- why an optional number and the opening tag of a list behind it are rejected (18.9)
 pub data RejectsBehind (reason : RejectReason) (octets : List ℕ) (number list : ℕ) : Type 0 where
   option : RejectsOption reason octets number → RejectsBehind reason octets number list
-  opening_tag : (n : Option ℕ) (at : List ℕ) → TakesOption octets number n at → RejectsOpening reason at list → RejectsBehind reason octets number list
+  opening_tag : (n : Option ℕ) (at : List ℕ) → TakesOption octets number n at → RejectsOpening reason at list →
+      RejectsBehind reason octets number list
 
 -- why neither a value nor the closing tag of their list stands there (18.9): a tag is cut, by the
 -- body's end too, or reserved, or closes another list; or the contents are no value of their tag
 abbrev pub RejectsValue : RejectReason → List ℕ → ℕ → Type 0
-RejectsValue InvalidTag octets number = (RefusesValue Short octets ⊎ RefusesValue BadTag octets) × NoClosing octets number
+RejectsValue InvalidTag octets number = (RefusesValue Short octets ⊎ RefusesValue BadTag octets) ×
+    NoClosing octets number
 RejectsValue InvalidParameterDataType octets number = RefusesValue BadLength octets
 RejectsValue reason octets number = ⊥
 

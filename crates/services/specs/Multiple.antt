@@ -38,21 +38,24 @@ pub record OpensList (octets : List ℕ) (object : ObjectId) (inside : List ℕ)
 -- why they are rejected (18.9)
 pub data RejectsList (reason : RejectReason) (octets : List ℕ) : Type 0 where
   at_object : RejectsObject reason octets 0 → RejectsList reason octets
-  at_opening : (o : ObjectId) (at : List ℕ) → TakesObject octets 0 o at → RejectsOpening reason at 1 → RejectsList reason octets
+  at_opening : (o : ObjectId) (at : List ℕ) → TakesObject octets 0 o at → RejectsOpening reason at 1 →
+      RejectsList reason octets
 
 -- the closing tag of the list stands there already (21)
 pub record HasClosing (octets : List ℕ) : Type 0 where
   pub rest : List ℕ
   pub taken : TakesClosing octets 1 rest
 
--- why no first property is read in a list: the body or the list ends, or no tag or another one stands there, or it has no number (18.9)
+-- why no first property is read in a list: the body or the list ends, or no tag or another one stands there, or it has
+-- no number (18.9)
 abbrev pub RejectsFirst : RejectReason → List ℕ → Type 0
 RejectsFirst MissingRequiredParameter octets = (octets ≡ []) ⊎ HasClosing octets
 RejectsFirst InvalidTag octets = (0 < length octets) × NoClosing octets 1 × NoContents octets 0
 RejectsFirst InvalidParameterDataType octets = HasBadNumber octets 0
 RejectsFirst reason octets = ⊥
 
--- why neither a further property nor the end of the list is read: no tag or another one stands there, or it has no number (18.9)
+-- why neither a further property nor the end of the list is read: no tag or another one stands there, or it has no
+-- number (18.9)
 abbrev pub RejectsNext : RejectReason → List ℕ → Type 0
 RejectsNext InvalidTag octets = NoClosing octets 1 × NoContents octets 0
 RejectsNext InvalidParameterDataType octets = HasBadNumber octets 0
@@ -67,8 +70,11 @@ pub record TakesReference (octets : List ℕ) (r : PropertyReference) (rest : Li
 -- why a list of references is rejected (18.9)
 pub data RejectsReferences (reason : RejectReason) (inside : List ℕ) : Type 0 where
   at_first : RejectsFirst reason inside → RejectsReferences reason inside
-  at_next : (rs : List PropertyReference) (at : List ℕ) → rs ≢ [] → TakesEach TakesReference inside rs at → RejectsNext reason at → RejectsReferences reason inside
-  at_index : (rs : List PropertyReference) (at : List ℕ) (p : ℕ) (behind : List ℕ) → TakesEach TakesReference inside rs at → TakesNumber at 0 p behind → RejectsOption reason behind 1 → RejectsReferences reason inside
+  at_next : (rs : List PropertyReference) (at : List ℕ) → rs ≢ [] → TakesEach TakesReference inside rs at →
+      RejectsNext reason at → RejectsReferences reason inside
+  at_index : (rs : List PropertyReference) (at : List ℕ) (p : ℕ) (behind : List ℕ) →
+      TakesEach TakesReference inside rs at → TakesNumber at 0 p behind → RejectsOption reason behind 1 →
+      RejectsReferences reason inside
 
 -- an object and a list of at least one reference (15.7.3.1, ReadAccessSpecification)
 pub record TakesRefs {A : Type 0} (octets : List ℕ) (r : ObjectRefs A) (rest : List ℕ) : Type 0 where
@@ -82,7 +88,8 @@ pub record TakesRefs {A : Type 0} (octets : List ℕ) (r : ObjectRefs A) (rest :
 -- why they are rejected (18.9)
 pub data RejectsRefs (reason : RejectReason) (octets : List ℕ) : Type 0 where
   at_list : RejectsList reason octets → RejectsRefs reason octets
-  at_references : (o : ObjectId) (inside : List ℕ) → OpensList octets o inside → RejectsReferences reason inside → RejectsRefs reason octets
+  at_references : (o : ObjectId) (inside : List ℕ) → OpensList octets o inside → RejectsReferences reason inside →
+      RejectsRefs reason octets
 
 -- ReadPropertyMultiple: at least one object with its references (15.7.3.1, 21)
 pub record SpellsReadMultiple {A : Type 0} (body : List ℕ) (asked : List (ObjectRefs A)) : Type 0 where
@@ -116,15 +123,22 @@ pub record TakesPropertyWrite {A : Type 0} (octets : List ℕ) (w : PropertyWrit
 -- why what stands behind a written property is rejected (18.9)
 pub data RejectsBehindProperty (A : Type 0) (reason : RejectReason) (octets : List ℕ) : Type 0 where
   at_opening : RejectsBehind reason octets 1 2 → RejectsBehindProperty A reason octets
-  at_values : (i : Option ℕ) (inside : List ℕ) → OpensBehind octets 1 i 2 inside → RejectsInside A reason inside 2 → RejectsBehindProperty A reason octets
-  at_priority : (i : Option ℕ) (inside : List ℕ) (vs : List (Value A)) (at : List ℕ) → OpensBehind octets 1 i 2 inside → TakesInside inside 2 vs at → RejectsOption reason at 3 → RejectsBehindProperty A reason octets
-  at_range : (i : Option ℕ) (inside : List ℕ) (vs : List (Value A)) (at : List ℕ) (n : Option ℕ) (rest : List ℕ) → OpensBehind octets 1 i 2 inside → TakesInside inside 2 vs at → TakesOption at 3 n rest → RejectsRange reason n → RejectsBehindProperty A reason octets
+  at_values : (i : Option ℕ) (inside : List ℕ) → OpensBehind octets 1 i 2 inside → RejectsInside A reason inside 2 →
+      RejectsBehindProperty A reason octets
+  at_priority : (i : Option ℕ) (inside : List ℕ) (vs : List (Value A)) (at : List ℕ) → OpensBehind octets 1 i 2 inside →
+      TakesInside inside 2 vs at → RejectsOption reason at 3 → RejectsBehindProperty A reason octets
+  at_range : (i : Option ℕ) (inside : List ℕ) (vs : List (Value A)) (at : List ℕ) (n : Option ℕ) (rest : List ℕ) →
+      OpensBehind octets 1 i 2 inside → TakesInside inside 2 vs at → TakesOption at 3 n rest → RejectsRange reason n →
+      RejectsBehindProperty A reason octets
 
 -- why a list of writes is rejected (18.9)
 pub data RejectsWriteList (A : Type 0) (reason : RejectReason) (inside : List ℕ) : Type 0 where
   at_first : RejectsFirst reason inside → RejectsWriteList A reason inside
-  at_next : (ws : List (PropertyWrite A)) (at : List ℕ) → ws ≢ [] → TakesEach TakesPropertyWrite inside ws at → RejectsNext reason at → RejectsWriteList A reason inside
-  at_write : (ws : List (PropertyWrite A)) (at : List ℕ) (p : ℕ) (behind : List ℕ) → TakesEach TakesPropertyWrite inside ws at → TakesNumber at 0 p behind → RejectsBehindProperty A reason behind → RejectsWriteList A reason inside
+  at_next : (ws : List (PropertyWrite A)) (at : List ℕ) → ws ≢ [] → TakesEach TakesPropertyWrite inside ws at →
+      RejectsNext reason at → RejectsWriteList A reason inside
+  at_write : (ws : List (PropertyWrite A)) (at : List ℕ) (p : ℕ) (behind : List ℕ) →
+      TakesEach TakesPropertyWrite inside ws at → TakesNumber at 0 p behind → RejectsBehindProperty A reason behind →
+      RejectsWriteList A reason inside
 
 -- an object and a list of at least one write (15.10.3.1, WriteAccessSpecification)
 pub record TakesWrites {A : Type 0} (octets : List ℕ) (w : ObjectWrites A) (rest : List ℕ) : Type 0 where
@@ -138,7 +152,8 @@ pub record TakesWrites {A : Type 0} (octets : List ℕ) (w : ObjectWrites A) (re
 -- why they are rejected (18.9)
 pub data RejectsWrites (A : Type 0) (reason : RejectReason) (octets : List ℕ) : Type 0 where
   at_list : RejectsList reason octets → RejectsWrites A reason octets
-  at_writes : (o : ObjectId) (inside : List ℕ) → OpensList octets o inside → RejectsWriteList A reason inside → RejectsWrites A reason octets
+  at_writes : (o : ObjectId) (inside : List ℕ) → OpensList octets o inside → RejectsWriteList A reason inside →
+      RejectsWrites A reason octets
 
 -- WritePropertyMultiple: at least one object with its writes (15.10.3.1, 21)
 pub record SpellsWriteMultiple {A : Type 0} (body : List ℕ) (asked : List (ObjectWrites A)) : Type 0 where

@@ -38,7 +38,8 @@ pub record GoesOn (octets : List ℕ) (number : ℕ) (option next : Option ℕ) 
 -- why they are rejected
 pub data RejectsGoing (reason : RejectReason) (octets : List ℕ) (number : ℕ) : Type 0 where
   in_option : RejectsOption reason octets number → RejectsGoing reason octets number
-  in_next : (n : Option ℕ) (at : List ℕ) → TakesOption octets number n at → RejectsNext reason at → RejectsGoing reason octets number
+  in_next : (n : Option ℕ) (at : List ℕ) → TakesOption octets number n at → RejectsNext reason at →
+      RejectsGoing reason octets number
 
 -- references up to the closing tag 1, one at least
 pub record References (octets : List ℕ) (rs : List PropertyReference) (rest : List ℕ) : Type 0 where
@@ -55,7 +56,8 @@ pub record PropertyWrites {A : Type 0} (octets : List ℕ) (ws : List (PropertyW
   pub some : ws ≢ []
 
 -- an array index or none, and values between the opening and the closing tag 2
-pub record TakesValuesBehind {A : Type 0} (octets : List ℕ) (index : Option ℕ) (values : List (Value A)) (rest : List ℕ) : Type 0 where
+pub record TakesValuesBehind {A : Type 0} (octets : List ℕ) (index : Option ℕ) (values : List (Value A))
+    (rest : List ℕ) : Type 0 where
   pub inside : List ℕ
   pub opened : OpensBehind octets 1 index 2 inside
   pub values_taken : TakesInside inside 2 values rest
@@ -63,10 +65,13 @@ pub record TakesValuesBehind {A : Type 0} (octets : List ℕ) (index : Option �
 -- why they are rejected
 pub data RejectsValuesBehind (A : Type 0) (reason : RejectReason) (octets : List ℕ) : Type 0 where
   in_opening : RejectsBehind reason octets 1 2 → RejectsValuesBehind A reason octets
-  in_values : (i : Option ℕ) (inside : List ℕ) → OpensBehind octets 1 i 2 inside → RejectsInside A reason inside 2 → RejectsValuesBehind A reason octets
+  in_values : (i : Option ℕ) (inside : List ℕ) → OpensBehind octets 1 i 2 inside → RejectsInside A reason inside 2 →
+      RejectsValuesBehind A reason octets
 
 -- why an optional priority and what goes on behind it are rejected
 pub data RejectsPriority (reason : RejectReason) (octets : List ℕ) : Type 0 where
   in_priority : RejectsOption reason octets 3 → RejectsPriority reason octets
-  in_range : (n : Option ℕ) (at : List ℕ) → TakesOption octets 3 n at → RejectsRange reason n → RejectsPriority reason octets
-  in_next : (n : Option ℕ) (at : List ℕ) → TakesOption octets 3 n at → IsSoundPriority n → RejectsNext reason at → RejectsPriority reason octets
+  in_range : (n : Option ℕ) (at : List ℕ) → TakesOption octets 3 n at → RejectsRange reason n →
+      RejectsPriority reason octets
+  in_next : (n : Option ℕ) (at : List ℕ) → TakesOption octets 3 n at → IsSoundPriority n → RejectsNext reason at →
+      RejectsPriority reason octets

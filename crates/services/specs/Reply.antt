@@ -36,18 +36,21 @@ reading_tag (Ok values) = 4
 reading_tag (Err e) = 5
 
 -- what was read, up to its closing tag, and what follows (15.7.3.2)
-abbrev pub TakesReadingInside : {A : Type 0} → List ℕ → Result (List (Value A)) (ErrorClass × ErrorCode) → List ℕ → Type 0
+abbrev pub TakesReadingInside : {A : Type 0} → List ℕ → Result (List (Value A)) (ErrorClass × ErrorCode) → List ℕ →
+    Type 0
 TakesReadingInside octets (Ok values) rest = TakesInside octets 4 values rest
 TakesReadingInside octets (Err e) rest = TakesErrorInside octets e.0 e.1 rest
 
 -- what was read between its tags, and what follows (15.7.3.2)
-pub record TakesReading {A : Type 0} (octets : List ℕ) (reading : Result (List (Value A)) (ErrorClass × ErrorCode)) (rest : List ℕ) : Type 0 where
+pub record TakesReading {A : Type 0} (octets : List ℕ) (reading : Result (List (Value A)) (ErrorClass × ErrorCode))
+    (rest : List ℕ) : Type 0 where
   pub inside : List ℕ
   pub opened : TakesOpening octets (reading_tag reading) inside
   pub inside_taken : TakesReadingInside inside reading rest
 
 -- an array index under context tag 3 or none, what was read, and what follows (15.7.3.2)
-pub record TakesIndexed {A : Type 0} (octets : List ℕ) (index : Option ℕ) (reading : Result (List (Value A)) (ErrorClass × ErrorCode)) (rest : List ℕ) : Type 0 where
+pub record TakesIndexed {A : Type 0} (octets : List ℕ) (index : Option ℕ)
+    (reading : Result (List (Value A)) (ErrorClass × ErrorCode)) (rest : List ℕ) : Type 0 where
   pub at : List ℕ
   pub index_taken : TakesOption octets 3 index at
   pub reading_taken : TakesReading at reading rest
@@ -84,7 +87,8 @@ failed_at object property index = Some (record { object = object; property = pro
 -- the contents of an Error: class and code, and of WritePropertyMultiple the write that failed (15.10.1.3, 20.1.7)
 abbrev pub SpellsFailure : {A : Type 0} → ServiceError → Reply A → Type 0
 SpellsFailure e (Error class code) = (e.class ≡ class) × (e.code ≡ code) × (e.first_failed ≡ None)
-SpellsFailure e (ErrorAt class code object property index) = (e.class ≡ class) × (e.code ≡ code) × (e.first_failed ≡ failed_at object property index)
+SpellsFailure e (ErrorAt class code object property index) = (e.class ≡ class) × (e.code ≡ code) ×
+    (e.first_failed ≡ failed_at object property index)
 SpellsFailure e reply = ⊥
 
 -- a SimpleACK says that all is done (20.1.4)
@@ -111,7 +115,8 @@ abbrev pub IsSoundFailure : Option ObjectPropertyReference → Type 0
 IsSoundFailure None = Unit {0}
 IsSoundFailure (Some r) = IsSoundId r.object × (r.property < 2 ^ 32) × IsSoundIndex r.index
 
--- a SimpleACK; a ComplexACK of under 2^31 octets of service data; an Error whose class and code have 32 bits and stand under their names, and whose first failed write has a spelling (20.1.4, 20.1.5, 20.1.7)
+-- a SimpleACK; a ComplexACK of under 2^31 octets of service data; an Error whose class and code have 32 bits and stand
+-- under their names, and whose first failed write has a spelling (20.1.4, 20.1.5, 20.1.7)
 abbrev pub IsSoundAnswer : Answer → Type 0
 IsSoundAnswer answer.Simple = Unit {0}
 IsSoundAnswer (answer.Complex octets) = length octets.now < 2 ^ 31

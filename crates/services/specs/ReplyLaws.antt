@@ -11,16 +11,20 @@ use Rattle.services.specs.Reply.{SpellsAck, SpellsReply, GoesIn}
 
 -- an answer spells one reply to a request
 abbrev pub OneReply : Type 0 → Type 0
-OneReply A = (request : Request A) (answer : Answer) (x y : Reply A) → SpellsReply request answer x → SpellsReply request answer y → x ≡ y
+OneReply A = (request : Request A) (answer : Answer) (x y : Reply A) → SpellsReply request answer x →
+    SpellsReply request answer y → x ≡ y
 
 -- the answer in which a sound reply goes, with its canonical octets, spells it
 abbrev pub ReplyIsSpelled : Type 0 → Type 0
-ReplyIsSpelled A = (request : Request A) (x : Reply A) (answer : Answer) → IsSoundRequest request → IsSoundReply x → IsAnswerTo request x → GoesIn x (canonical_reply request x) answer → SpellsReply request answer x
+ReplyIsSpelled A = (request : Request A) (x : Reply A) (answer : Answer) → IsSoundRequest request → IsSoundReply x →
+    IsAnswerTo request x → GoesIn x (canonical_reply request x) answer → SpellsReply request answer x
 
 -- what is written of a sound reply is read as that reply
 abbrev pub ReplyReadsBack : Type 0 → Type 0
-ReplyReadsBack A = (request : Request A) (x y : Reply A) (answer : Answer) → IsSoundRequest request → IsSoundReply x → IsAnswerTo request x → GoesIn x (canonical_reply request x) answer → SpellsReply request answer y → y ≡ x
+ReplyReadsBack A = (request : Request A) (x y : Reply A) (answer : Answer) → IsSoundRequest request → IsSoundReply x →
+    IsAnswerTo request x → GoesIn x (canonical_reply request x) answer → SpellsReply request answer y → y ≡ x
 
 -- no service data that spell a reply to a request are fewer than its canonical ones
 abbrev pub ReplyIsShortest : Type 0 → Type 0
-ReplyIsShortest A = (request : Request A) (octets : List ℕ) (x : Reply A) → AreOctets octets → SpellsAck request octets x → length (canonical_reply request x) ≤ length octets
+ReplyIsShortest A = (request : Request A) (octets : List ℕ) (x : Reply A) → AreOctets octets →
+    SpellsAck request octets x → length (canonical_reply request x) ≤ length octets

@@ -24,17 +24,20 @@ pub record NoErrorInside (octets : List ℕ) : Type 0 where
   pub none : (class : ErrorClass) (code : ErrorCode) (rest : List ℕ) → TakesErrorInside octets class code rest → ⊥
 
 -- the tag opens what was read, which stands behind it
-pub record ReadingUnder {A : Type 0} (t : PlainTag) (octets : List ℕ) (reading : Result (List (Value A)) (ErrorClass × ErrorCode)) (rest : List ℕ) : Type 0 where
+pub record ReadingUnder {A : Type 0} (t : PlainTag) (octets : List ℕ)
+    (reading : Result (List (Value A)) (ErrorClass × ErrorCode)) (rest : List ℕ) : Type 0 where
   pub opens : t ≡ context (reading_tag reading) opening
   pub taken : TakesReadingInside octets reading rest
 
 -- the tag opens nothing of the kind, or nothing of the kind stands behind it
 pub record NoReadingUnder (A : Type 0) (t : PlainTag) (octets : List ℕ) : Type 0 where
-  pub none : (reading : Result (List (Value A)) (ErrorClass × ErrorCode)) (rest : List ℕ) → ReadingUnder t octets reading rest → ⊥
+  pub none : (reading : Result (List (Value A)) (ErrorClass × ErrorCode)) (rest : List ℕ) →
+      ReadingUnder t octets reading rest → ⊥
 
 -- no index and nothing that was read
 pub record NoIndexed (A : Type 0) (octets : List ℕ) : Type 0 where
-  pub none : (index : Option ℕ) (reading : Result (List (Value A)) (ErrorClass × ErrorCode)) (rest : List ℕ) → TakesIndexed octets index reading rest → ⊥
+  pub none : (index : Option ℕ) (reading : Result (List (Value A)) (ErrorClass × ErrorCode)) (rest : List ℕ) →
+      TakesIndexed octets index reading rest → ⊥
 
 -- a further property, or none where the list ends
 abbrev pub TakesNextResult : List ℕ → Option ℕ → List ℕ → Type 0

@@ -21,7 +21,8 @@ request_service (WriteMany asked) = WritePropertyMultiple
 abbrev pub SpellsBody : {A : Type 0} → List ℕ → Request A → Type 0
 SpellsBody body (Read object property index) = SpellsReadProperty body object property index
 SpellsBody body (ReadMany asked) = SpellsReadMultiple body asked
-SpellsBody body (Write object property index values priority) = SpellsWriteProperty body object property index values priority
+SpellsBody body (Write object property index values priority) =
+    SpellsWriteProperty body object property index values priority
 SpellsBody body (WriteMany asked) = SpellsWriteMultiple body asked
 
 -- a service and the body behind it spell the request (15, 21)
@@ -33,9 +34,12 @@ pub record SpellsRequest {A : Type 0} (service : ℕ) (body : List ℕ) (request
 pub data RejectsRequest (A : Type 0) (reason : RejectReason) (service : ℕ) (body : List ℕ) : Type 0 where
   unknown : NoService service → reason ≡ UnrecognizedService → RejectsRequest A reason service body
   read : service ≡ service_number ReadProperty → RejectsReadProperty reason body → RejectsRequest A reason service body
-  read_many : service ≡ service_number ReadPropertyMultiple → RejectsReadMultiple A reason body → RejectsRequest A reason service body
-  write : service ≡ service_number WriteProperty → RejectsWriteProperty A reason body → RejectsRequest A reason service body
-  write_many : service ≡ service_number WritePropertyMultiple → RejectsWriteMultiple A reason body → RejectsRequest A reason service body
+  read_many : service ≡ service_number ReadPropertyMultiple → RejectsReadMultiple A reason body →
+      RejectsRequest A reason service body
+  write : service ≡ service_number WriteProperty → RejectsWriteProperty A reason body →
+      RejectsRequest A reason service body
+  write_many : service ≡ service_number WritePropertyMultiple → RejectsWriteMultiple A reason body →
+      RejectsRequest A reason service body
 
 -- the service and the body spell no other request
 pub record OnlyRequest {A : Type 0} (service : ℕ) (body : List ℕ) (request : Request A) : Type 0 where

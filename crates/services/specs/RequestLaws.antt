@@ -10,24 +10,30 @@ use Rattle.services.specs.Request.{request_service, SpellsRequest, RejectsReques
 
 -- a service and the octets behind it spell one request only
 abbrev pub OneRequest : Type 0 → Type 0
-OneRequest A = (service : ℕ) (body : List ℕ) (x y : Request A) → SpellsRequest service body x → SpellsRequest service body y → x ≡ y
+OneRequest A = (service : ℕ) (body : List ℕ) (x y : Request A) → SpellsRequest service body x →
+    SpellsRequest service body y → x ≡ y
 
 -- the canonical octets of a sound request spell it
 abbrev pub RequestIsSpelled : Type 0 → Type 0
-RequestIsSpelled A = (x : Request A) → IsSoundRequest x → SpellsRequest (service_number (request_service x)) (canonical_request x) x
+RequestIsSpelled A = (x : Request A) → IsSoundRequest x →
+    SpellsRequest (service_number (request_service x)) (canonical_request x) x
 
 -- what is written of a sound request is read as that request
 abbrev pub RequestReadsBack : Type 0 → Type 0
-RequestReadsBack A = (x y : Request A) → IsSoundRequest x → SpellsRequest (service_number (request_service x)) (canonical_request x) y → y ≡ x
+RequestReadsBack A = (x y : Request A) → IsSoundRequest x →
+    SpellsRequest (service_number (request_service x)) (canonical_request x) y → y ≡ x
 
 -- what is rejected spells no request
 abbrev pub RejectedIsNone : Type 0 → Type 0
-RejectedIsNone A = (reason : RejectReason) (service : ℕ) (body : List ℕ) (x : Request A) → RejectsRequest A reason service body → SpellsRequest service body x → ⊥
+RejectedIsNone A = (reason : RejectReason) (service : ℕ) (body : List ℕ) (x : Request A) →
+    RejectsRequest A reason service body → SpellsRequest service body x → ⊥
 
 -- what is rejected is rejected for one reason
 abbrev pub RejectedOnce : Type 0 → Type 0
-RejectedOnce A = (reason other : RejectReason) (service : ℕ) (body : List ℕ) → RejectsRequest A reason service body → RejectsRequest A other service body → reason ≡ other
+RejectedOnce A = (reason other : RejectReason) (service : ℕ) (body : List ℕ) → RejectsRequest A reason service body →
+    RejectsRequest A other service body → reason ≡ other
 
 -- no octets that spell a request are fewer than its canonical ones
 abbrev pub RequestIsShortest : Type 0 → Type 0
-RequestIsShortest A = (service : ℕ) (body : List ℕ) (x : Request A) → AreOctets body → SpellsRequest service body x → length (canonical_request x) ≤ length body
+RequestIsShortest A = (service : ℕ) (body : List ℕ) (x : Request A) → AreOctets body → SpellsRequest service body x →
+    length (canonical_request x) ≤ length body

@@ -15,7 +15,8 @@ pub record TakesProperty (octets : List ℕ) (object : ObjectId) (property : ℕ
 -- why they are rejected (18.9)
 pub data RejectsProperty (reason : RejectReason) (octets : List ℕ) : Type 0 where
   at_object : RejectsObject reason octets 0 → RejectsProperty reason octets
-  at_property : (o : ObjectId) (at : List ℕ) → TakesObject octets 0 o at → RejectsNumber reason at 1 → RejectsProperty reason octets
+  at_property : (o : ObjectId) (at : List ℕ) → TakesObject octets 0 o at → RejectsNumber reason at 1 →
+      RejectsProperty reason octets
 
 -- ReadProperty: object, property, and an array index under context tag 2 or none (15.5.1, 21)
 pub record SpellsReadProperty (body : List ℕ) (object : ObjectId) (property : ℕ) (index : Option ℕ) : Type 0 where
@@ -26,12 +27,15 @@ pub record SpellsReadProperty (body : List ℕ) (object : ObjectId) (property : 
 -- why a ReadProperty request is rejected: the first fault in reading order (18.9)
 pub data RejectsReadProperty (reason : RejectReason) (body : List ℕ) : Type 0 where
   at_property : RejectsProperty reason body → RejectsReadProperty reason body
-  at_index : (o : ObjectId) (p : ℕ) (at : List ℕ) → TakesProperty body o p at → RejectsLast reason at 2 → RejectsReadProperty reason body
-  at_end : (o : ObjectId) (p : ℕ) (i : Option ℕ) (at rest : List ℕ) → TakesProperty body o p at → TakesLast at 2 i rest → RejectsEnd reason rest → RejectsReadProperty reason body
+  at_index : (o : ObjectId) (p : ℕ) (at : List ℕ) → TakesProperty body o p at → RejectsLast reason at 2 →
+      RejectsReadProperty reason body
+  at_end : (o : ObjectId) (p : ℕ) (i : Option ℕ) (at rest : List ℕ) → TakesProperty body o p at →
+      TakesLast at 2 i rest → RejectsEnd reason rest → RejectsReadProperty reason body
 
 -- object, property, an array index under context tag 2 or none, and values between the opening and
 -- the closing tag 3, and what follows (15.9.1)
-pub record TakesWrite {A : Type 0} (octets : List ℕ) (object : ObjectId) (property : ℕ) (index : Option ℕ) (values : List (Value A)) (rest : List ℕ) : Type 0 where
+pub record TakesWrite {A : Type 0} (octets : List ℕ) (object : ObjectId) (property : ℕ) (index : Option ℕ)
+    (values : List (Value A)) (rest : List ℕ) : Type 0 where
   pub behind_property : List ℕ
   pub inside : List ℕ
   pub property_taken : TakesProperty octets object property behind_property
@@ -41,11 +45,14 @@ pub record TakesWrite {A : Type 0} (octets : List ℕ) (object : ObjectId) (prop
 -- why they are rejected (18.9)
 pub data RejectsWrite (A : Type 0) (reason : RejectReason) (octets : List ℕ) : Type 0 where
   at_property : RejectsProperty reason octets → RejectsWrite A reason octets
-  at_index : (o : ObjectId) (p : ℕ) (at : List ℕ) → TakesProperty octets o p at → RejectsBehind reason at 2 3 → RejectsWrite A reason octets
-  at_values : (o : ObjectId) (p : ℕ) (i : Option ℕ) (at inside : List ℕ) → TakesProperty octets o p at → OpensBehind at 2 i 3 inside → RejectsInside A reason inside 3 → RejectsWrite A reason octets
+  at_index : (o : ObjectId) (p : ℕ) (at : List ℕ) → TakesProperty octets o p at → RejectsBehind reason at 2 3 →
+      RejectsWrite A reason octets
+  at_values : (o : ObjectId) (p : ℕ) (i : Option ℕ) (at inside : List ℕ) → TakesProperty octets o p at →
+      OpensBehind at 2 i 3 inside → RejectsInside A reason inside 3 → RejectsWrite A reason octets
 
 -- WriteProperty: what is written where, and a priority under context tag 4 or none (15.9.1, 21)
-pub record SpellsWriteProperty {A : Type 0} (body : List ℕ) (object : ObjectId) (property : ℕ) (index : Option ℕ) (values : List (Value A)) (priority : Option ℕ) : Type 0 where
+pub record SpellsWriteProperty {A : Type 0} (body : List ℕ) (object : ObjectId) (property : ℕ) (index : Option ℕ)
+    (values : List (Value A)) (priority : Option ℕ) : Type 0 where
   pub behind_values : List ℕ
   pub write_taken : TakesWrite body object property index values behind_values
   pub priority_taken : TakesLast behind_values 4 priority []
@@ -54,10 +61,13 @@ pub record SpellsWriteProperty {A : Type 0} (body : List ℕ) (object : ObjectId
 -- why what stands behind the values is rejected: the priority, its range, or octets behind it (18.9)
 pub data RejectsTail (reason : RejectReason) (octets : List ℕ) : Type 0 where
   at_priority : RejectsLast reason octets 4 → RejectsTail reason octets
-  at_range : (n : Option ℕ) (rest : List ℕ) → TakesLast octets 4 n rest → RejectsRange reason n → RejectsTail reason octets
-  at_end : (n : Option ℕ) (rest : List ℕ) → TakesLast octets 4 n rest → IsSoundPriority n → RejectsEnd reason rest → RejectsTail reason octets
+  at_range : (n : Option ℕ) (rest : List ℕ) → TakesLast octets 4 n rest → RejectsRange reason n →
+      RejectsTail reason octets
+  at_end : (n : Option ℕ) (rest : List ℕ) → TakesLast octets 4 n rest → IsSoundPriority n → RejectsEnd reason rest →
+      RejectsTail reason octets
 
 -- why a WriteProperty request is rejected: the first fault in reading order (18.9)
 pub data RejectsWriteProperty (A : Type 0) (reason : RejectReason) (body : List ℕ) : Type 0 where
   at_write : RejectsWrite A reason body → RejectsWriteProperty A reason body
-  at_tail : (o : ObjectId) (p : ℕ) (i : Option ℕ) (vs : List (Value A)) (at : List ℕ) → TakesWrite body o p i vs at → RejectsTail reason at → RejectsWriteProperty A reason body
+  at_tail : (o : ObjectId) (p : ℕ) (i : Option ℕ) (vs : List (Value A)) (at : List ℕ) → TakesWrite body o p i vs at →
+      RejectsTail reason at → RejectsWriteProperty A reason body

@@ -1,34 +1,19 @@
 //! Context-tagged fields of service bodies, each read with the reason of its Reject (clauses 15,
 //! 18.9 and 20.2.15).
 
-ghost use Rattle.std.specs.Prelude.{◌≡◌, [], IfOk, IfErr, IfSome, IfNone, IsTrue, ◌↔◌};
+ghost use Rattle.std.specs.Prelude.{◌≡◌, [], IfOk, IfErr, IfSome, IfNone, IsTrue, ◌↔◌, ◌<◌, ◌++◌, OnOk, OnErr};
 ghost use Rattle.tags.specs.Tag.{contents, opening, closing, plain_tag, TakesTag, NoTag};
 ghost use Rattle.tags.specs.Element.{context};
 ghost use Rattle.tags.specs.Number.{SpellsUnsigned};
 ghost use Rattle.tags.specs.Refusal.{IsBadNumber};
 ghost use Rattle.primitives.specs.Sound.{IsSoundIndex, IsSoundPriority};
-ghost use Rattle.services.specs.Fields.{
-  TakesObject,
-  TakesNumber,
-  TakesOpening,
-  TakesClosing,
-  NoClosing,
-  OpensBehind,
-  TakesLast,
-  IsOtherTag,
-  RejectsTag,
-  RejectsContents,
-  RejectsObject,
-  RejectsNumber,
-  RejectsOpening,
-  RejectsBehind,
-  RejectsLast,
-  RejectsEnd,
-  RejectsRange,
-};
+ghost use Rattle.services.specs.Fields.{TakesObject, TakesNumber, TakesOpening, TakesClosing, NoClosing, OpensBehind, TakesLast, IsOtherTag, RejectsTag, RejectsContents, RejectsObject, RejectsNumber, RejectsOpening, RejectsBehind, RejectsLast, RejectsEnd, RejectsRange};
+ghost use Rattle.tags.specs.Canonical.{Extends};
+ghost use Rattle.apdu.specs.ParameterWriting.{option_field};
 
-use apdu::RejectReason;
-use tags::{Class, Content, ObjectId, Reader, Tag, unsigned_from_contents};
+use apdu::{RejectReason, contents_of};
+use std::alloc::Allocator;
+use tags::{Class, Content, Fault, ObjectId, Reader, Tag, unsigned_from_contents, write_unsigned};
 
 /// The tag that must stand next (20.2.1).
 ///
@@ -67,10 +52,7 @@ pub(crate) fn contents_under<'a>(tag: Tag<'a>, number: u8) -> Option<&'a [u8]>
     ensures read { IfSome result (λ inner. plain_tag tag.entry ≡ context number (contents inner.now)) }
     ensures other { IfNone result (IsOtherTag (plain_tag tag.entry) number) }
 {
-    match (tag.class, tag.content) {
-        (Class::Context, Content::Octets(octets)) if tag.number == number => Some(octets),
-        _ => None,
-    }
+    contents_of(tag, Class::Context, number)
 }
 
 /// The contents of the context tag of this number, which must stand next (20.2.15).
@@ -112,7 +94,8 @@ pub(crate) fn read_object(reader: &mut Reader<'_>, number: u8) -> Result<ObjectI
 #[tactic(auto, using(crate::proofs::FieldLaws::number_laws))]
 pub(crate) fn number_of(octets: &[u8]) -> Result<u32, RejectReason>
     ensures read { IfOk result (λ n. SpellsUnsigned octets.now n) }
-    ensures rejected { IfErr result (λ reason. (reason ≡ RejectReason.InvalidParameterDataType) × IsBadNumber octets.now) }
+    ensures rejected { IfErr result (λ reason. (reason ≡ RejectReason.InvalidParameterDataType) ×
+        IsBadNumber octets.now) }
 {
     match unsigned_from_contents(octets) {
         Ok(number) => Ok(number),
@@ -260,5 +243,39 @@ pub(crate) fn priority_of(number: Option<u32>) -> Result<Option<u8>, RejectReaso
             }
             Ok(Some(n as u8))
         }
+    }
+}
+
+/// Appends an optional number under the context tag of this number (20.2.15).
+pub(crate) fn put_option<B: Allocator>(
+    number: u8,
+    option: Option<u32>,
+    out: &mut Vec<u8, B>,
+) -> Result<(), Fault>
+    requires { number < 255 }
+    ensures put { OnOk result (out.new.items ≡ out.old.items ++ option_field number option) }
+    ensures memory { IfErr result (λ fault. fault ≡ Fault.Memory) }
+    ensures err { OnErr result (Extends out.old.items out.new.items) }
+{
+    match option {
+        Some(n) => write_unsigned(Class::Context, number, n, out),
+        None => Ok(()),
+    }
+}
+
+/// Appends an optional priority under the context tag of this number (15.9.1.1.5).
+pub(crate) fn put_priority<B: Allocator>(
+    number: u8,
+    priority: Option<u8>,
+    out: &mut Vec<u8, B>,
+) -> Result<(), Fault>
+    requires { number < 255 }
+    ensures put { OnOk result (out.new.items ≡ out.old.items ++ option_field number priority) }
+    ensures memory { IfErr result (λ fault. fault ≡ Fault.Memory) }
+    ensures err { OnErr result (Extends out.old.items out.new.items) }
+{
+    match priority {
+        Some(priority) => write_unsigned(Class::Context, number, u32::from(priority), out),
+        None => Ok(()),
     }
 }

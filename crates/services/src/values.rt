@@ -1,17 +1,19 @@
-//! Lists of values between an opening and a closing tag (clause 20.2.1.3.2).
+//! Lists of values between an opening and a closing tag, both ways (clause 20.2.1.3.2).
 
-ghost use Rattle.std.specs.Prelude.{◌≡◌, ◌<◌, ◌^◌, IfOk, IfErr, IfSome, IfNone, length};
+ghost use Rattle.std.specs.Prelude.{◌≡◌, ◌<◌, ◌^◌, IfOk, IfErr, IfSome, IfNone, length, ◌++◌, OnOk, OnErr};
 ghost use Rattle.tags.specs.Value.{IsSound, TakesValue};
 ghost use Rattle.primitives.specs.Sound.{AreSound};
 ghost use Rattle.services.specs.Fields.{TakesClosing, TakesInside, RejectsValue, RejectsInside};
 ghost use Rattle.services.specs.Stop.{StopsFor};
+ghost use Rattle.tags.specs.Canonical.{canonicals, Extends};
+ghost use Rattle.services.specs.CanonicalRequest.{values_field};
 
 use crate::fields::read_closing;
 use crate::stop::Stop;
 use apdu::RejectReason;
 use objects::Values;
 use std::alloc::Allocator;
-use tags::{Fault, Items, Reader, Value, read_value};
+use tags::{Fault, Items, Reader, Tag, Value, read_value, write_tag, write_value};
 
 /// The values up to the closing tag of this number, which is read too (20.2.1.3.2).
 ///
@@ -55,4 +57,38 @@ fn next_value<A: Allocator + Copy>(
             Ok(None)
         }
     }
+}
+
+/// Appends values one after another.
+#[tactic(auto, using(crate::proofs::RequestOctets::extends_laws))]
+fn put_each_value<A: Allocator, B: Allocator>(
+    values: &[Value<A>],
+    out: &mut Vec<u8, B>,
+) -> Result<(), Fault>
+    requires { AreSound values.now }
+    ensures put { OnOk result (out.new.items ≡ out.old.items ++ canonicals values.now) }
+    ensures memory { IfErr result (λ fault. fault ≡ Fault.Memory) }
+    ensures err { OnErr result (Extends out.old.items out.new.items) }
+{
+    for value in values {
+        write_value(value, out)?;
+    }
+    Ok(())
+}
+
+/// Appends values between the opening and the closing tag of this number.
+pub(crate) fn put_values<A: Allocator, B: Allocator>(
+    number: u8,
+    values: &[Value<A>],
+    out: &mut Vec<u8, B>,
+) -> Result<(), Fault>
+    requires number_fits { number < 255 }
+    requires sound { AreSound values.now }
+    ensures put { OnOk result (out.new.items ≡ out.old.items ++ values_field number values.now) }
+    ensures memory { IfErr result (λ fault. fault ≡ Fault.Memory) }
+    ensures err { OnErr result (Extends out.old.items out.new.items) }
+{
+    write_tag(&Tag::opening(number), out)?;
+    put_each_value(values, out)?;
+    write_tag(&Tag::closing(number), out)
 }

@@ -9,11 +9,13 @@ use Rattle.tags.specs.Tag.{PlainContent, null, boolean, contents, opening, closi
 
 -- the shortest form that says a length (20.2.1.3.1)
 unfoldable pub shortest : ℕ → LengthForm
-shortest n = if nat_lt n 5 then in_initial else (if nat_lt n 254 then in_octet else (if nat_lt n 65536 then in_two else in_four))
+shortest n = if nat_lt n 5 then in_initial else (if nat_lt n 254 then in_octet
+    else (if nat_lt n 65536 then in_two else in_four))
 
 -- the initial octets and the length of a tag with this many contents octets
 abbrev pub tag_front : Class → ℕ → ℕ → List ℕ
-tag_front class number len = initial_octets class number (length_bits (shortest len) len) ++ length_octets (shortest len) len
+tag_front class number len = initial_octets class number (length_bits (shortest len) len) ++
+    length_octets (shortest len) len
 
 -- a tag with these contents, in the shortest form
 abbrev pub tagged : Class → ℕ → List ℕ → List ℕ

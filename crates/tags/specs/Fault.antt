@@ -1,5 +1,5 @@
--- The numbers of the refusals.
-use Rattle.std.specs.Prelude.{ℕ}
+-- The names and numbers of the refusals.
+use Rattle.std.specs.Prelude.{ℕ, List, codes}
 use Rattle.tags.specs.declared.fault.Fault.{Fault}
 use Rattle.tags.specs.declared.fault.Fault.TheVariants.{Memory, Short, BadTag, BadLength, BadVersion, TooLong, NoInvokeId, Unbound, NoRoute, TableFull, Expired, Forged, NoSuch, Wire, BadSite}
 
@@ -20,3 +20,21 @@ number_of Forged = 12
 number_of NoSuch = 13
 number_of Wire = 14
 number_of BadSite = 15
+
+-- the name that a refusal is printed with
+abbrev pub name_of : Fault → List ℕ
+name_of Memory = codes "Memory"
+name_of Short = codes "Short"
+name_of BadTag = codes "BadTag"
+name_of BadLength = codes "BadLength"
+name_of BadVersion = codes "BadVersion"
+name_of TooLong = codes "TooLong"
+name_of NoInvokeId = codes "NoInvokeId"
+name_of Unbound = codes "Unbound"
+name_of NoRoute = codes "NoRoute"
+name_of TableFull = codes "TableFull"
+name_of Expired = codes "Expired"
+name_of Forged = codes "Forged"
+name_of NoSuch = codes "NoSuch"
+name_of Wire = codes "Wire"
+name_of BadSite = codes "BadSite"

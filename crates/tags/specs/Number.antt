@@ -1,11 +1,16 @@
 -- Numbers and object identifiers, as the contents octets of a tag.
-use Rattle.std.specs.Prelude.{◌≡◌, ℕ, ◌+◌, ◌*◌, ◌<◌, ◌≤◌, ◌^◌, ℤ, pos, negsuc, List, length, slice_index_or, nat_lt, if◌then◌else◌}
+use Rattle.std.specs.Prelude.{◌≡◌, ℕ, ◌+◌, ◌*◌, ◌<◌, ◌≤◌, ◌^◌, Bool, true, false, ℤ, pos, negsuc, List, length, slice_index_or, nat_lt, if◌then◌else◌}
 use Rattle.std.specs.Int.{w32, cast_unsigned}
 use Rattle.byteorder.specs.Endian.{big_number, big_bytes, twos_complement}
 
 -- each element is an octet
 abbrev pub AreOctets : List ℕ → Type 0
 AreOctets octets = (i : ℕ) → slice_index_or octets i 0 < 256
+
+-- a bit: 1 where it is set, else 0
+abbrev pub bit : Bool → ℕ
+bit false = 0
+bit true = 1
 
 -- one to four octets of a number, most significant first, needless ones in front included (20.2.4)
 pub record SpellsUnsigned (octets : List ℕ) (n : ℕ) : Type 0 where
@@ -48,7 +53,8 @@ distance (negsuc n) = n
 
 -- the fewest octets that hold a signed number, which needs one bit for its sign
 unfoldable pub signed_width : ℤ → ℕ
-signed_width z = if nat_lt (distance z) 128 then 1 else (if nat_lt (distance z) 32768 then 2 else (if nat_lt (distance z) 8388608 then 3 else 4))
+signed_width z = if nat_lt (distance z) 128 then 1 else (if nat_lt (distance z) 32768 then 2
+    else (if nat_lt (distance z) 8388608 then 3 else 4))
 
 -- the shortest contents of a signed number (20.2.5)
 abbrev pub signed_octets : ℤ → List ℕ

@@ -91,7 +91,8 @@ pub record SpellsContents (octets : List ℕ) (class : Class) (number : ℕ) (in
   pub number_fits : number < 255
   pub form : LengthForm
   pub length_fits : IsLength form (length inner)
-  pub parts : octets ≡ initial_octets class number (length_bits form (length inner)) ++ (length_octets form (length inner) ++ inner)
+  pub parts : octets ≡ initial_octets class number (length_bits form (length inner)) ++
+      (length_octets form (length inner) ++ inner)
 
 -- the octets spell the tag of this class and number, by what it carries (20.2.1.3, 20.2.2, 20.2.3)
 abbrev pub SpellsContent : List ℕ → Class → ℕ → PlainContent → Type 0
@@ -99,8 +100,10 @@ SpellsContent octets class number null = (class ≡ Application) × (number ≡ 
 SpellsContent octets class number (boolean false) = (class ≡ Application) × (number ≡ 1) × (octets ≡ 16 ∷ [])
 SpellsContent octets class number (boolean true) = (class ≡ Application) × (number ≡ 1) × (octets ≡ 17 ∷ [])
 SpellsContent octets class number (contents inner) = SpellsContents octets class number inner
-SpellsContent octets class number opening = (class ≡ Context) × (number < 255) × (octets ≡ initial_octets Context number 6)
-SpellsContent octets class number closing = (class ≡ Context) × (number < 255) × (octets ≡ initial_octets Context number 7)
+SpellsContent octets class number opening = (class ≡ Context) × (number < 255) ×
+    (octets ≡ initial_octets Context number 6)
+SpellsContent octets class number closing = (class ≡ Context) × (number < 255) ×
+    (octets ≡ initial_octets Context number 7)
 
 -- the octets spell the tag (20.2.1)
 abbrev pub SpellsTag : List ℕ → PlainTag → Type 0

@@ -14,7 +14,8 @@ pub record IsUnused (octets : List ℕ) (unused : ℕ) : Type 0 where
   pub few : unused < 8
   pub none : octets ≡ [] → unused ≡ 0
 
--- the application tags whose contents are carried and not looked into (20.2.6 to 20.2.8, 20.2.12, 20.2.13, reserved ones)
+-- the application tags whose contents are carried and not looked into (20.2.6 to 20.2.8, 20.2.12, 20.2.13, reserved
+-- ones)
 abbrev pub IsOther : ℕ → Type 0
 IsOther number = ((3 < number) × (number < 7)) ⊎ ((9 < number) × (number < 12)) ⊎ ((12 < number) × (number < 255))
 
@@ -65,7 +66,8 @@ SpellsValue octets v = SpellsByTag octets v ⊎ ((v ≡ value.Built octets) × I
 -- the octets spell these values one after another
 abbrev pub SpellsValues : {A : Type 0} → List ℕ → List (Value A) → Type 0
 SpellsValues octets [] = octets ≡ []
-SpellsValues octets (v ∷ vs) = (front : List ℕ) × (rest : List ℕ) × SpellsValue front v × SpellsValues rest vs × (octets ≡ front ++ rest)
+SpellsValues octets (v ∷ vs) = (front : List ℕ) × (rest : List ℕ) × SpellsValue front v × SpellsValues rest vs ×
+    (octets ≡ front ++ rest)
 
 -- the front of the octets spells the value, and rest is what follows
 pub record TakesValue {A : Type 0} (octets : List ℕ) (v : Value A) (rest : List ℕ) : Type 0 where

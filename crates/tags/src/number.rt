@@ -13,7 +13,8 @@ use byteorder::{BigEndian, ByteOrder};
 /// `BadLength` for no octet, or more than four.
 pub fn unsigned_from_contents(octets: &[u8]) -> Result<u32, Fault>
     ensures read { IfOk result (λ n. SpellsUnsigned octets.now n) }
-    ensures refused { IfErr result (λ fault. (fault ≡ Fault.BadLength) × ((0 < length octets.now) → 4 < length octets.now)) }
+    ensures refused { IfErr result (λ fault. (fault ≡ Fault.BadLength) ×
+        ((0 < length octets.now) → 4 < length octets.now)) }
 {
     if octets.is_empty() || octets.len() > 4 {
         return Err(Fault::BadLength);
@@ -27,7 +28,8 @@ pub fn unsigned_from_contents(octets: &[u8]) -> Result<u32, Fault>
 /// `BadLength` for no octet, or more than four.
 pub fn signed_from_contents(octets: &[u8]) -> Result<i32, Fault>
     ensures read { IfOk result (λ z. SpellsSigned octets.now z) }
-    ensures refused { IfErr result (λ fault. (fault ≡ Fault.BadLength) × ((0 < length octets.now) → 4 < length octets.now)) }
+    ensures refused { IfErr result (λ fault. (fault ≡ Fault.BadLength) ×
+        ((0 < length octets.now) → 4 < length octets.now)) }
 {
     if octets.is_empty() || octets.len() > 4 {
         return Err(Fault::BadLength);

@@ -32,6 +32,13 @@ impl<'a> Reader<'a> {
         Reader { rest: octets }
     }
 
+    /// The octets that are left.
+    pub fn rest(&self) -> &'a [u8]
+        ensures { result.now ≡ self.now }
+    {
+        self.rest
+    }
+
     /// Whether no octet is left.
     #[tactic(auto, using(crate::proofs::OneTag::no_tag_at_end))]
     pub fn is_at_end(&self) -> bool

@@ -79,7 +79,8 @@ fn value_from_contents<A: Allocator + Copy>(
     requires number_fits { number < 255 }
     ensures read { IfOk result (λ v. Says number octets.now v) }
     ensures sound { IfOk result (λ v. length octets.now < 2 ^ 31 → IsSound v) }
-    ensures refused { IfErr result (λ fault. (fault ≡ Fault.Memory) ⊎ ((fault ≡ Fault.BadLength) × IsBadContents number octets.now)) }
+    ensures refused { IfErr result (λ fault. (fault ≡ Fault.Memory) ⊎
+        ((fault ≡ Fault.BadLength) × IsBadContents number octets.now)) }
 {
     match number {
         2 => Ok(Value::Unsigned(unsigned_from_contents(octets)?)),
@@ -114,7 +115,8 @@ fn text_from_contents<A: Allocator + Copy>(alloc: A, octets: &[u8]) -> Result<Va
 fn bits_from_contents<A: Allocator + Copy>(alloc: A, octets: &[u8]) -> Result<Value<A>, Fault>
     ensures read { IfOk result (λ v. Says 8 octets.now v) }
     ensures sound { IfOk result (λ v. length octets.now < 2 ^ 31 → IsSound v) }
-    ensures refused { IfErr result (λ fault. (fault ≡ Fault.Memory) ⊎ ((fault ≡ Fault.BadLength) × IsBadBits octets.now)) }
+    ensures refused { IfErr result (λ fault. (fault ≡ Fault.Memory) ⊎
+        ((fault ≡ Fault.BadLength) × IsBadBits octets.now)) }
 {
     match octets {
         [] => Err(Fault::BadLength),

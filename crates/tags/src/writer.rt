@@ -1,6 +1,6 @@
 //! Writing tags and values at the end of a buffer, in their shortest form (20.2).
 
-ghost use Rattle.std.specs.Prelude.{◌≡◌, ◌<◌, ◌≤◌, ◌^◌, ◌++◌, ◌∷◌, OnOk, OnErr, IfErr, length};
+ghost use Rattle.std.specs.Prelude.{◌≡◌, ◌<◌, ◌≤◌, ◌^◌, ◌++◌, ◌∷◌, OnOk, OnErr, IfErr, IsOk, IsErr, length, take};
 ghost use Rattle.byteorder.specs.Endian.{big_bytes};
 ghost use Rattle.tags.specs.Tag.{initial_octets, plain_content, HasContents};
 ghost use Rattle.tags.specs.Number.{unsigned_octets, signed_octets, object_octets, IsSoundObject};
@@ -13,6 +13,26 @@ use crate::object_id::ObjectId;
 use crate::tag::{Class, Content, Tag};
 use crate::value::Value;
 use std::alloc::{AllocError, Allocator};
+
+/// What was put behind `start` stays where all of it was put, and else is taken away again.
+///
+/// # Errors
+/// `Memory` alone, where not all was put.
+pub fn all_or_none<E: Drop, B: Allocator>(
+    put: Result<(), E>,
+    start: usize,
+    out: &mut Vec<u8, B>,
+) -> Result<(), Fault>
+    ensures all { OnOk result (IsOk put × (out.new.items ≡ out.old.items)) }
+    ensures memory { IfErr result (λ fault. fault ≡ Fault.Memory) }
+    ensures none { OnErr result (IsErr put × (out.new.items ≡ take start out.old.items)) }
+{
+    if put.is_err() {
+        out.truncate(start);
+        return Err(Fault::Memory);
+    }
+    Ok(())
+}
 
 /// Appends the shortest octets of a value (20.2).
 ///
@@ -28,11 +48,8 @@ pub fn write_value<A: Allocator, B: Allocator>(
     ensures unchanged { OnErr result (out.new.items ≡ out.old.items) }
 {
     let start = out.len();
-    if put_value(value, out).is_err() {
-        out.truncate(start);
-        return Err(Fault::Memory);
-    }
-    Ok(())
+    let put = put_value(value, out);
+    all_or_none(put, start, out)
 }
 
 /// Appends the shortest octets of a tag with its contents (20.2.1).
@@ -41,16 +58,14 @@ pub fn write_value<A: Allocator, B: Allocator>(
 /// `Memory` alone. The buffer is then as it was.
 pub fn write_tag<B: Allocator>(tag: &Tag<'_>, out: &mut Vec<u8, B>) -> Result<(), Fault>
     requires { IsSoundTag tag.now.class tag.now.number (plain_content tag.now.content) }
-    ensures written { OnOk result (out.new.items ≡ out.old.items ++ canonical_tag tag.now.class tag.now.number (plain_content tag.now.content)) }
+    ensures written { OnOk result (out.new.items ≡ out.old.items ++
+        canonical_tag tag.now.class tag.now.number (plain_content tag.now.content)) }
     ensures memory { IfErr result (λ fault. fault ≡ Fault.Memory) }
     ensures unchanged { OnErr result (out.new.items ≡ out.old.items) }
 {
     let start = out.len();
-    if put_tag(tag, out).is_err() {
-        out.truncate(start);
-        return Err(Fault::Memory);
-    }
-    Ok(())
+    let put = put_tag(tag, out);
+    all_or_none(put, start, out)
 }
 
 /// Appends a number under a tag of this class and number (20.2.4, 20.2.11, 20.2.15).
@@ -70,11 +85,8 @@ pub fn write_unsigned<B: Allocator>(
     ensures unchanged { OnErr result (out.new.items ≡ out.old.items) }
 {
     let start = out.len();
-    if put_unsigned(class, number, n, out).is_err() {
-        out.truncate(start);
-        return Err(Fault::Memory);
-    }
-    Ok(())
+    let put = put_unsigned(class, number, n, out);
+    all_or_none(put, start, out)
 }
 
 /// Appends an object identifier under a tag of this class and number (20.2.14, 20.2.15).
@@ -90,16 +102,14 @@ pub fn write_object<B: Allocator>(
     requires may { HasContents class number }
     requires number_fits { number < 255 }
     requires sound { IsSoundObject object.object_type object.instance }
-    ensures written { OnOk result (out.new.items ≡ out.old.items ++ tagged class number (object_octets object.object_type object.instance)) }
+    ensures written { OnOk result (out.new.items ≡ out.old.items ++
+        tagged class number (object_octets object.object_type object.instance)) }
     ensures memory { IfErr result (λ fault. fault ≡ Fault.Memory) }
     ensures unchanged { OnErr result (out.new.items ≡ out.old.items) }
 {
     let start = out.len();
-    if put_object(class, number, object, out).is_err() {
-        out.truncate(start);
-        return Err(Fault::Memory);
-    }
-    Ok(())
+    let put = put_object(class, number, object, out);
+    all_or_none(put, start, out)
 }
 
 fn put_value<A: Allocator, B: Allocator>(
@@ -128,7 +138,8 @@ fn put_value<A: Allocator, B: Allocator>(
 
 fn put_tag<B: Allocator>(tag: &Tag<'_>, out: &mut Vec<u8, B>) -> Result<(), AllocError>
     requires { IsSoundTag tag.now.class tag.now.number (plain_content tag.now.content) }
-    ensures put { OnOk result (out.new.items ≡ out.old.items ++ canonical_tag tag.now.class tag.now.number (plain_content tag.now.content)) }
+    ensures put { OnOk result (out.new.items ≡ out.old.items ++
+        canonical_tag tag.now.class tag.now.number (plain_content tag.now.content)) }
     ensures err { OnErr result (Extends out.old.items out.new.items) }
 {
     match tag.content {
@@ -271,7 +282,8 @@ fn put_object<B: Allocator>(
     out: &mut Vec<u8, B>,
 ) -> Result<(), AllocError>
     requires { IsSoundObject object.object_type object.instance }
-    ensures put { OnOk result (out.new.items ≡ out.old.items ++ tagged class number (object_octets object.object_type object.instance)) }
+    ensures put { OnOk result (out.new.items ≡ out.old.items ++
+        tagged class number (object_octets object.object_type object.instance)) }
     ensures err { OnErr result (Extends out.old.items out.new.items) }
 {
     put_tagged(class, number, &object.to_contents(), out)

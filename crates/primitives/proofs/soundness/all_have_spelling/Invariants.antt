@@ -8,4 +8,4 @@ decreases-loop-left g l = length l.left
 
 -- all have a spelling where those that are left have one
 abbrev pub invariant-loop-left : goal.invariant-loop-left
-invariant-loop-left g l = AllByRecursion g.T.Part.IsSound l.left ↔ AllByRecursion g.T.Part.IsSound l.parts
+invariant-loop-left g l = AllByRecursion g.T.HasSpelling.IsSound l.left ↔ AllByRecursion g.T.HasSpelling.IsSound l.parts

@@ -1,0 +1,11 @@
+use Rattle.services.proofs.Exits.{exit_reason, exit_stop}
+use Rattle.services.specs.Multiple.{at_list, at_writes}
+use Rattle.services.proofs.multiple.read_writes.Goals as goal
+
+pub returns-in_err-object-clause-rejected : goal.returns-in_err-object-clause-rejected
+returns-in_err-object-clause-rejected g c =
+    exit_reason _ c.from_residual.result _ c.from_residual.ensures.1 (at_list c.in_err-object.ensures.rejected)
+
+pub returns-in_err-writes-clause-rejected : goal.returns-in_err-writes-clause-rejected
+returns-in_err-writes-clause-rejected g c =
+    exit_stop _ _ c.from_residual-in_err-writes.result _ c.from_residual-in_err-writes.ensures.1 c.in_err-writes.ensures.rejected (λ reason h. at_writes c.in_ok-object.object c.open_list.new.reader c.in_ok-object.ensures.read h)
