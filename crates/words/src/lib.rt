@@ -1,0 +1,39 @@
+//! Requests, values and replies in words: what a script says, what a run prints, and what the
+//! sheets of rows hold (the services of ANSI/ASHRAE 135, clause 15, written for a person to read).
+//!
+//! - a request: `read 5:1 85`, `write 45:1 85 signed 20 at 8`, `many 5:1 85,87/17 8:99 76`,
+//!   `batch 45:1 85 signed 20 at 8; 45:1 28 text -; 5:1 85 null`;
+//! - a value: `null`, `bool true`, `unsigned 7`, `signed -7`, `enum 1`, `object 5:1`,
+//!   `text 6F6E`, `text/4 0041`, `bits 4 F0`, `other 10 7C0C1601`, `built 0901`;
+//! - a reply: `done`, `error 2 40`, `error 2 40 at 5:1 77`, `values enum 1, null`,
+//!   `many [5:1 85 = enum 1; 87/17 ! 2 42]`.
+//!
+//! Words are parted by single spaces. Numbers are decimal digits, and leading zeros are read;
+//! octets are pairs of hexadecimal digits without spaces, `-` where there are none.
+//!
+//! To the layers above it promises: a request and a value that are read have a spelling in octets,
+//! and numbers and octets are read exactly. That what is printed is read again, and each form of
+//! the words, is tested and not proved.
+//!
+//! - `octets`: numbers and octets.
+//! - `reference`: objects, and properties or elements of them.
+//! - `value`, `request`, `reply`: what their names say, each read and printed.
+//! - `shown`: what is printed in words, for `write!`.
+//! - `unread`: why words are not read.
+#![tactic(auto)]
+
+mod octets;
+mod reference;
+mod reply;
+mod request;
+mod shown;
+mod unread;
+mod value;
+
+pub use octets::{Hex, parse_number, parse_octets};
+pub use reference::{parse_object, parse_reference};
+pub use reply::parse_any_reply;
+pub use request::{parse_any_request, parse_request};
+pub use shown::Words;
+pub use unread::Unread;
+pub use value::{parse_value, parse_values};

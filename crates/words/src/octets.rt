@@ -1,0 +1,74 @@
+//! Numbers, and octets as pairs of hexadecimal digits.
+
+ghost use Rattle.std.specs.Prelude.{◌≡◌, ◌⊎◌, Ok, IfOk, IfErr};
+ghost use Rattle.hex.specs.Hex.{decode_of};
+ghost use Rattle.words.specs.Digits.{IsNumber, NoNumber, SaysOctets, NoOctets, NoPairs};
+
+use crate::unread::Unread;
+use hex::FromHexError;
+use std::alloc::Allocator;
+use std::fmt;
+use std::str::FromStr;
+use tags::{Items, Octets};
+
+/// The number that a word says in decimal digits, behind a `-` where its type has one.
+///
+/// # Errors
+/// `Number` for any other word, and for a number out of the type's range.
+pub fn parse_number<N: FromStr>(word: &str) -> Result<N, Unread>
+where
+    N::Err: Drop,
+    ensures read { IfOk result (IsNumber N.from_str_gives word.now) }
+    ensures refused { IfErr result (λ e. (e ≡ Unread.Number) × NoNumber N.from_str_gives word.now) }
+{
+    if word.starts_with('+') {
+        return Err(Unread::Number);
+    }
+    match word.parse::<N>() {
+        Ok(number) => Ok(number),
+        Err(_) => Err(Unread::Number),
+    }
+}
+
+/// The octets that a word spells as pairs of hexadecimal digits of either case; `-` is none.
+///
+/// # Errors
+/// `Memory`, or `Octets` for any other word.
+pub fn parse_octets<A: Allocator + Copy>(alloc: A, word: &str) -> Result<Octets<A>, Unread>
+    ensures read { IfOk result (SaysOctets word.now) }
+    ensures refused { IfErr result (λ e. (e ≡ Unread.Memory) ⊎ ((e ≡ Unread.Octets) × NoOctets word.now)) }
+{
+    match word {
+        "-" => Ok(Items::new(alloc)),
+        "" => Err(Unread::Octets),
+        _ => decoded(alloc, word),
+    }
+}
+
+/// The octets that pairs of digits spell.
+fn decoded<A: Allocator + Copy>(alloc: A, word: &str) -> Result<Octets<A>, Unread>
+    ensures read { IfOk result (λ octets. decode_of word.now ≡ Ok octets) }
+    ensures refused { IfErr result (λ e. (e ≡ Unread.Memory) ⊎ ((e ≡ Unread.Octets) × NoPairs word.now)) }
+{
+    match hex::decode(alloc, word) {
+        Ok(octets) => Ok(Items::from_vec(octets)),
+        Err(FromHexError::OutOfMemory) => Err(Unread::Memory),
+        Err(_) => Err(Unread::Octets),
+    }
+}
+
+/// Octets that are printed as pairs of upper-case hexadecimal digits, `-` where there are none.
+#[derive(Clone, Copy)]
+pub struct Hex<'a>(pub &'a [u8]);
+
+impl<'a> fmt::Display for Hex<'a> {
+    fn fmt<W: fmt::Write>(&self, f: &mut fmt::Formatter<W>) -> fmt::Result {
+        if self.0.is_empty() {
+            return f.write_str("-");
+        }
+        for octet in self.0 {
+            write!(f, "{octet:02X}")?;
+        }
+        Ok(())
+    }
+}
