@@ -1,6 +1,0 @@
-use Rattle.std.proofs.Common.{◌≡◌, List, ℕ, ◌++◌, ◌∷◌, [], drop, flat_map}
-use Rattle.bacsite.specs.HexText.{pairs_of}
-use Rattle.bacsite.proofs.answer.printed.Given as goal
-
-abbrev pub invariant-loop-octets : goal.invariant-loop-octets
-invariant-loop-octets g l = l.text.items ++ flat_map (λ (o : List ℕ). pairs_of o ++ 10 ∷ []) (drop l.octets-index l.said) ≡ flat_map (λ (o : List ℕ). pairs_of o ++ 10 ∷ []) l.said

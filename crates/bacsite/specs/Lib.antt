@@ -1,7 +1,0 @@
-pub mod Builtin
-pub mod Hearing
-pub mod Heard
-pub mod Respond
-pub mod HexText
-pub mod Answer
-pub mod Explain

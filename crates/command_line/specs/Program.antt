@@ -1,0 +1,45 @@
+-- What is done for a command line, and its exit status.
+use Rattle.std.specs.Prelude.{◌≡◌, ◌≢◌, ◌≤◌, ◌⊎◌, ℕ, List, Option, Some, None, Result, Ok, Err, IfOk, map, string_bytes}
+use Rattle.std.specs.Global.{Global}
+use Rattle.clap.specs.Words.{Text, FailsBy, fault_of, kind_of, subcommand_of}
+use Rattle.clap.specs.declared.error.Error.{Error}
+use Rattle.clap.specs.declared.error.kind.ErrorKind.{ErrorKind}
+use Rattle.clap.specs.declared.error.kind.ErrorKind.TheVariants.{OutOfMemory, DisplayHelp, DisplayVersion}
+use Rattle.console.specs.Answer.{Known, text_of, PrintsAnswer}
+use Rattle.console.specs.Builtin.{builtin_table}
+use Rattle.console.specs.Explain.{PrintsExplained}
+use Rattle.command_line.specs.declared.order.Order.{Order}
+use Rattle.command_line.specs.declared.order.Order.TheVariants.{Answer, Explain}
+use Rattle.command_line.specs.Order.{program, IsOrderOf}
+
+-- clap was asked for help or the version
+abbrev pub IsHelp : ErrorKind → Type 0
+IsHelp kind = (kind ≡ DisplayHelp) ⊎ (kind ≡ DisplayVersion)
+
+-- clap found a fault in the words
+abbrev pub IsFault : ErrorKind → Type 0
+IsFault kind = (kind ≢ OutOfMemory) × (kind ≢ DisplayHelp) × (kind ≢ DisplayVersion)
+
+-- the status where clap gives no order: 2 exactly for a fault, 0 for help alone
+pub record IsStatusOf (kind : ErrorKind) (status : ℕ) : Type 0 where
+  pub fault : IsFault kind → status ≡ 2
+  pub no_fault : status ≡ 2 → IsFault kind
+  pub help : status ≡ 0 → IsHelp kind
+  pub few : status ≤ 2
+
+-- what is done for what the words ask for: the status is the tool's, and with status 0 its text is printed
+abbrev pub IsDone : Result (Option Order) Error → ℕ → Known → Known → Type 0
+IsDone (Err e) status old new = IsStatusOf (kind_of e) status
+IsDone (Ok None) status old new = status ≡ 2
+IsDone (Ok (Some (Answer words))) status old new =
+    (status ≤ 1)
+    × (status ≡ 0 → PrintsAnswer (builtin_table {A = Global}) (text_of (map string_bytes words.items)) old new)
+IsDone (Ok (Some (Explain words))) status old new =
+    (status ≤ 1) × (status ≡ 0 → PrintsExplained (text_of (map string_bytes words.items)) old new)
+
+-- what clap answers of the words, and what is done for that
+pub record Runs (words : List Text) (status : ℕ) (old new : Known) : Type 0 where
+  pub asked : Result (Option Order) Error
+  pub order : IfOk asked (IsOrderOf (subcommand_of program words))
+  pub fault : FailsBy (fault_of program words) asked
+  pub done : IsDone asked status old new

@@ -1,0 +1,134 @@
+//! The command line.
+
+ghost use Rattle.std.specs.Prelude.{◌≡◌, true, false, IfOk, map, string_bytes};
+ghost use Rattle.clap.specs.Words.{app_of, rule_of, rows_of, found_of, with_subcommand};
+ghost use Rattle.clap.specs.Words.{subcommand_of, subcommand_rows_of, FailsBy, fault_of};
+ghost use Rattle.command_line.specs.Order.{program, bare, tool, hex_rule, hex_of, IsOrderOf};
+
+use clap::{Arg, ArgAction, ArgMatches, Command, Error};
+use std::alloc::{AllocError, Global};
+
+/// What the command line asks for.
+#[derive(Drop)]
+pub enum Order {
+    /// Answer the datagram that these words spell.
+    Answer(Vec<String>),
+    /// Take the datagram apart that these words spell.
+    Explain(Vec<String>),
+}
+
+/// What the words ask for, the first of them being the program's name: `None` where they name
+/// neither command, which clap refuses before.
+///
+/// # Errors
+/// Help that was asked for, a fault of the command line, or want of memory, with its text.
+pub fn order_of(alloc: Global, words: &[String]) -> Result<Option<Order>, Error>
+    ensures order { IfOk result (IsOrderOf (subcommand_of program (map string_bytes words.now))) }
+    ensures fault { FailsBy (fault_of program (map string_bytes words.now)) result }
+{
+    let matches = matches_of(alloc, words)?;
+    Ok(order_in(alloc, &matches)?)
+}
+
+/// The matches that the words give.
+fn matches_of<'a>(alloc: Global, words: &'a [String]) -> Result<ArgMatches<'a>, Error>
+    ensures found { IfOk result (λ m. subcommand_rows_of m ≡ subcommand_of program (map string_bytes words.entry.now)) }
+    ensures fault { FailsBy (fault_of program (map string_bytes words.entry.now)) result }
+{
+    let command = command(alloc)?;
+    command.try_get_matches_from(words)
+}
+
+/// The order that the matches hold.
+fn order_in(alloc: Global, matches: &ArgMatches<'_>) -> Result<Option<Order>, AllocError>
+    ensures { IfOk result (IsOrderOf (subcommand_rows_of matches.now)) }
+{
+    if let Some(answer) = matches.subcommand_matches("answer") {
+        return Ok(Some(Order::Answer(hex_words(alloc, answer)?)));
+    }
+    if let Some(explain) = matches.subcommand_matches("explain") {
+        return Ok(Some(Order::Explain(hex_words(alloc, explain)?)));
+    }
+    Ok(None)
+}
+
+/// The commands of the program.
+fn command<'a>(alloc: Global) -> Result<Command<'a>, AllocError>
+    ensures { IfOk result (λ c. app_of c ≡ program) }
+{
+    let answer = tool(
+        alloc,
+        "answer",
+        "Prints what the built-in device answers to a BACnet/IP datagram",
+    )?;
+    let explain = tool(
+        alloc,
+        "explain",
+        "Takes a BACnet/IP datagram apart: its headers, and its tags one by one",
+    )?;
+    let command = add(bare(alloc), answer)?;
+    add(command, explain)
+}
+
+/// A command with a subcommand more.
+fn add<'a>(command: Command<'a>, tool: Command<'a>) -> Result<Command<'a>, AllocError>
+    requires plain { (app_of tool).top.is_plain ≡ true }
+    ensures { IfOk result (λ c. app_of c ≡ with_subcommand (app_of command.entry) (app_of tool.entry).top) }
+{
+    command.subcommand(tool)
+}
+
+/// The program without its commands, one of which has to be there.
+fn bare<'a>(alloc: Global) -> Command<'a>
+    ensures { app_of result ≡ bare }
+{
+    Command::new(alloc, "bacsite")
+        .about("BACnet devices that answer by proof")
+        .subcommand_required(true)
+}
+
+/// A command with the words of a datagram behind it.
+fn tool<'a>(alloc: Global, name: &'a str, about: &'a str) -> Result<Command<'a>, AllocError>
+    ensures { IfOk result (λ c. app_of c ≡ tool name.entry.now) }
+{
+    Command::new(alloc, name)
+        .about(about)
+        .arg(hex_argument(alloc))
+}
+
+/// The words that spell a datagram.
+fn hex_argument<'a>(alloc: Global) -> Arg<'a>
+    ensures rule { rule_of result ≡ hex_rule }
+    ensures own { result.global ≡ false }
+{
+    Arg::new(alloc, "hex")
+        .value_name("HEX")
+        .required(true)
+        .action(ArgAction::Append)
+        .num_args(1..)
+        .help(
+            "A BACnet/IP datagram: pairs of hexadecimal digits, with spaces between pairs or none, \
+             as 81 0A 00 11 01 04 02 65 01 0C 0C 01 40 00 01 19 55",
+        )
+}
+
+/// The words behind a subcommand.
+fn hex_words(alloc: Global, matches: &ArgMatches<'_>) -> Result<Vec<String>, AllocError>
+    ensures { IfOk result (λ words. map string_bytes words.items ≡ hex_of (rows_of (found_of matches.now))) }
+{
+    match matches.get_strs("hex") {
+        Some(values) => copied(alloc, values),
+        None => Ok(Vec::new(alloc)),
+    }
+}
+
+/// Words in memory of their own.
+fn copied(alloc: Global, words: &[&str]) -> Result<Vec<String>, AllocError>
+    ensures { IfOk result (λ copies. map string_bytes copies.items ≡ map (λ w. w.now) words.now) }
+{
+    let mut copies = Vec::new(alloc);
+    for word in words {
+        copies.push(String::from_str(alloc, word)?)?;
+    }
+    Ok(copies)
+}

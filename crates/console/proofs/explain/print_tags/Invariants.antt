@@ -1,0 +1,11 @@
+use Rattle.std.proofs.Common.{length}
+use Rattle.console.specs.Answer.{Known}
+use Rattle.console.specs.Explain.{PrintsTags}
+use Rattle.console.proofs.explain.print_tags.Given as goal
+
+abbrev pub invariant-loop-tag : goal.invariant-loop-tag
+invariant-loop-tag g l =
+    (new : Known) → PrintsTags l.reader (g.W.Write.contents l.out) new → PrintsTags l.octets (g.W.Write.contents l.initial.out) new
+
+abbrev pub decreases-loop-tag : goal.decreases-loop-tag
+decreases-loop-tag g l = length l.reader

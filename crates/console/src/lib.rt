@@ -1,0 +1,26 @@
+//! What `bacsite answer` and `bacsite explain` do with one datagram (ANSI/ASHRAE 135, clauses 6, 20 and Annex J).
+//!
+//! `answer_line` prints what the built-in device says to the datagram that words spell, and
+//! `explain_line` the datagram taken apart; both answer the exit status. To the layer above they
+//! promise: with status 0 the words spell one datagram, and what was printed is what the device says
+//! to it, or its fields and tags, each on a line.
+//!
+//! - `answer`, `hex_text`: one datagram as hexadecimal digits, and what is said to it.
+//! - `hearing`, `device`, `saying`: the built-in device, from octets to octets.
+//! - `explain`, `lines`: one datagram taken apart, line by line.
+//! - `refusal`: what ends a program before its time.
+#![tactic(auto)]
+
+mod answer;
+mod device;
+mod explain;
+mod hearing;
+mod hex_text;
+mod lines;
+mod refusal;
+mod saying;
+
+pub use answer::answer_line;
+pub use device::{Builtin, respond};
+pub use explain::explain_line;
+pub use refusal::{say_failed, say_refused};
