@@ -37,6 +37,3 @@ pub use unconfirmed::{
     IAm, Limits, Segmentation, UnconfirmedService, WhoIs, i_am_from, who_is_from, write_i_am,
     write_who_is,
 };
-
-#[cfg(test)]
-mod tests;

@@ -25,6 +25,3 @@ pub use entry::{DistributionEntry, ENTRY_OCTETS, Entry, ForeignDevice};
 pub use function::Function;
 pub use laws::spelling;
 pub use table::{Iter, Table};
-
-#[cfg(test)]
-mod tests;

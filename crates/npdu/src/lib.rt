@@ -24,6 +24,3 @@ pub use message::{Message, RejectReason};
 pub use parcel::Parcel;
 pub use priority::Priority;
 pub use view::{Destination, Dnet, INITIAL_HOP_COUNT, Source, View};
-
-#[cfg(test)]
-mod tests;

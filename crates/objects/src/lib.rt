@@ -43,6 +43,3 @@ pub use primitives::{
 };
 pub use site::{DataLink, SiteObject, SiteObjects};
 pub use table::Table;
-
-#[cfg(test)]
-mod tests;

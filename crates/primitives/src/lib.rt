@@ -31,6 +31,3 @@ pub use plain_data::{
     Reply, Request, Values,
 };
 pub use property::{ALL_PROPERTIES, OPTIONAL_PROPERTIES, Property, REQUIRED_PROPERTIES};
-
-#[cfg(test)]
-mod tests;

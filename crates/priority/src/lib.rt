@@ -12,6 +12,3 @@ pub mod laws;
 mod slots;
 
 pub use slots::Slots;
-
-#[cfg(test)]
-mod tests;

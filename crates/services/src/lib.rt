@@ -37,6 +37,3 @@ pub use apdu::{
 pub use executor::{Executor, ObjectExecutor};
 pub use reply::{Answer, answer_of, decode_reply, encode_reply};
 pub use request::{decode_request, encode_request, service_of};
-
-#[cfg(test)]
-mod tests;

@@ -35,6 +35,3 @@ pub use tag::{Class, Content, Tag};
 pub use value::Value;
 pub use value_reader::read_value;
 pub use writer::{all_or_none, write_object, write_tag, write_unsigned, write_value};
-
-#[cfg(test)]
-mod tests;

@@ -1,4 +1,0 @@
-mod apdu;
-mod numbers;
-mod refusals;
-mod unconfirmed;

@@ -1,0 +1,64 @@
+//! The program `rows_octets`: what octets spell, from tags to APDUs (ANSI/ASHRAE 135, clauses 6.2, 16.10,
+//! 18.9, 18.10, 20.1, 20.2 and 21, and Annex J), and what is written again, run on the rows of its `data/`.
+//!
+//! - `tag_values`, `tag_rows`: values, and tags one after another.
+//! - `npdu_headers`, `npdu_addresses`: the header of the network layer, its addresses and parcels.
+//! - `bvll_datagrams`: the datagrams of BACnet/IP.
+//! - `apdus`, `apdu_parts`: APDUs, and what stands in them.
+//! - `numbers`: the standard's numbers.
+#![tactic(auto)]
+
+mod apdu_parts;
+mod apdus;
+mod bvll_datagrams;
+mod npdu_addresses;
+mod npdu_headers;
+mod numbers;
+mod tag_rows;
+mod tag_values;
+
+use refusing::Refusing;
+use sheets::{Counts, Given, Part, Report, Row, Stop};
+use std::alloc::{AllocError, Global};
+use std::{fs, io};
+
+fn main(rt: HostRuntime) -> io::Result<()> {
+    for name in sheets::names(&rt)?.as_slice() {
+        let text = fs::read_to_string(&rt, name.as_str())?;
+        let said = run(rt.alloc(), name.as_str(), text.as_str())?;
+        rt.print(said.as_str())?;
+    }
+    Ok(())
+}
+
+/// Runs the rows of a file, and answers what is printed of it.
+fn run(alloc: Global, name: &str, text: &str) -> Result<String, AllocError> {
+    let memory = Refusing::new(alloc);
+    let other = Refusing::new(alloc);
+    let given = Given {
+        alloc,
+        memory: &memory,
+        other: &other,
+    };
+    let mut report = Report::new(alloc, name);
+    for row in sheets::rows(alloc, text)?.as_slice() {
+        report.add(row, run_row(given, name, row))?;
+    }
+    report.text()
+}
+
+/// Runs a row of a file of this name.
+fn run_row(given: Given<'_>, name: &str, row: &Row<'_>) -> Result<Counts, Stop> {
+    let wanted = row.wanted()?;
+    match name {
+        "tags_values.txt" => tag_values::run(given, row.asked, wanted),
+        "tags_tags.txt" => tag_rows::run(given, row.asked, wanted),
+        "npdu_headers.txt" => npdu_headers::run(given, row.asked, wanted),
+        "npdu_addresses.txt" => npdu_addresses::run(given, row.asked, wanted),
+        "bvll_datagrams.txt" => bvll_datagrams::run(given, row.asked, wanted),
+        "apdu_apdus.txt" => apdus::run(given, row.asked, wanted),
+        "apdu_parts.txt" => apdu_parts::run(given, row.asked, wanted),
+        "numbers.txt" => numbers::run(given, row.asked, wanted),
+        _ => Err(Stop::Unread(Part::Asked)),
+    }
+}

@@ -1,0 +1,182 @@
+//! Answers to requests (15, 20.1): `read 5:1 85 | 0C0140000119553E91013F -> values enum 1`, the service data
+//! of a ComplexACK; `| simple`; `| error 2 40 at 5:1 77`; `| apdu 20020F`, a whole APDU. A reply is written
+//! again. With `bare` in front the answer is read while each allocation is refused.
+
+use objects::{ErrorClass, ErrorCode, Reply, Request};
+use services::{
+    Answer, Apdu, ObjectPropertyReference, ServiceError, answer_of, decode_reply, encode_reply,
+};
+use sheets::{
+    Counts, Given, Memory, Part, Stop, Trial, buffer, differs, octets, push_written, run_text,
+    run_trial, try_row, two_words, written_octets,
+};
+use std::alloc::AllocError;
+use words::{Words, parse_any_request, parse_number, parse_object, parse_reference};
+
+/// What the octets of an answer are.
+#[derive(Clone, Copy)]
+enum Form {
+    /// Nothing: the answer is a SimpleACK.
+    Simple,
+    /// Nothing: the answer is this Error.
+    Error(ServiceError),
+    /// The service data of a ComplexACK.
+    Data,
+    /// A whole APDU.
+    Whole,
+}
+
+/// An answer to a request.
+#[derive(Clone, Copy)]
+struct Answers<'w> {
+    request: &'w str,
+    form: Form,
+}
+
+impl<'w, 'a> Trial<'a> for Answers<'w> {
+    fn answer(&self, given: Given<'a>, octets: &[u8]) -> Result<String, Stop> {
+        let Some(answer) = self.form.answer(octets) else {
+            return Ok(String::from_str(given.alloc, "no answer")?);
+        };
+        let request = parse_any_request(given.other, self.request)?;
+        given.other.refuse_all();
+        let found = decode_reply(given.memory, &request, &answer);
+        given.other.refuse_only(0);
+        match found? {
+            Some(reply) => replied(given, &request, &reply, &answer),
+            None => Ok(String::from_str(given.alloc, "none")?),
+        }
+    }
+}
+
+impl Form {
+    /// The answer that octets of this form are.
+    fn answer<'o>(self, octets: &'o [u8]) -> Option<Answer<'o>> {
+        match self {
+            Form::Simple => Some(Answer::Simple),
+            Form::Error(error) => Some(Answer::Error(error)),
+            Form::Data => Some(Answer::Complex(octets)),
+            Form::Whole => answer_in(octets),
+        }
+    }
+}
+
+/// The answer that an APDU is.
+fn answer_in(octets: &[u8]) -> Option<Answer<'_>> {
+    match Apdu::read(octets) {
+        Ok(Apdu::SimpleAck { .. }) => Some(Answer::Simple),
+        Ok(Apdu::ComplexAck { data, .. }) => Some(Answer::Complex(data)),
+        Ok(Apdu::Error { error, .. }) => Some(Answer::Error(error)),
+        _ => None,
+    }
+}
+
+/// A reply in words.
+fn shown<'a>(given: Given<'a>, reply: &Reply<Memory<'a>>) -> Result<String, AllocError> {
+    format!(in given.alloc; "{}", Words(reply))
+}
+
+/// Whether a reply goes in this answer.
+fn goes_in<'a>(reply: &Reply<Memory<'a>>, answer: &Answer<'_>) -> bool {
+    match answer {
+        Answer::Complex(data) => answer_of(reply, data) == *answer,
+        Answer::Simple | Answer::Error(_) => answer_of(reply, &[]) == *answer,
+    }
+}
+
+/// A reply in words, with what is written of it where that is not what was read.
+fn replied<'a>(
+    given: Given<'a>,
+    request: &Request<Memory<'a>>,
+    reply: &Reply<Memory<'a>>,
+    answer: &Answer<'_>,
+) -> Result<String, Stop> {
+    if !request.is_sound() || !reply.is_sound() || !reply.answers(request) {
+        return Err(differs(given.alloc, "a reply without a spelling"));
+    }
+    if !goes_in(reply, answer) {
+        return Err(differs(given.alloc, "a reply that goes in another answer"));
+    }
+    let mut text = shown(given, reply)?;
+    let mut out = buffer(given)?;
+    let came = encode_reply(request, reply, &mut out);
+    let again = written_octets(given, came, out.as_slice())?;
+    match answer {
+        Answer::Complex(data) => push_written(data, again, &mut text)?,
+        Answer::Simple | Answer::Error(_) => push_written(&[], again, &mut text)?,
+    }
+    Ok(text)
+}
+
+/// Runs a row.
+pub(crate) fn run(given: Given<'_>, asked: &str, wanted: &str) -> Result<Counts, Stop> {
+    let (asked, is_bare) = match asked.strip_prefix("bare ") {
+        Some(rest) => (rest, true),
+        None => (asked, false),
+    };
+    let Some((request, answer)) = asked.split_once(" | ") else {
+        return Err(Stop::Unread(Part::Asked));
+    };
+    let (form, word) = form_of(answer)?;
+    if is_bare {
+        return run_bare(given, request, form, wanted);
+    }
+    let answers = Answers { request, form };
+    let octets = octets(given.alloc, word)?;
+    if octets.is_empty() {
+        return try_row(given, &answers, &[], wanted);
+    }
+    run_trial(given, &answers, octets.as_slice(), wanted)
+}
+
+/// The form of an answer, and its octets in words.
+fn form_of(answer: &str) -> Result<(Form, &str), Stop> {
+    match two_words(answer) {
+        ("simple", "") => Ok((Form::Simple, "-")),
+        ("error", words) => Ok((Form::Error(error(words)?), "-")),
+        ("apdu", word) => Ok((Form::Whole, word)),
+        (word, "") => Ok((Form::Data, word)),
+        _ => Err(Stop::Unread(Part::Asked)),
+    }
+}
+
+/// Why a service failed, as `2 40` or `2 40 at 5:1 77`.
+fn error(words: &str) -> Result<ServiceError, Stop> {
+    let (numbers, first_failed) = match words.split_once(" at ") {
+        Some((numbers, place)) => (numbers, Some(failed_at(place)?)),
+        None => (words, None),
+    };
+    let (class, code) = two_words(numbers);
+    Ok(ServiceError {
+        class: ErrorClass::from(parse_number::<u32>(class)?),
+        code: ErrorCode::from(parse_number::<u32>(code)?),
+        first_failed,
+    })
+}
+
+/// The first write that failed, as `5:1 77`.
+fn failed_at(place: &str) -> Result<ObjectPropertyReference, Stop> {
+    let (object, reference) = two_words(place);
+    let reference = parse_reference(reference)?;
+    Ok(ObjectPropertyReference {
+        object: parse_object(object)?,
+        property: reference.property,
+        index: reference.index,
+    })
+}
+
+/// Runs a row of an answer without service data, which is read without memory.
+fn run_bare(given: Given<'_>, request: &str, form: Form, wanted: &str) -> Result<Counts, Stop> {
+    let request = parse_any_request(given.other, request)?;
+    let Some(answer) = form.answer(&[]) else {
+        return Err(Stop::Unread(Part::Asked));
+    };
+    given.memory.refuse_all();
+    let found = decode_reply(given.memory, &request, &answer);
+    given.memory.refuse_only(0);
+    let text = match found? {
+        Some(reply) => shown(given, &reply)?,
+        None => String::from_str(given.alloc, "none")?,
+    };
+    run_text(text, wanted)
+}

@@ -1,0 +1,31 @@
+//! Rows of text that programs run: what the programs with rows share.
+//!
+//! A file of rows is plain text. Empty lines and lines that begin with `#` are skipped; each other
+//! line is a row, `ASKED -> WANTED`. A program runs the call that a row asks for, compares what
+//! comes, in words, with what is wanted, and says so of each row that differs.
+//!
+//! - `row`: the files with rows where a program runs, and the rows of a file.
+//! - `given`: memory that is always there, and memory that can be refused.
+//! - `digits`: numbers and octets in words.
+//! - `stop`: why a row is none that holds.
+//! - `trial`: the runs of a row: as it stands, with each allocation refused in turn, with each
+//!   prefix of its octets, and with each of its octets changed.
+//! - `written`: what a call writes.
+//! - `report`: what is printed of a file.
+#![tactic(auto)]
+
+mod digits;
+mod given;
+mod report;
+mod row;
+mod stop;
+mod trial;
+mod written;
+
+pub use digits::{number, octets, octets_in_words, push_octets, small, two_words};
+pub use given::{Given, Memory};
+pub use report::Report;
+pub use row::{Row, names, rows};
+pub use stop::{Part, Stop, compare, differs, refusal, refused_memory};
+pub use trial::{Counts, Trial, change_octets, run_octets, run_text, run_trial, try_row};
+pub use written::{buffer, push_written, written_octets};

@@ -1,0 +1,46 @@
+//! What a call writes, behind an octet that stands.
+
+use crate::digits::push_octets;
+use crate::given::{Given, Memory};
+use crate::stop::{Stop, differs};
+use std::alloc::AllocError;
+use tags::Fault;
+
+/// The octet that stands in a buffer before a call writes.
+const STANDING: u8 = 0x55;
+
+/// A buffer in which an octet stands.
+///
+/// # Errors
+/// Want of memory.
+pub fn buffer<'a>(given: Given<'a>) -> Result<Vec<u8, Memory<'a>>, AllocError> {
+    Vec::from_slice(given.memory, &[STANDING])
+}
+
+/// What a call wrote into the buffer.
+///
+/// # Errors
+/// `Memory` where the call says so and the buffer is as it was, else `Differs`.
+pub fn written_octets<'b>(
+    given: Given<'_>,
+    came: Result<(), Fault>,
+    buffer: &'b [u8],
+) -> Result<&'b [u8], Stop> {
+    match (came, buffer) {
+        (Ok(()), [STANDING, octets @ ..]) => Ok(octets),
+        (Err(Fault::Memory), [STANDING]) => Err(Stop::Memory),
+        _ => Err(differs(given.alloc, "a buffer that has changed")),
+    }
+}
+
+/// Appends ` = ` and the octets that are written, where they are not those that were read.
+///
+/// # Errors
+/// Want of memory.
+pub fn push_written(read: &[u8], written: &[u8], out: &mut String) -> Result<(), AllocError> {
+    if read == written {
+        return Ok(());
+    }
+    out.push_str(" = ")?;
+    push_octets(written, out)
+}
