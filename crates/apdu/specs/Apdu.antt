@@ -93,7 +93,8 @@ octets_behind sizes contents (reject_pdu invoke reason) = invoke ∷ (reason ∷
 octets_behind sizes contents (abort_pdu server invoke reason) = invoke ∷ (reason ∷ [])
 
 -- a request's sizes say how many segments and octets are taken; bit 7 is not looked at (20.1.2.4, 20.1.2.5)
-pub record SpellsRequest (octets : List ℕ) (max_segments : MaxSegments) (max_apdu : ℕ) (a : PlainApdu) : Type 0 where
+pub record SpellsConfirmedRequest (octets : List ℕ) (max_segments : MaxSegments) (max_apdu : ℕ)
+    (a : PlainApdu) : Type 0 where
   pub sizes : ℕ
   pub segments : segments_code max_segments ≡ sizes / 16 % 8
   pub apdu : max_apdu ≡ sizes % 16
@@ -109,7 +110,7 @@ pub record SpellsErrorPdu (octets : List ℕ) (service class code : ℕ) (first_
 -- the octets stand behind the first octet (20.1.2 to 20.1.9)
 abbrev pub SpellsFields : List ℕ → PlainApdu → Type 0
 SpellsFields octets (confirmed segment accepted max_segments max_apdu invoke service data_octets) =
-    SpellsRequest octets max_segments max_apdu
+    SpellsConfirmedRequest octets max_segments max_apdu
     (confirmed segment accepted max_segments max_apdu invoke service data_octets)
 SpellsFields octets (error_pdu invoke service class code first_failed) =
     SpellsErrorPdu octets service class code first_failed (error_pdu invoke service class code first_failed)

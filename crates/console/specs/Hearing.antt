@@ -90,16 +90,19 @@ pub record OnlyHears (datagram : List ℕ) (x : Heard) : Type 0 where
 pub record HearsNothing (datagram : List ℕ) : Type 0 where
   pub none : (x : Heard) → Hears datagram x → ⊥
 
--- the same for one layer: nothing else, or nothing, is handed up
+-- the datagram hands up this NPDU and no other
 pub record OnlyHandsUp (datagram : List ℕ) (n : HeardNpdu) : Type 0 where
   pub only : (m : HeardNpdu) → HandsUp datagram m → n ≡ m
 
+-- the datagram hands up no NPDU
 pub record HandsUpNothing (datagram : List ℕ) : Type 0 where
   pub none : (n : HeardNpdu) → HandsUp datagram n → ⊥
 
+-- the NPDU carries this APDU to the device and no other
 pub record OnlyCarries (n : HeardNpdu) (a : HeardApdu) : Type 0 where
   pub only : (b : HeardApdu) → Carries n b → a ≡ b
 
+-- the NPDU carries no APDU to the device
 pub record CarriesNothing (n : HeardNpdu) : Type 0 where
   pub none : (a : HeardApdu) → Carries n a → ⊥
 

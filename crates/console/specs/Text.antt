@@ -138,6 +138,7 @@ tag_text class n (contents octets) = holding class n (dashed octets)
 tag_text class n opening = number (codes "open ") n
 tag_text class n closing = number (codes "close ") n
 
+-- the line of a tag that is read
 abbrev pub tag_line : PlainTag → List ℕ
 tag_line t = tag_text t.class t.number t.content
 
