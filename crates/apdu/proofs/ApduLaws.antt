@@ -9,13 +9,11 @@ use Rattle.apdu.specs.Apdu.{PlainApdu, confirmed, unconfirmed, simple_ack, compl
 use Rattle.apdu.specs.Parameter.{opening_tag, closing_tag, carrying}
 use Rattle.apdu.specs.PduType.{type_number}
 use Rattle.apdu.specs.ServiceError.{TakesClassAndCode, OnlyClassAndCode, EndsReference, TakesReference, OnlyReference, SpellsError, OnlyError}
-use Rattle.apdu.specs.Sizes.{segments_code}
+use Rattle.apdu.proofs.OneName.{one_count}
 use Rattle.apdu.specs.declared.apdu.Apdu.{Apdu}
 use Rattle.apdu.specs.declared.apdu.Segment.{Segment}
 use Rattle.apdu.specs.declared.pdu_type.PduType.{PduType}
 use Rattle.apdu.specs.declared.service_error.ObjectPropertyReference.{ObjectPropertyReference}
-use Rattle.apdu.specs.declared.sizes.MaxSegments.{MaxSegments}
-use Rattle.apdu.specs.declared.sizes.MaxSegments.TheVariants.{Unspecified, Two, Four, Eight, Sixteen, ThirtyTwo, SixtyFour, More}
 use Rattle.apdu.proofs.Parameters.{alone_number, alone_object}
 use Rattle.apdu.proofs.ServiceErrors.{only_class_and_code, only_reference, only_failed_write, only_plain, only_write}
 
@@ -74,17 +72,6 @@ one_segment first (Some p) (Some q) x y s t e =
     let window : p.window ≡ q.window = cc in
     (cc (made_again p, made_again q, more, sequence, window), cc)
 
-one_size : (m n : MaxSegments) → segments_code m ≡ segments_code n → m ≡ n
-one_size Unspecified Unspecified e = refl
-one_size Two Two e = refl
-one_size Four Four e = refl
-one_size Eight Eight e = refl
-one_size Sixteen Sixteen e = refl
-one_size ThirtyTwo ThirtyTwo e = refl
-one_size SixtyFour SixtyFour e = refl
-one_size More More e = refl
-one_size m n e = absurd (omega arith)
-
 one_behind : (first : ℕ) (rest : List ℕ) (a b : PlainApdu) → type_number (type_of a) ≡ type_number (type_of b) → HasFlags first a → HasFlags first b → SpellsFields rest a → SpellsFields rest b → a ≡ b
 one_behind first rest (confirmed g accepted m n i v x) (confirmed h taken k l j w y) e f q s t =
     let both = sym s.parts ∙ t.parts in
@@ -92,7 +79,7 @@ one_behind first rest (confirmed g accepted m n i v x) (confirmed h taken k l j 
     let invoke : i ≡ j = cc in
     let behind : segment_octets g ++ (v ∷ x) ≡ segment_octets h ++ (w ∷ y) = cc in
     let p = one_segment first g h (v ∷ x) (w ∷ y) f.0 q.0 behind in
-    let segments = one_size m k (s.segments ∙ ap (λ (z : ℕ). z / 16 % 8) sizes ∙ sym t.segments) in
+    let segments = one_count m k (s.segments ∙ ap (λ (z : ℕ). z / 16 % 8) sizes ∙ sym t.segments) in
     let apdu : n ≡ l = s.apdu ∙ ap (λ (z : ℕ). z % 16) sizes ∙ sym t.apdu in
     let sa : accepted ≡ taken = f.1 ∙ sym q.1 in
     cc (p.0, p.1)

@@ -1,3 +1,4 @@
+pub mod OneName
 pub mod Parameters
 pub mod ServiceErrors
 pub mod ApduLaws

@@ -52,3 +52,15 @@ IsNamedAbort r = Unit {0}
 -- the reason of this number (18.10)
 abbrev pub IsAbortOf : ℕ → AbortReason → Type 0
 IsAbortOf n r = (abort_number r ≡ n) × IsNamedAbort r
+
+-- services of one number are one (21)
+abbrev pub OneService : Type 0
+OneService = (r s : ConfirmedService) → service_number r ≡ service_number s → r ≡ s
+
+-- reasons of a Reject of one number that stand under their names are one (18.9)
+abbrev pub OneReject : Type 0
+OneReject = (r s : RejectReason) → reject_number r ≡ reject_number s → IsNamedReject r → IsNamedReject s → r ≡ s
+
+-- reasons of an Abort of one number that stand under their names are one (18.10)
+abbrev pub OneAbort : Type 0
+OneAbort = (r s : AbortReason) → abort_number r ≡ abort_number s → IsNamedAbort r → IsNamedAbort s → r ≡ s

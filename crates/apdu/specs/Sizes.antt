@@ -1,5 +1,5 @@
 -- The codes of what a requester can take (20.1.2.4, 20.1.2.5).
-use Rattle.std.specs.Prelude.{ℕ, ◌<◌}
+use Rattle.std.specs.Prelude.{◌≡◌, ℕ, ◌<◌}
 use Rattle.apdu.specs.declared.sizes.MaxSegments.{MaxSegments}
 use Rattle.apdu.specs.declared.sizes.MaxSegments.TheVariants.{Unspecified, Two, Four, Eight, Sixteen, ThirtyTwo, SixtyFour, More}
 use Rattle.apdu.specs.declared.sizes.MaxApdu.{MaxApdu}
@@ -48,3 +48,11 @@ apdu_taken m = 50
 abbrev pub IsNamedSize : MaxApdu → Type 0
 IsNamedSize (Reserved n) = 5 < n
 IsNamedSize m = Unit {0}
+
+-- numbers of segments of one code are one (20.1.2.4)
+abbrev pub OneCount : Type 0
+OneCount = (m n : MaxSegments) → segments_code m ≡ segments_code n → m ≡ n
+
+-- sizes of one code that stand under their names are one (20.1.2.5)
+abbrev pub OneSize : Type 0
+OneSize = (m n : MaxApdu) → apdu_code m ≡ apdu_code n → IsNamedSize m → IsNamedSize n → m ≡ n

@@ -12,7 +12,7 @@
 //! - `service_error`: why a service failed, as an Error says it.
 //! - `unconfirmed`: Who-Is and I-Am.
 //! - `parameter`: one parameter of a service.
-//! - `apdu_laws`: what holds of every spelling, for the proofs of the layers above.
+//! - `apdu_laws`: what holds of every spelling and number, for the proofs of the layers above.
 #![tactic(auto)]
 
 pub mod apdu;
@@ -25,7 +25,7 @@ pub mod sizes;
 pub mod unconfirmed;
 
 pub use apdu::{Apdu, Segment};
-pub use apdu_laws::{apdu_spelling, i_am_spelling, who_is_spelling};
+pub use apdu_laws::{apdu_spelling, i_am_spelling, one_number, one_size, who_is_spelling};
 pub use numbers::{AbortReason, ConfirmedService, RejectReason, UnknownService};
 pub use parameter::contents_of;
 pub use pdu_type::PduType;

@@ -1,3 +1,4 @@
 pub mod FieldLaws
 pub mod HeaderLaws
 pub mod SpellingLaws
+pub mod Stations

@@ -4,7 +4,7 @@
 //! `write` appends the canonical octets of a header. A `Parcel` is such a message on its way over one network.
 //! To the layer above it promises: what is read is the one header that the octets spell, each field being its
 //! own slice; what is written is spelled by the octets appended, and read again to the same fields.
-//! Modules: `mac` (link addresses, stations, targets), `parcel`, `priority`, `message` (types of network
+//! Modules: `mac` (link addresses, stations, targets, ways), `parcel`, `priority`, `message` (types of network
 //! messages), `view` (a header and its parts), `fields` and `header` (reading and writing them), `laws`.
 #![tactic(auto)]
 
@@ -18,8 +18,8 @@ mod priority;
 mod view;
 
 pub use header::write;
-pub use laws::{canonical_is_shortest, one_header};
-pub use mac::{Mac, Station, Target};
+pub use laws::{canonical_is_shortest, one_header, one_station, station_order};
+pub use mac::{Mac, Station, Target, Way};
 pub use message::{Message, RejectReason};
 pub use parcel::Parcel;
 pub use priority::Priority;

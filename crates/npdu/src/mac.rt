@@ -4,7 +4,7 @@ ghost use Rattle.std.specs.Prelude.{◌≡◌, ◌≢◌, ◌⊎◌, IfSome, IfN
 ghost use Rattle.npdu.specs.Mac.{mac_octets};
 
 /// The address of a station on its own network: one octet on MS/TP, six on BACnet/IP (Table 6-2).
-#[derive(Clone, Copy, Debug, PartialEq, Eq)]
+#[derive(Clone, Copy, Debug, PartialEq, Eq, PartialOrd, Ord)]
 pub enum Mac {
     /// The address of an MS/TP node.
     One(u8),
@@ -46,7 +46,7 @@ impl Mac {
 }
 
 /// A station of the internetwork: its network's number, 1..=65534, and its address there.
-#[derive(Clone, Copy, Debug, PartialEq, Eq)]
+#[derive(Clone, Copy, Debug, PartialEq, Eq, PartialOrd, Ord)]
 pub struct Station {
     pub net: u16,
     pub mac: Mac,
@@ -59,4 +59,13 @@ pub enum Target {
     One(Mac),
     /// All stations of the network.
     All,
+}
+
+/// Where an answer goes (5.4.5, 6.5.2).
+#[derive(Clone, Copy, Debug, PartialEq, Eq)]
+pub struct Way {
+    /// The station on this network that it is handed to: the asker itself, or a router towards it.
+    pub to: Mac,
+    /// The asker, where it is on another network: DNET and DADR name it then.
+    pub destination: Option<Station>,
 }

@@ -49,3 +49,11 @@ IsNamedCode c = Unit {0}
 -- the code of this number (18.1 to 18.8)
 abbrev pub IsCodeOf : ℕ → ErrorCode → Type 0
 IsCodeOf n c = (code_number c ≡ n) × IsNamedCode c
+
+-- classes of one number that stand under their names are one (18.1 to 18.8)
+abbrev pub OneClass : Type 0
+OneClass = (c d : ErrorClass) → class_number c ≡ class_number d → IsNamedClass c → IsNamedClass d → c ≡ d
+
+-- codes of one number that stand under their names are one (18.1 to 18.8)
+abbrev pub OneCode : Type 0
+OneCode = (c d : ErrorCode) → code_number c ≡ code_number d → IsNamedCode c → IsNamedCode d → c ≡ d

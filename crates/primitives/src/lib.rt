@@ -13,11 +13,13 @@
 //! - `error`: error classes and codes, with the standard's numbers.
 //! - `object_type`: the object types, with the standard's numbers.
 //! - `property`: the properties, with the standard's numbers.
+//! - `laws`: a number has one name.
 #![tactic(auto)]
 
 mod answers;
 mod copying;
 mod error;
+mod laws;
 mod object_type;
 mod plain_data;
 mod property;
@@ -25,6 +27,7 @@ mod soundness;
 
 pub use copying::{CopyIn, copy_all};
 pub use error::{ErrorClass, ErrorCode};
+pub use laws::{one_class, one_code};
 pub use object_type::ObjectType;
 pub use plain_data::{
     ObjectRefs, ObjectResults, ObjectWrites, PropertyReference, PropertyResult, PropertyWrite,

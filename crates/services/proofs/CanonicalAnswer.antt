@@ -19,9 +19,9 @@ use Rattle.apdu.specs.ApduWriting.{class_and_code_octets}
 use Rattle.services.specs.CanonicalReply.{reading_octets, result_octets, results_octets, canonical_reply}
 use Rattle.apdu.specs.ParameterWriting.{object_field, number_field, option_field, opening_octets, closing_octets}
 use Rattle.services.specs.CanonicalRequest.{values_field, in_turn, read_octets}
-use Rattle.services.specs.Fields.{TakesNumber, TakesOpening, TakesEach}
+use Rattle.services.specs.Fields.{TakesNumber, TakesOpening}
 use Rattle.services.specs.Multiple.{OpensList}
-use Rattle.services.specs.Reply.{reading_tag, TakesReading, TakesResult, TakesResults, SpellsAnswer, SpellsReply, GoesIn}
+use Rattle.services.specs.Reply.{reading_tag, TakesReading, TakesResult, TakesResults, SpellsAck, SpellsAnswer, SpellsReply, GoesIn}
 use Rattle.services.specs.Requests.{TakesWrite}
 use Rattle.services.proofs.CanonicalBody.{number_taken, opening_taken, closing_taken, option_taken, no_contents_at_opening, inside_taken, each_taken, write_spelled, list_opened, whole}
 use Rattle.apdu.proofs.CanonicalLaws.{class_and_code}
@@ -89,19 +89,30 @@ results_taken r rest sound =
       };
     }
 
+-- a reply with service data
+abbrev pub HasData : {A : Type 0} → Reply A → Type 0
+HasData (Values vs) = Unit {0}
+HasData (Many rs) = Unit {0}
+HasData x = ⊥
+
 -- the service data of a ComplexACK
+pub ack_in : {A : Type 0} (request : Request A) (x : Reply A) → IsSoundRequest request → IsSoundReply x → IsAnswerTo request x → HasData x → SpellsAck request (canonical_reply request x) x
+ack_in (Read o p i) (Values vs) q s h d = ack_spelled o p i vs q.0 q.1 q.2 s
+ack_in (ReadMany asked) (Many rs) q s h d = whole TakesResults results_octets IsSoundResults results_taken rs s
+ack_in (ReadMany asked) (Values vs) q s h d = absurd h
+ack_in (Write o p i ws n) (Values vs) q s h d = absurd h
+ack_in (WriteMany asked) (Values vs) q s h d = absurd h
+ack_in (Read o p i) (Many rs) q s h d = absurd h
+ack_in (Write o p i ws n) (Many rs) q s h d = absurd h
+ack_in (WriteMany asked) (Many rs) q s h d = absurd h
+ack_in request x q s h d = absurd d
+
 spelled_in : {A : Type 0} (request : Request A) (x : Reply A) (a : Answer) → IsSoundRequest request → IsSoundReply x → IsAnswerTo request x → GoesIn x (canonical_reply request x) a → SpellsAnswer request a x
-spelled_in (Read o p i) (Values vs) (answer.Complex octets) q s h g = subst (λ (z : List ℕ). TakesWrite z o p i vs []) (sym g) (ack_spelled o p i vs q.0 q.1 q.2 s)
-spelled_in (ReadMany asked) (Many rs) (answer.Complex octets) q s h g = subst (λ (z : List ℕ). TakesEach TakesResults z rs []) (sym g) (whole TakesResults results_octets IsSoundResults results_taken rs s)
+spelled_in request (Values vs) (answer.Complex octets) q s h g = subst (λ (z : List ℕ). SpellsAck request z (Values vs)) (sym g) (ack_in request (Values vs) q s h tt)
+spelled_in request (Many rs) (answer.Complex octets) q s h g = subst (λ (z : List ℕ). SpellsAck request z (Many rs)) (sym g) (ack_in request (Many rs) q s h tt)
 spelled_in request Done answer.Simple q s h g = refl
 spelled_in request (Error c d) (answer.Error e) q s h g = g
 spelled_in request (ErrorAt c d o p i) (answer.Error e) q s h g = g
-spelled_in (ReadMany asked) (Values vs) a q s h g = absurd h
-spelled_in (Write o p i ws n) (Values vs) a q s h g = absurd h
-spelled_in (WriteMany asked) (Values vs) a q s h g = absurd h
-spelled_in (Read o p i) (Many rs) a q s h g = absurd h
-spelled_in (Write o p i ws n) (Many rs) a q s h g = absurd h
-spelled_in (WriteMany asked) (Many rs) a q s h g = absurd h
 spelled_in request x a q s h g = absurd g
 
 pub reply_spelled : {A : Type 0} (request : Request A) (x : Reply A) (a : Answer) → IsSoundRequest request → IsSoundReply x → IsAnswerTo request x → GoesIn x (canonical_reply request x) a → SpellsReply request a x

@@ -10,7 +10,6 @@ pub mod OneRequest
 pub mod NoField
 pub mod NoRequest
 pub mod RequestOctets
-pub mod ErrorNames
 pub mod OneReply
 pub mod NoReply
 pub mod OneAnswer
@@ -19,3 +18,5 @@ pub mod OneReason
 pub mod ShortestBody
 pub mod CanonicalAnswer
 pub mod ShortestAnswer
+pub mod Contents
+pub mod AskedNames

@@ -19,7 +19,7 @@ use Rattle.services.specs.ReplySteps.{NoAnswer}
 use Rattle.services.proofs.OneReply.{one_many}
 use Rattle.services.proofs.OneRequest.{one_write}
 
-one_ack : {A : Type 0} (request : Request A) (octets : List ℕ) (r q : Reply A) → SpellsAck request octets r → SpellsAck request octets q → r ≡ q
+pub one_ack : {A : Type 0} (request : Request A) (octets : List ℕ) (r q : Reply A) → SpellsAck request octets r → SpellsAck request octets q → r ≡ q
 one_ack {A} (Read o p i) octets (Values vs) (Values ws) s t = ap (λ (xs : List (Value A)). Values xs) (one_write octets o o p p i i vs ws [] [] s t).values
 one_ack {A} (ReadMany asked) octets (Many rs) (Many qs) s t = ap (λ (xs : List (ObjectResults A)). Many xs) (one_many octets rs qs s t)
 one_ack (Read o p i) octets (Values vs) q s t = absurd t
@@ -49,7 +49,7 @@ some_is r q e = cc
 error_at_is : (A : Type 0) (c e : ErrorClass) (d f : ErrorCode) (r q : ObjectPropertyReference) → c ≡ e → d ≡ f → r ≡ q → error_at A c d r ≡ error_at A e f q
 error_at_is A c e d f r q p u v = ap (λ (x : ErrorClass). error_at A x d r) p ∙ ap (λ (y : ErrorCode). error_at A e y r) u ∙ ap (λ (z : ObjectPropertyReference). error_at A e f z) v
 
-one_failure : {A : Type 0} (e : ServiceError) (r q : Reply A) → SpellsFailure e r → SpellsFailure e q → r ≡ q
+pub one_failure : {A : Type 0} (e : ServiceError) (r q : Reply A) → SpellsFailure e r → SpellsFailure e q → r ≡ q
 one_failure {A} e (Error c d) (Error f g) s t = error_is A c f d g (sym s.0 ∙ t.0) (sym s.1 ∙ t.1)
 one_failure {A} e (ErrorAt c d o p i) (ErrorAt f g u n j) s t = error_at_is A c f d g (at o p i) (at u n j) (sym s.0 ∙ t.0) (sym s.1 ∙ t.1) (some_is (at o p i) (at u n j) (sym s.2 ∙ t.2))
 one_failure e (Error c d) (ErrorAt f g u n j) s t = absurd (some_or_none e.first_failed (at u n j) s.2 t.2)

@@ -16,7 +16,7 @@ use Rattle.services.specs.Fields.{TakesClosing, TakesEach}
 use Rattle.apdu.specs.Parameter.{carrying}
 use Rattle.services.specs.Reply.{TakesErrorInside, reading_tag, TakesReadingInside, TakesReading, TakesIndexed, TakesResult, TakesResultList, TakesResults}
 use Rattle.apdu.specs.ServiceError.{TakesClassAndCode}
-use Rattle.services.proofs.ErrorNames.{one_class, one_code}
+use Rattle.primitives.proofs.ErrorNames.{one_class, one_code}
 use Rattle.services.proofs.OneField.{one_number, one_option, one_closing, one_list, one_inside, contents_no_closing}
 use Rattle.services.proofs.OneRequest.{IsEnd, one_opened, one_end, nothing_shorter}
 use Rattle.services.proofs.Shortens.{number_shortens, option_shortens, inside_shortens, each_shortens, list_shortens}

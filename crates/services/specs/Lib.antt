@@ -10,3 +10,5 @@ pub mod Reply
 pub mod ReplySteps
 pub mod RequestLaws
 pub mod ReplyLaws
+pub mod Contents
+pub mod Asked

@@ -14,9 +14,11 @@
 //! - `executor`: what executes requests, and the object machine that does.
 //! - `stop`: why reading a body stops.
 //! - `laws`, `reply_laws`: what holds of every spelling, for the proofs of the layers above.
+//! - `asked`: what the names stand for that steps of transactions mention.
 #![tactic(auto)]
 
 mod acknowledgement;
+pub mod asked;
 mod executor;
 mod fields;
 pub mod laws;
