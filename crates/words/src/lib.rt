@@ -11,9 +11,9 @@
 //! Words are parted by single spaces. Numbers are decimal digits, and leading zeros are read;
 //! octets are pairs of hexadecimal digits without spaces, `-` where there are none.
 //!
-//! To the layers above it promises: a request and a value that are read have a spelling in octets,
-//! and numbers and octets are read exactly. That what is printed is read again, and each form of
-//! the words, is tested and not proved.
+//! To the layers above it promises: numbers, octets, objects, properties and values are read exactly,
+//! and a request that is read has a spelling in octets. Which request or reply words say, and that
+//! what is printed is read again, is tested and not proved.
 //!
 //! - `octets`: numbers and octets.
 //! - `reference`: objects, and properties or elements of them.

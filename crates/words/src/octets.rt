@@ -3,6 +3,8 @@
 ghost use Rattle.std.specs.Prelude.{◌≡◌, ◌⊎◌, Ok, IfOk, IfErr};
 ghost use Rattle.hex.specs.Hex.{decode_of};
 ghost use Rattle.words.specs.Digits.{IsNumber, NoNumber, SaysOctets, NoOctets, NoPairs};
+ghost use Rattle.words.specs.Says.{SaysSigned, SaysUnsigned};
+ghost use Rattle.words.specs.Unsaid.{NoSigned, NoUnsigned};
 
 use crate::unread::Unread;
 use hex::FromHexError;
@@ -28,6 +30,38 @@ where
         Ok(number) => Ok(number),
         Err(_) => Err(Unread::Number),
     }
+}
+
+/// A number of 8 bits.
+pub(crate) fn parse_u8(word: &str) -> Result<u8, Unread>
+    ensures read { IfOk result (SaysUnsigned 8 word.now) }
+    ensures refused { IfErr result (λ e. (e ≡ Unread.Number) × NoUnsigned 8 word.now) }
+{
+    parse_number(word)
+}
+
+/// A number of 16 bits.
+pub(crate) fn parse_u16(word: &str) -> Result<u16, Unread>
+    ensures read { IfOk result (SaysUnsigned 16 word.now) }
+    ensures refused { IfErr result (λ e. (e ≡ Unread.Number) × NoUnsigned 16 word.now) }
+{
+    parse_number(word)
+}
+
+/// A number of 32 bits.
+pub(crate) fn parse_u32(word: &str) -> Result<u32, Unread>
+    ensures read { IfOk result (SaysUnsigned 32 word.now) }
+    ensures refused { IfErr result (λ e. (e ≡ Unread.Number) × NoUnsigned 32 word.now) }
+{
+    parse_number(word)
+}
+
+/// A signed number of 32 bits.
+pub(crate) fn parse_i32(word: &str) -> Result<i32, Unread>
+    ensures read { IfOk result (SaysSigned word.now) }
+    ensures refused { IfErr result (λ e. (e ≡ Unread.Number) × NoSigned word.now) }
+{
+    parse_number(word)
 }
 
 /// The octets that a word spells as pairs of hexadecimal digits of either case; `-` is none.

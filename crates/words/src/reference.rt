@@ -1,6 +1,10 @@
 //! Objects, as `5:1`, and properties or elements of them, as `85` or `87/17`.
 
-use crate::octets::parse_number;
+ghost use Rattle.std.specs.Prelude.{◌≡◌, ◌⊎◌, IfOk, IfErr};
+ghost use Rattle.words.specs.Says.{SaysObject, SaysReference};
+ghost use Rattle.words.specs.Unsaid.{NoObject, NoReference};
+
+use crate::octets::{parse_u16, parse_u32};
 use crate::shown::Words;
 use crate::unread::Unread;
 use primitives::PropertyReference;
@@ -11,13 +15,17 @@ use tags::ObjectId;
 ///
 /// # Errors
 /// `Object` where there is no colon, or `Number` where its sides are not numbers of 16 and 32 bits.
-pub fn parse_object(word: &str) -> Result<ObjectId, Unread> {
+#[tactic(auto, using(crate::proofs::Unsaid::no_type))]
+pub fn parse_object(word: &str) -> Result<ObjectId, Unread>
+    ensures read { IfOk result (SaysObject word.now) }
+    ensures refused { IfErr result (λ e. NoObject word.now) }
+{
     let Some((object_type, instance)) = word.split_once(':') else {
         return Err(Unread::Object);
     };
     Ok(ObjectId {
-        object_type: parse_number(object_type)?,
-        instance: parse_number(instance)?,
+        object_type: parse_u16(object_type)?,
+        instance: parse_u32(instance)?,
     })
 }
 
@@ -35,15 +43,21 @@ impl<'a> fmt::Display for Words<'a, ObjectId> {
 ///
 /// # Errors
 /// `Reference` where its parts are not numbers of 32 bits.
-pub fn parse_reference(word: &str) -> Result<PropertyReference, Unread> {
-    let (property, index) = match word.split_once('/') {
-        Some((property, index)) => (property, Some(parse_number(index)?)),
-        None => (word, None),
-    };
-    Ok(PropertyReference {
-        property: parse_number(property)?,
-        index,
-    })
+#[tactic(auto, using(crate::proofs::Unsaid::no_property))]
+pub fn parse_reference(word: &str) -> Result<PropertyReference, Unread>
+    ensures read { IfOk result (SaysReference word.now) }
+    ensures refused { IfErr result (λ e. NoReference word.now) }
+{
+    match word.split_once('/') {
+        Some((property, index)) => Ok(PropertyReference {
+            property: parse_u32(property)?,
+            index: Some(parse_u32(index)?),
+        }),
+        None => Ok(PropertyReference {
+            property: parse_u32(word)?,
+            index: None,
+        }),
+    }
 }
 
 impl<'a> fmt::Display for Words<'a, PropertyReference> {

@@ -1,24 +1,29 @@
 //! Values: `null`, `bool true`, `unsigned 7`, `signed -7`, `enum 1`, `object 5:1`, `text 6F6E`,
 //! `text/4 0041`, `bits 4 F0`, `other 10 7C0C1601`, `built 0901`; several are parted by `, `.
 
-ghost use Rattle.std.specs.Prelude.{IfOk};
+ghost use Rattle.std.specs.Prelude.{◌≡◌, ◌⊎◌, IfOk, IfErr};
 ghost use Rattle.tags.specs.Value.{IsSound};
+ghost use Rattle.words.specs.Says.{SaysBool, SaysNumbered, SaysSet, SaysValue};
+ghost use Rattle.words.specs.Unsaid.{NoBool, NoNumbered, NoSet, NoValue, SaysUnsound};
 
-use crate::octets::{Hex, parse_number, parse_octets};
+use crate::octets::{Hex, parse_i32, parse_octets, parse_u8, parse_u32};
 use crate::reference::parse_object;
 use crate::shown::Words;
 use crate::unread::Unread;
 use primitives::Values;
 use std::alloc::Allocator;
 use std::fmt;
-use tags::{Items, Value};
+use tags::{Items, Octets, Value};
 
 /// The value that words say, which has a spelling.
 ///
 /// # Errors
 /// `Memory`, `Sound` for a value without a spelling, or what is missing of the words.
 pub fn parse_value<A: Allocator + Copy>(alloc: A, words: &str) -> Result<Value<A>, Unread>
+    ensures read { IfOk result (SaysValue words.now) }
     ensures sound { IfOk result IsSound }
+    ensures refused { IfErr result (λ e. (e ≡ Unread.Memory) ⊎ NoValue A words.now ⊎
+        ((e ≡ Unread.Sound) × SaysUnsound A words.now)) }
 {
     let value = any_value(alloc, words)?;
     if !value.is_sound() {
@@ -44,7 +49,11 @@ pub fn parse_values<A: Allocator + Copy>(alloc: A, words: &str) -> Result<Values
 }
 
 /// The value that words say, with a spelling or without.
-fn any_value<A: Allocator + Copy>(alloc: A, words: &str) -> Result<Value<A>, Unread> {
+#[tactic(auto, using(crate::proofs::Unsaid::value_laws))]
+fn any_value<A: Allocator + Copy>(alloc: A, words: &str) -> Result<Value<A>, Unread>
+    ensures read { IfOk result (SaysValue words.now) }
+    ensures refused { IfErr result (λ e. (e ≡ Unread.Memory) ⊎ NoValue A words.now) }
+{
     let Some((kind, rest)) = words.split_once(' ') else {
         return match words {
             "null" => Ok(Value::Null),
@@ -52,60 +61,62 @@ fn any_value<A: Allocator + Copy>(alloc: A, words: &str) -> Result<Value<A>, Unr
         };
     };
     match kind {
-        "bool" => flag(rest),
-        "unsigned" => Ok(Value::Unsigned(parse_number(rest)?)),
-        "signed" => Ok(Value::Signed(parse_number(rest)?)),
-        "enum" => Ok(Value::Enum(parse_number(rest)?)),
+        "bool" => Ok(Value::Bool(flag(rest)?)),
+        "unsigned" => Ok(Value::Unsigned(parse_u32(rest)?)),
+        "signed" => Ok(Value::Signed(parse_i32(rest)?)),
+        "enum" => Ok(Value::Enum(parse_u32(rest)?)),
         "object" => Ok(Value::Object(parse_object(rest)?)),
-        "bits" => bits(alloc, rest),
-        "other" => other(alloc, rest),
+        "bits" => {
+            let (unused, octets) = numbered(alloc, rest)?;
+            Ok(Value::Bits { unused, octets })
+        }
+        "other" => {
+            let (tag, octets) = numbered(alloc, rest)?;
+            Ok(Value::Other { tag, octets })
+        }
         "built" => Ok(Value::Built(parse_octets(alloc, rest)?)),
-        _ => text(alloc, kind, rest),
+        _ => {
+            let set = set_of(kind)?;
+            let octets = parse_octets(alloc, rest)?;
+            Ok(Value::Text { set, octets })
+        }
     }
 }
 
 /// A Boolean.
-fn flag<A: Allocator>(word: &str) -> Result<Value<A>, Unread> {
+fn flag(word: &str) -> Result<bool, Unread>
+    ensures read { IfOk result (SaysBool word.now) }
+    ensures refused { IfErr result (λ e. NoBool word.now) }
+{
     match word {
-        "true" => Ok(Value::Bool(true)),
-        "false" => Ok(Value::Bool(false)),
+        "true" => Ok(true),
+        "false" => Ok(false),
         _ => Err(Unread::Value),
     }
 }
 
-/// A text of the set that stands behind `text/`, or of set 0 behind `text`.
-fn text<A: Allocator + Copy>(alloc: A, kind: &str, word: &str) -> Result<Value<A>, Unread> {
-    let set = match kind.split_once('/') {
-        Some(("text", set)) => parse_number(set)?,
-        None if kind == "text" => 0,
-        _ => return Err(Unread::Value),
-    };
-    Ok(Value::Text {
-        set,
-        octets: parse_octets(alloc, word)?,
-    })
+/// The set that stands behind `text/`, or set 0 for `text`.
+fn set_of(kind: &str) -> Result<u8, Unread>
+    ensures read { IfOk result (SaysSet kind.now) }
+    ensures refused { IfErr result (λ e. NoSet kind.now) }
+{
+    match kind.split_once('/') {
+        Some(("text", set)) => parse_u8(set),
+        None if kind == "text" => Ok(0),
+        _ => Err(Unread::Value),
+    }
 }
 
-/// A Bit String, whose unused bits stand before its octets.
-fn bits<A: Allocator + Copy>(alloc: A, words: &str) -> Result<Value<A>, Unread> {
-    let Some((unused, word)) = words.split_once(' ') else {
+/// The unused bits of a Bit String or the number of a tag, and the octets behind it.
+#[tactic(auto, using(crate::proofs::Unsaid::no_number, crate::proofs::Unsaid::no_octets))]
+fn numbered<A: Allocator + Copy>(alloc: A, words: &str) -> Result<(u8, Octets<A>), Unread>
+    ensures read { IfOk result (λ x. SaysNumbered words.now x.0 x.1) }
+    ensures refused { IfErr result (λ e. (e ≡ Unread.Memory) ⊎ NoNumbered words.now) }
+{
+    let Some((number, word)) = words.split_once(' ') else {
         return Err(Unread::Value);
     };
-    Ok(Value::Bits {
-        unused: parse_number(unused)?,
-        octets: parse_octets(alloc, word)?,
-    })
-}
-
-/// A value of another tag, whose number stands before its octets.
-fn other<A: Allocator + Copy>(alloc: A, words: &str) -> Result<Value<A>, Unread> {
-    let Some((tag, word)) = words.split_once(' ') else {
-        return Err(Unread::Value);
-    };
-    Ok(Value::Other {
-        tag: parse_number(tag)?,
-        octets: parse_octets(alloc, word)?,
-    })
+    Ok((parse_u8(number)?, parse_octets(alloc, word)?))
 }
 
 impl<'a, A: Allocator> fmt::Display for Words<'a, Value<A>> {

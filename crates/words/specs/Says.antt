@@ -1,0 +1,103 @@
+-- What words say: numbers, objects, properties and values, in forms that a person reads (the types of 20.2).
+use Rattle.std.specs.Prelude.{◌≡◌, ◌≢◌, slice_index, ◌<◌, ◌^◌, ◌==◌, ◌⊎◌, FitsSigned, ℕ, ℤ, List, length, Option, Some, None, Bool, true, false}
+use Rattle.std.specs.Prelude.{codes}
+use Rattle.std.specs.Int.{w32}
+use Rattle.std.specs.List.{position_or_len, before_first, after_first}
+use Rattle.std.specs.Str.Parse.{IsNumeral, digits_value, signed_digits_value, without_leading_sign}
+use Rattle.primitives.specs.declared.plain_data.PropertyReference.{PropertyReference}
+use Rattle.tags.specs.declared.object_id.ObjectId.{ObjectId}
+use Rattle.tags.specs.declared.value.Value.{Value}
+use Rattle.tags.specs.declared.value.Value.TheVariants as value
+use Rattle.words.specs.Digits.{SaysOctets}
+
+-- the words have such a character
+abbrev pub Has : ℕ → List ℕ → Type 0
+Has c words = position_or_len (λ b. b == c) words < length words
+
+-- they have none
+abbrev pub HasNo : ℕ → List ℕ → Type 0
+HasNo c words = position_or_len (λ b. b == c) words ≡ length words
+
+-- what stands before the first such character
+abbrev pub before : ℕ → List ℕ → List ℕ
+before c words = before_first (λ b. b == c) words
+
+-- what stands behind it
+abbrev pub behind : ℕ → List ℕ → List ℕ
+behind c words = after_first (λ b. b == c) words
+
+-- a colon, a slash and a space
+abbrev pub colon : ℕ
+colon = 58
+
+abbrev pub slash : ℕ
+slash = 47
+
+abbrev pub space : ℕ
+space = 32
+
+-- decimal digits alone, of a number of so many bits (20.2.4)
+pub record SaysUnsigned (bits : ℕ) (word : List ℕ) (n : ℕ) : Type 0 where
+  pub digits : IsNumeral 10 word
+  pub number : n ≡ digits_value 10 word
+  pub fits : n < 2 ^ bits
+
+-- decimal digits behind a minus or none, of a number of 32 bits (20.2.5)
+pub record SaysSigned (word : List ℕ) (z : ℤ) : Type 0 where
+  pub no_plus : slice_index word 0 ≢ 43
+  pub digits : IsNumeral 10 (without_leading_sign word)
+  pub number : z ≡ signed_digits_value 10 word
+  pub fits : FitsSigned w32 z
+
+-- the type of an object, a colon, and its instance, as `5:1` (20.2.14)
+pub record SaysObject (word : List ℕ) (o : ObjectId) : Type 0 where
+  pub parted : Has colon word
+  pub type_said : SaysUnsigned 16 (before colon word) o.object_type
+  pub instance_said : SaysUnsigned 32 (behind colon word) o.instance
+
+-- a property, as `85`, or a property, a slash and an index, as `87/17` (21, BACnetPropertyReference)
+abbrev pub SaysProperty : List ℕ → ℕ → Option ℕ → Type 0
+SaysProperty word property None = HasNo slash word × SaysUnsigned 32 word property
+SaysProperty word property (Some index) = Has slash word × SaysUnsigned 32 (before slash word) property ×
+    SaysUnsigned 32 (behind slash word) index
+
+-- a reference to a property (21, BACnetPropertyReference)
+abbrev pub SaysReference : List ℕ → PropertyReference → Type 0
+SaysReference word r = SaysProperty word r.property r.index
+
+-- the words are a kind, a space, and more behind it
+pub record IsOfKind (words kind : List ℕ) : Type 0 where
+  pub parted : Has space words
+  pub kind_is : before space words ≡ kind
+
+-- a number of 8 bits, a space, and octets
+pub record SaysNumbered (words : List ℕ) (n : ℕ) (octets : List ℕ) : Type 0 where
+  pub parted : Has space words
+  pub number_said : SaysUnsigned 8 (before space words) n
+  pub octets_said : SaysOctets (behind space words) octets
+
+-- the kind of a text of set 0, or of the set behind a slash (20.2.9)
+abbrev pub SaysSet : List ℕ → ℕ → Type 0
+SaysSet kind set = ((kind ≡ codes "text") × (set ≡ 0)) ⊎
+    (Has slash kind × (before slash kind ≡ codes "text") × SaysUnsigned 8 (behind slash kind) set)
+
+-- `true` or `false` (20.2.3)
+abbrev pub SaysBool : List ℕ → Bool → Type 0
+SaysBool word true = word ≡ codes "true"
+SaysBool word false = word ≡ codes "false"
+
+-- the words say the value (20.2)
+abbrev pub SaysValue : {A : Type 0} → List ℕ → Value A → Type 0
+SaysValue words value.Null = words ≡ codes "null"
+SaysValue words (value.Bool b) = IsOfKind words (codes "bool") × SaysBool (behind space words) b
+SaysValue words (value.Unsigned n) = IsOfKind words (codes "unsigned") × SaysUnsigned 32 (behind space words) n
+SaysValue words (value.Signed z) = IsOfKind words (codes "signed") × SaysSigned (behind space words) z
+SaysValue words (value.Enum n) = IsOfKind words (codes "enum") × SaysUnsigned 32 (behind space words) n
+SaysValue words (value.Object o) = IsOfKind words (codes "object") × SaysObject (behind space words) o
+SaysValue words (value.Text set octets) = Has space words × SaysSet (before space words) set ×
+    SaysOctets (behind space words) octets
+SaysValue words (value.Bits unused octets) = IsOfKind words (codes "bits") ×
+    SaysNumbered (behind space words) unused octets
+SaysValue words (value.Other tag octets) = IsOfKind words (codes "other") ×
+    SaysNumbered (behind space words) tag octets
+SaysValue words (value.Built octets) = IsOfKind words (codes "built") × SaysOctets (behind space words) octets
