@@ -1,23 +1,25 @@
 //! Whether a reply answers a request: `read 5:1 85 | done -> no answer`.
 
-use crate::text::one_row;
-use sheets::{Counts, Given, Part, Stop, differs};
+use sheets::{Counts, Part, Stop, run_text};
+use std::alloc::{Allocator, Global};
 use words::{parse_any_reply, parse_any_request};
 
 /// Runs a row.
-pub(crate) fn run(given: Given<'_>, asked: &str, wanted: &str) -> Result<Counts, Stop> {
+pub(crate) fn run(alloc: Global, asked: &str, wanted: &str) -> Result<Counts, Stop> {
     let Some((request, reply)) = asked.split_once(" | ") else {
         return Err(Stop::Unread(Part::Asked));
     };
-    let request = parse_any_request(given.memory, request)?;
-    let reply = parse_any_reply(given.memory, reply)?;
-    let found = if reply.answers(&request) {
+    let found = if is_answer(alloc, request, reply)? {
         "an answer"
     } else {
         "no answer"
     };
-    if found != wanted {
-        return Err(differs(given.alloc, found));
-    }
-    Ok(one_row())
+    run_text(String::from_str(alloc, found)?, wanted)
+}
+
+/// Whether a reply answers a request, both in words.
+fn is_answer<A: Allocator + Copy>(alloc: A, request: &str, reply: &str) -> Result<bool, Stop> {
+    let request = parse_any_request(alloc, request)?;
+    let reply = parse_any_reply(alloc, reply)?;
+    Ok(reply.answers(&request))
 }

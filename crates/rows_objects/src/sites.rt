@@ -1,91 +1,82 @@
 //! Sites: `site NAME`, `device INSTANCE VENDOR LINK NAME`, and for each object
 //! `object TYPE INSTANCE NAME DESCRIPTION DEFAULT`; `crowd N` are as many Integer Values.
 
-use crate::text::expanded;
 use objects::{DataLink, SiteObject, SiteObjects, ValueKind};
-use sheets::{Given, Memory, Part, Stop, number, two_words};
-use tags::{Items, Octets, Value};
+use sheets::{Part, Row, Stop, two_words};
+use std::alloc::Allocator;
+use tags::{Items, Value};
 use words::{parse_number, parse_octets, parse_value};
 
-/// A site that rows have described, under its name there.
-#[derive(Drop)]
-pub(crate) struct Site<'a> {
-    name: String,
-    device: SiteObjects<Memory<'a>>,
+/// The words of a device that no row describes yet.
+const NO_DEVICE: &str = "0 0 ip -";
+
+/// A site in words: the rows of its file, and `NAME`, `NAME with OBJECT`, `NAME as INSTANCE NAME` or
+/// `NAME on LINK`.
+#[derive(Clone, Copy)]
+pub(crate) struct Described<'r> {
+    pub(crate) rows: &'r [Row<'r>],
+    pub(crate) words: &'r str,
 }
 
-/// Takes a row that describes a site: it begins one, or adds to the last.
-pub(crate) fn describe<'a>(
-    given: Given<'a>,
-    sites: &mut Vec<Site<'a>>,
-    row: &str,
-) -> Result<(), Stop> {
-    let (word, rest) = two_words(row);
-    if word == "site" {
-        sites.push(Site {
-            name: String::from_str(given.alloc, rest)?,
-            device: device(given.other, "0 0 ip -")?,
-        })?;
-        return Ok(());
-    }
-    match sites.as_mut_slice() {
-        [.., last] => add(given.other, &mut last.device, word, rest),
-        [] => Err(Stop::Unread(Part::Asked)),
+impl<'r> Described<'r> {
+    /// The site, in memory of an allocator.
+    ///
+    /// # Errors
+    /// `Unread` where no row describes it, and `Memory`.
+    pub(crate) fn site<A: Allocator + Copy>(self, memory: A) -> Result<SiteObjects<A>, Stop> {
+        let (name, change) = two_words(self.words);
+        if !is_described(self.rows, name) {
+            return Err(Stop::Unread(Part::Asked));
+        }
+        let mut site = device(memory, NO_DEVICE)?;
+        let mut is_named = false;
+        for row in self.rows {
+            if row.asked.starts_with("site ") {
+                is_named = row.asked.strip_prefix("site ") == Some(name);
+            } else if is_named && row.wanted.is_none() {
+                add(memory, &mut site, row.asked)?;
+            }
+        }
+        if !change.is_empty() {
+            add(memory, &mut site, change)?;
+        }
+        Ok(site)
     }
 }
 
-/// Adds what a row says to a site.
-fn add<'a>(
-    memory: Memory<'a>,
-    site: &mut SiteObjects<Memory<'a>>,
-    word: &str,
-    rest: &str,
-) -> Result<(), Stop> {
+/// Whether a row begins the site of this name.
+fn is_described(rows: &[Row<'_>], name: &str) -> bool {
+    for row in rows {
+        if row.asked.strip_prefix("site ") == Some(name) {
+            return true;
+        }
+    }
+    false
+}
+
+/// Adds what words say to a site.
+fn add<A: Allocator + Copy>(memory: A, site: &mut SiteObjects<A>, words: &str) -> Result<(), Stop> {
+    let (word, rest) = two_words(words);
     match word {
         "device" => *site = device(memory, rest)?,
-        "object" => site.objects.push(object(memory, rest)?)?,
-        "crowd" => add_crowd(memory, site, number(rest)?)?,
+        "object" | "with" => site.objects.push(object(memory, rest)?)?,
+        "crowd" => add_crowd(memory, site, parse_number(rest)?)?,
+        "as" => rename(memory, site, rest)?,
+        "on" => site.data_link = data_link(rest)?,
         _ => return Err(Stop::Unread(Part::Asked)),
     }
     Ok(())
 }
 
-/// The site that `NAME`, `NAME with OBJECT`, `NAME as INSTANCE NAME` or `NAME on LINK` stands for.
-pub(crate) fn find<'a>(
-    given: Given<'a>,
-    sites: &[Site<'a>],
-    words: &str,
-) -> Result<SiteObjects<Memory<'a>>, Stop> {
-    let words = expanded(given.alloc, words)?;
-    let (name, rest) = two_words(words.as_str());
-    for site in sites {
-        if site.name.as_str() == name {
-            let mut found = site.device.copy(given.other)?;
-            change(given.other, &mut found, rest)?;
-            return Ok(found);
-        }
-    }
-    Err(Stop::Unread(Part::Asked))
-}
-
-/// Changes a site as words say.
-fn change<'a>(
-    memory: Memory<'a>,
-    site: &mut SiteObjects<Memory<'a>>,
+/// Gives a site another instance and name.
+fn rename<A: Allocator + Copy>(
+    memory: A,
+    site: &mut SiteObjects<A>,
     words: &str,
 ) -> Result<(), Stop> {
-    let (word, rest) = two_words(words);
-    match word {
-        "" => {}
-        "with" => site.objects.push(object(memory, rest)?)?,
-        "as" => {
-            let (instance, name) = two_words(rest);
-            site.instance = number(instance)?;
-            site.name = parse_octets(memory, name)?;
-        }
-        "on" => site.data_link = data_link(rest)?,
-        _ => return Err(Stop::Unread(Part::Asked)),
-    }
+    let (instance, name) = two_words(words);
+    site.instance = parse_number(instance)?;
+    site.name = parse_octets(memory, name)?;
     Ok(())
 }
 
@@ -99,28 +90,33 @@ fn data_link(word: &str) -> Result<DataLink, Stop> {
 }
 
 /// A device without objects: its instance, vendor, data link and name.
-fn device<'a>(memory: Memory<'a>, words: &str) -> Result<SiteObjects<Memory<'a>>, Stop> {
+fn device<A: Allocator + Copy>(memory: A, words: &str) -> Result<SiteObjects<A>, Stop> {
     let (instance, rest) = two_words(words);
     let (vendor, rest) = two_words(rest);
     let (link, name) = two_words(rest);
+    let instance = parse_number(instance)?;
+    let vendor = parse_number(vendor)?;
+    let data_link = data_link(link)?;
     Ok(SiteObjects {
         name: parse_octets(memory, name)?,
-        instance: number(instance)?,
-        vendor: parse_number(vendor)?,
-        data_link: data_link(link)?,
+        instance,
+        vendor,
+        data_link,
         objects: Items::new(memory),
     })
 }
 
 /// A value object: its type, instance, name, description and default.
-fn object<'a>(memory: Memory<'a>, words: &str) -> Result<SiteObject<Memory<'a>>, Stop> {
+fn object<A: Allocator + Copy>(memory: A, words: &str) -> Result<SiteObject<A>, Stop> {
     let (type_word, rest) = two_words(words);
     let (instance, rest) = two_words(rest);
     let (name, rest) = two_words(rest);
     let (description, default) = two_words(rest);
+    let kind = kind(type_word)?;
+    let instance = parse_number(instance)?;
     Ok(SiteObject {
-        kind: kind(type_word)?,
-        instance: number(instance)?,
+        kind,
+        instance,
         name: parse_octets(memory, name)?,
         default: parse_value(memory, default)?,
         description: parse_octets(memory, description)?,
@@ -135,7 +131,7 @@ fn kind(word: &str) -> Result<ValueKind, Stop> {
             number_of_states: parse_number(states)?,
         }),
         Some(("integer-value", units)) => Ok(ValueKind::Integer {
-            units: number(units)?,
+            units: parse_number(units)?,
         }),
         None if word == "binary-value" => Ok(ValueKind::Binary),
         None if word == "character-string-value" => Ok(ValueKind::CharacterString),
@@ -144,23 +140,25 @@ fn kind(word: &str) -> Result<ValueKind, Stop> {
 }
 
 /// Adds this number of Integer Values without units, from instance 0, each named by its instance.
-fn add_crowd<'a>(
-    memory: Memory<'a>,
-    site: &mut SiteObjects<Memory<'a>>,
+fn add_crowd<A: Allocator + Copy>(
+    memory: A,
+    site: &mut SiteObjects<A>,
     count: u32,
 ) -> Result<(), Stop> {
     for instance in 0..count {
-        let name: Octets<Memory<'a>> = Items::from_slice(
-            memory,
-            format!(in memory; "{instance}")?.as_bytes(),
-        )?;
-        site.objects.push(SiteObject {
-            kind: ValueKind::Integer { units: 95 },
-            instance,
-            name,
-            default: Value::Signed(0),
-            description: Items::new(memory),
-        })?;
+        site.objects.push(one_of_crowd(memory, instance)?)?;
     }
     Ok(())
+}
+
+/// An Integer Value without units, named by its instance.
+fn one_of_crowd<A: Allocator + Copy>(memory: A, instance: u32) -> Result<SiteObject<A>, Stop> {
+    let name = format!(in memory; "{instance}")?;
+    Ok(SiteObject {
+        kind: ValueKind::Integer { units: 95 },
+        instance,
+        name: Items::from_slice(memory, name.as_bytes())?,
+        default: Value::Signed(0),
+        description: Items::new(memory),
+    })
 }

@@ -2,10 +2,10 @@
 
 ghost use Rattle.std.specs.Prelude.{◌≤◌, IfOk};
 
-use crate::text::one_row;
 use priority::Slots;
-use sheets::{Counts, Part, Report, Row, Stop, compare, small, two_words};
+use sheets::{Counts, Part, Report, Row, Stop, run_text, two_words};
 use std::alloc::{AllocError, Global};
+use words::parse_number;
 
 /// The slots, each of which holds a value in words of the rows.
 type Commanded<'t> = Slots<&'t str>;
@@ -26,10 +26,7 @@ pub(crate) fn run<'t>(
 /// Runs a row on the slots.
 fn run_row<'t>(alloc: Global, slots: &mut Commanded<'t>, row: &Row<'t>) -> Result<Counts, Stop> {
     match row.wanted {
-        Some(wanted) => {
-            compare(answer(alloc, slots, row.asked)?, wanted)?;
-            Ok(one_row())
-        }
+        Some(wanted) => run_text(answer(alloc, slots, row.asked)?, wanted),
         None if row.asked == "new" => {
             *slots = Slots::new();
             Ok(Counts::none())
@@ -41,24 +38,24 @@ fn run_row<'t>(alloc: Global, slots: &mut Commanded<'t>, row: &Row<'t>) -> Resul
 /// What a row answers.
 fn answer<'t>(alloc: Global, slots: &mut Commanded<'t>, asked: &'t str) -> Result<String, Stop> {
     let (verb, rest) = two_words(asked);
-    Ok(match verb {
+    match verb {
         "put" => {
             let (word, value) = two_words(rest);
-            shown(alloc, slots.put(level(word)?, Some(value)))?
+            shown(alloc, slots.put(level(word)?, Some(value)))
         }
-        "relinquish" => shown(alloc, slots.put(level(rest)?, None))?,
-        "at" => shown(alloc, slots.at(level(rest)?).copied())?,
-        "current" => shown(alloc, slots.current().copied())?,
-        "levels" => levels(alloc, slots)?,
-        _ => return Err(Stop::Unread(Part::Asked)),
-    })
+        "relinquish" => shown(alloc, slots.put(level(rest)?, None)),
+        "at" => shown(alloc, slots.at(level(rest)?).copied()),
+        "current" => shown(alloc, slots.current().copied()),
+        "levels" => Ok(levels(alloc, slots)?),
+        _ => Err(Stop::Unread(Part::Asked)),
+    }
 }
 
 /// A level, 1 to 16.
 fn level(word: &str) -> Result<u8, Stop>
     ensures { IfOk result (λ level. (1 ≤ level) × (level ≤ 16)) }
 {
-    let level = small(word)?;
+    let level = parse_number(word)?;
     if level < 1 || 16 < level {
         return Err(Stop::Unread(Part::Number));
     }
@@ -66,11 +63,8 @@ fn level(word: &str) -> Result<u8, Stop>
 }
 
 /// What a slot holds.
-fn shown(alloc: Global, held: Option<&str>) -> Result<String, AllocError> {
-    match held {
-        Some(value) => String::from_str(alloc, value),
-        None => String::from_str(alloc, "none"),
-    }
+fn shown(alloc: Global, held: Option<&str>) -> Result<String, Stop> {
+    Ok(String::from_str(alloc, held.unwrap_or("none"))?)
 }
 
 /// The filled slots, each with its level.

@@ -1,10 +1,11 @@
 //! Whether octets can spell a request or a reply: `write 5:1 85 null at 17 -> not sound`.
 
-use crate::text::one_row;
+use crate::text::is_reply;
 use objects::{
     ErrorClass, ErrorCode, ObjectRefs, ObjectResults, ObjectWrites, PropertyResult, Reply, Request,
 };
-use sheets::{Counts, Given, Memory, Part, Stop, differs, two_words};
+use sheets::{Counts, Part, Stop, run_text, two_words};
+use std::alloc::{AllocError, Allocator, Global};
 use tags::{Items, ObjectId};
 use words::{
     Unread, parse_any_reply, parse_any_request, parse_number, parse_object, parse_request,
@@ -17,106 +18,94 @@ const NOTHING: &str = " nothing";
 const UNNAMED: &str = "unnamed/";
 
 /// Runs a row.
-pub(crate) fn run(given: Given<'_>, asked: &str, wanted: &str) -> Result<Counts, Stop> {
-    let is_wanted = match wanted {
-        "sound" => true,
-        "not sound" => false,
-        _ => return Err(Stop::Unread(Part::Wanted)),
+pub(crate) fn run(alloc: Global, asked: &str, wanted: &str) -> Result<Counts, Stop> {
+    let found = if is_sound(alloc, asked)? {
+        "sound"
+    } else {
+        "not sound"
     };
-    if are_sound(given, asked, is_wanted)? {
-        return Ok(one_row());
-    }
-    Err(differs(given.alloc, if is_wanted { "not sound" } else { "sound" }))
+    run_text(String::from_str(alloc, found)?, wanted)
 }
 
-/// Whether that which the words of a row say has a spelling or not as is wanted.
-fn are_sound<'a>(given: Given<'a>, asked: &str, is_wanted: bool) -> Result<bool, Stop> {
+/// Whether that which the words of a row say has a spelling.
+fn is_sound<A: Allocator + Copy>(alloc: A, asked: &str) -> Result<bool, Stop> {
     if let Some(words) = asked.strip_prefix("errors ") {
-        return are_sound_errors(given, words, is_wanted);
+        return are_sound_errors(alloc, words);
     }
-    if let Some(front) = asked.strip_suffix(NOTHING) {
-        return Ok(of_nothing(given.memory, front)?.is_sound() == is_wanted);
+    if let Some(words) = asked.strip_suffix(NOTHING) {
+        return is_sound_nothing(alloc, words);
     }
     if is_reply(asked) {
-        let reply = parse_any_reply(given.memory, asked)?;
-        return Ok(reply.is_sound() == is_wanted);
+        return Ok(parse_any_reply(alloc, asked)?.is_sound());
     }
-    let request = parse_any_request(given.memory, asked)?;
-    Ok(request.is_sound() == is_wanted && is_told_in_words(given, asked, is_wanted)?)
-}
-
-/// Whether words say a reply.
-fn is_reply(words: &str) -> bool {
-    let (verb, rest) = two_words(words);
-    match verb {
-        "values" | "done" | "error" => true,
-        "many" => rest.is_empty() || rest.starts_with('['),
-        _ => false,
-    }
+    let is_sound = parse_any_request(alloc, asked)?.is_sound();
+    is_told(alloc, asked, is_sound)?;
+    Ok(is_sound)
 }
 
 /// Whether a script's line is refused for its want of a spelling only where the request has none.
-fn is_told_in_words<'a>(given: Given<'a>, asked: &str, is_sound: bool) -> Result<bool, Stop> {
-    let read: Result<Request<Memory<'a>>, Unread> = parse_request(given.memory, asked);
-    match read {
-        Ok(_) => Ok(is_sound),
+///
+/// # Errors
+/// `Unread` where it is not so, `Memory`.
+fn is_told<A: Allocator + Copy>(alloc: A, asked: &str, is_sound: bool) -> Result<(), Stop> {
+    match parse_request(alloc, asked) {
+        Ok(_) if !is_sound => Err(Stop::Unread(Part::Words)),
+        Err(Unread::Sound) if is_sound => Err(Stop::Unread(Part::Said(Unread::Sound))),
         Err(Unread::Memory) => Err(Stop::Memory),
-        Err(Unread::Sound) => Ok(!is_sound),
-        Err(_) => Ok(true),
+        _ => Ok(()),
     }
 }
 
-/// A list that names no object, or no property of one: `many`, `batch 5:1`.
-fn of_nothing<'a>(memory: Memory<'a>, words: &str) -> Result<Request<Memory<'a>>, Stop> {
-    match words.split_once(' ') {
-        None if words == "many" => Ok(Request::ReadMany(Items::new(memory))),
-        None if words == "batch" => Ok(Request::WriteMany(Items::new(memory))),
-        Some(("many", id)) => read_nothing(memory, parse_object(id)?),
-        Some(("batch", id)) => write_nothing(memory, parse_object(id)?),
-        _ => Err(Stop::Unread(Part::Asked)),
+/// Whether a list has a spelling that names no object, or no property of one: `many`, `batch 5:1`.
+fn is_sound_nothing<A: Allocator + Copy>(alloc: A, words: &str) -> Result<bool, Stop> {
+    let none: Option<Request<A>> = match words.split_once(' ') {
+        None if words == "many" => Some(Request::ReadMany(Items::new(alloc))),
+        None if words == "batch" => Some(Request::WriteMany(Items::new(alloc))),
+        Some(("many", id)) => Some(read_nothing(alloc, parse_object(id)?)?),
+        Some(("batch", id)) => Some(write_nothing(alloc, parse_object(id)?)?),
+        _ => None,
+    };
+    match none {
+        Some(request) => Ok(request.is_sound()),
+        None => Err(Stop::Unread(Part::Asked)),
     }
 }
 
 /// A ReadPropertyMultiple of no property of an object.
-fn read_nothing<'a>(memory: Memory<'a>, object: ObjectId) -> Result<Request<Memory<'a>>, Stop> {
-    let refs = Items::new(memory);
-    let mut groups = Items::new(memory);
+fn read_nothing<A: Allocator + Copy>(alloc: A, object: ObjectId) -> Result<Request<A>, AllocError> {
+    let refs = Items::new(alloc);
+    let mut groups = Items::new(alloc);
     groups.push(ObjectRefs { object, refs })?;
     Ok(Request::ReadMany(groups))
 }
 
 /// A WritePropertyMultiple of no property of an object.
-fn write_nothing<'a>(memory: Memory<'a>, object: ObjectId) -> Result<Request<Memory<'a>>, Stop> {
-    let writes = Items::new(memory);
-    let mut groups = Items::new(memory);
+fn write_nothing<A: Allocator + Copy>(
+    alloc: A,
+    object: ObjectId,
+) -> Result<Request<A>, AllocError> {
+    let writes = Items::new(alloc);
+    let mut groups = Items::new(alloc);
     groups.push(ObjectWrites { object, writes })?;
     Ok(Request::WriteMany(groups))
 }
 
-/// Whether a class and a code have a spelling or not as is wanted, as a reply alone, where a write
-/// failed, and where a property was read.
-fn are_sound_errors<'a>(given: Given<'a>, words: &str, is_wanted: bool) -> Result<bool, Stop> {
+/// Whether a class and a code have a spelling, as a reply alone, where a write failed, and where a
+/// property was read.
+///
+/// # Errors
+/// `Unread` where one of these has and another has none, `Memory`.
+fn are_sound_errors<A: Allocator + Copy>(alloc: A, words: &str) -> Result<bool, Stop> {
     let (class, code) = two_words(words);
     let class = class_of(class)?;
     let code = code_of(code)?;
-    let object = ObjectId {
-        object_type: 5,
-        instance: 1,
-    };
-    let alone: Reply<Memory<'a>> = Reply::Error(class, code);
-    let failed: Reply<Memory<'a>> = Reply::ErrorAt {
-        class,
-        code,
-        object,
-        property: 85,
-        index: None,
-    };
-    let read = read_error(given.memory, object, class, code)?;
-    Ok(
-        alone.is_sound() == is_wanted
-            && failed.is_sound() == is_wanted
-            && read.is_sound() == is_wanted,
-    )
+    let is_sound = is_sound_error::<A>(class, code);
+    if is_sound_failure::<A>(class, code) == is_sound
+        && is_sound_result(alloc, class, code)? == is_sound
+    {
+        return Ok(is_sound);
+    }
+    Err(Stop::Unread(Part::Words))
 }
 
 /// The class of a number, without its name where that is to be left out.
@@ -135,20 +124,46 @@ fn code_of(word: &str) -> Result<ErrorCode, Stop> {
     })
 }
 
-/// A ReadPropertyMultiple's reply of an error that Present_Value of an object gives.
-fn read_error<'a>(
-    memory: Memory<'a>,
-    object: ObjectId,
+/// Whether a reply of a class and a code alone has a spelling.
+fn is_sound_error<A: Allocator>(class: ErrorClass, code: ErrorCode) -> bool {
+    let reply: Reply<A> = Reply::Error(class, code);
+    reply.is_sound()
+}
+
+/// The object that rows of errors name: Binary Value 1.
+const OBJECT: ObjectId = ObjectId {
+    object_type: 5,
+    instance: 1,
+};
+
+/// Whether a reply of the write of Present_Value that failed has a spelling.
+fn is_sound_failure<A: Allocator>(class: ErrorClass, code: ErrorCode) -> bool {
+    let reply: Reply<A> = Reply::ErrorAt {
+        class,
+        code,
+        object: OBJECT,
+        property: 85,
+        index: None,
+    };
+    reply.is_sound()
+}
+
+/// Whether a ReadPropertyMultiple's reply of an error that Present_Value gives has a spelling.
+fn is_sound_result<A: Allocator + Copy>(
+    alloc: A,
     class: ErrorClass,
     code: ErrorCode,
-) -> Result<Reply<Memory<'a>>, Stop> {
-    let mut results = Items::new(memory);
+) -> Result<bool, AllocError> {
+    let mut results = Items::new(alloc);
     results.push(PropertyResult {
         property: 85,
         index: None,
         result: Err((class, code)),
     })?;
-    let mut all = Items::new(memory);
-    all.push(ObjectResults { object, results })?;
-    Ok(Reply::Many(all))
+    let mut all = Items::new(alloc);
+    all.push(ObjectResults {
+        object: OBJECT,
+        results,
+    })?;
+    Ok(Reply::Many(all).is_sound())
 }

@@ -1,6 +1,6 @@
 //! Words of a row, as the libraries read and print them.
 
-use sheets::{Counts, Stop, octets};
+use sheets::{Stop, octets, two_words};
 use std::alloc::Global;
 use words::Hex;
 
@@ -27,11 +27,12 @@ fn push_word(alloc: Global, word: &str, out: &mut String) -> Result<(), Stop> {
     Ok(())
 }
 
-/// The counts of one row without further runs.
-pub(crate) fn one_row() -> Counts {
-    Counts {
-        rows: 1,
-        refused: 0,
-        changed: 0,
+/// Whether words say a reply.
+pub(crate) fn is_reply(words: &str) -> bool {
+    let (verb, rest) = two_words(words);
+    match verb {
+        "values" | "done" | "error" => true,
+        "many" => rest.is_empty() || rest.starts_with('['),
+        _ => false,
     }
 }

@@ -1,7 +1,7 @@
 //! Requests in words, and what is printed of them: `read 05:1 85 -> read 5:1 85`.
 
-use objects::Request;
-use sheets::{Counts, Given, Memory, Stop, Trial, try_row};
+use sheets::{Counts, Given, Stop, Trial, try_row};
+use std::alloc::{Allocator, Global};
 use words::{Unread, Words, parse_request};
 
 /// Words that say a request, or not.
@@ -10,12 +10,16 @@ struct Read<'t>(&'t str);
 
 impl<'t, 'a> Trial<'a> for Read<'t> {
     fn answer(&self, given: Given<'a>, _octets: &[u8]) -> Result<String, Stop> {
-        let read: Result<Request<Memory<'a>>, Unread> = parse_request(given.memory, self.0);
-        Ok(match read {
-            Ok(request) => format!(in given.alloc; "{}", Words(&request))?,
-            Err(Unread::Memory) => return Err(Stop::Memory),
-            Err(unread) => format!(in given.alloc; "{unread}")?,
-        })
+        printed(given.alloc, given.memory, self.0)
+    }
+}
+
+/// The request that words say, printed, or why they say none.
+fn printed<A: Allocator + Copy>(alloc: Global, memory: A, words: &str) -> Result<String, Stop> {
+    match parse_request(memory, words) {
+        Ok(request) => Ok(format!(in alloc; "{}", Words(&request))?),
+        Err(Unread::Memory) => Err(Stop::Memory),
+        Err(unread) => Ok(format!(in alloc; "{unread}")?),
     }
 }
 

@@ -17,34 +17,25 @@ mod numbers;
 mod tag_rows;
 mod tag_values;
 
-use refusing::Refusing;
-use sheets::{Counts, Given, Part, Report, Row, Stop};
-use std::alloc::{AllocError, Global};
-use std::{fs, io};
+use sheets::{Bench, Counts, Given, Part, Report, Row, Stop};
+use std::alloc::AllocError;
+use std::io;
 
-fn main(rt: HostRuntime) -> io::Result<()> {
-    for name in sheets::names(&rt)?.as_slice() {
-        let text = fs::read_to_string(&rt, name.as_str())?;
-        let said = run(rt.alloc(), name.as_str(), text.as_str())?;
-        rt.print(said.as_str())?;
-    }
-    Ok(())
-}
+/// What the rows of the program run on.
+struct Spelled;
 
-/// Runs the rows of a file, and answers what is printed of it.
-fn run(alloc: Global, name: &str, text: &str) -> Result<String, AllocError> {
-    let memory = Refusing::new(alloc);
-    let other = Refusing::new(alloc);
-    let given = Given {
-        alloc,
-        memory: &memory,
-        other: &other,
-    };
-    let mut report = Report::new(alloc, name);
-    for row in sheets::rows(alloc, text)?.as_slice() {
-        report.add(row, run_row(given, name, row))?;
+impl Bench for Spelled {
+    fn run(
+        given: Given<'_>,
+        name: &str,
+        rows: &[Row<'_>],
+        report: &mut Report<'_>,
+    ) -> Result<(), AllocError> {
+        for row in rows {
+            report.add(row, run_row(given, name, row))?;
+        }
+        Ok(())
     }
-    report.text()
 }
 
 /// Runs a row of a file of this name.
@@ -61,4 +52,8 @@ fn run_row(given: Given<'_>, name: &str, row: &Row<'_>) -> Result<Counts, Stop> 
         "numbers.txt" => numbers::run(given, row.asked, wanted),
         _ => Err(Stop::Unread(Part::Asked)),
     }
+}
+
+fn main(rt: HostRuntime) -> io::Result<()> {
+    sheets::run_files::<Spelled>(&rt)
 }

@@ -6,11 +6,13 @@ ghost use Rattle.tags.specs.Canonical.{IsSoundTag};
 ghost use Rattle.tags.specs.Tag.{plain_content};
 
 use sheets::{
-    Counts, Given, Part, Stop, Trial, buffer, differs, octets_in_words, push_octets, push_written,
-    refusal, run_octets, try_row, two_words, written_octets,
+    Counts, Given, Part, Stop, Trial, buffer, differs, octets, octets_in_words, push_octets,
+    push_written, refusal, run_octets, run_text, try_row, two_words, written_octets,
 };
-use std::alloc::AllocError;
-use tags::{Class, Content, Fault, Reader, Tag, write_object, write_tag, write_unsigned};
+use std::alloc::{AllocError, Global};
+use tags::{
+    Class, Content, Fault, Reader, Tag, all_or_none, write_object, write_tag, write_unsigned,
+};
 use words::{parse_number, parse_object};
 
 /// Octets that tags are read from, and that are written of them.
@@ -137,12 +139,36 @@ impl<'w> Written<'w> {
     }
 }
 
-/// Runs a row: of tags, or of what is written.
+/// Why a writer of the rows' own puts only a part.
+#[derive(Clone, Copy)]
+struct Interrupted;
+
+/// What is left of octets, behind so many that stood before, where a writer put the whole or a part.
+fn kept(alloc: Global, rest: &str, came: Result<(), Interrupted>) -> Result<String, Stop> {
+    let (start, word) = two_words(rest);
+    let start = parse_number(start)?;
+    let mut out = Vec::from_slice(alloc, octets(alloc, word)?.as_slice())?;
+    let put = match all_or_none(came, start, &mut out) {
+        Ok(()) => "put",
+        Err(Fault::Memory) => "taken back",
+        Err(_) => "refused",
+    };
+    let octets = octets_in_words(alloc, out.as_slice())?;
+    Ok(format!(in alloc; "{put} {octets}")?)
+}
+
+/// Runs a row: of tags, of what a writer leaves that puts the whole or a part, or of what is written.
 pub(crate) fn run(given: Given<'_>, asked: &str, wanted: &str) -> Result<Counts, Stop> {
-    let (kind, rest) = two_words(asked);
-    if rest.is_empty() {
-        return run_octets(given, &Tags, kind, wanted);
+    match two_words(asked) {
+        (word, "") => run_octets(given, &Tags, word, wanted),
+        ("whole", rest) => run_text(kept(given.alloc, rest, Ok(()))?, wanted),
+        ("part", rest) => run_text(kept(given.alloc, rest, Err(Interrupted))?, wanted),
+        (kind, rest) => run_written(given, kind, rest, wanted),
     }
+}
+
+/// Runs a row of what is written.
+fn run_written(given: Given<'_>, kind: &str, rest: &str, wanted: &str) -> Result<Counts, Stop> {
     let (class, rest) = two_words(rest);
     let class = match class {
         "application" => Class::Application,

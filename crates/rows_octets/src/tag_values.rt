@@ -1,11 +1,11 @@
 //! Tagged values (clause 20.2), as `unsigned 5, 1 left`, and written again.
 
 use sheets::{
-    Counts, Given, Part, Stop, Trial, buffer, differs, octets, octets_in_words, push_written,
+    Counts, Given, Part, Stop, Trial, buffer_in, differs, octets, octets_in_words, push_written,
     refusal, run_octets, run_text, try_row, two_words, written_octets,
 };
-use std::alloc::Global;
-use tags::{Fault, Reader, Value, read_value, write_value};
+use std::alloc::{Allocator, Global};
+use tags::{Reader, Value, read_value, write_value};
 use words::{Words, parse_values};
 
 /// Octets at whose front a value is read.
@@ -13,68 +13,68 @@ struct Values;
 
 impl<'a> Trial<'a> for Values {
     fn answer(&self, given: Given<'a>, octets: &[u8]) -> Result<String, Stop> {
-        let mut reader = Reader::new(octets);
-        let read = read_value(given.memory, &mut reader);
-        let left = left(given.alloc, &reader)?;
-        let (mut text, value) = match read {
-            Ok(value) => (format!(in given.alloc; "{}", Words(&value))?, value),
-            Err(fault) if left != octets.len() => return Err(moved(given.alloc, fault)),
-            Err(fault) => {
-                let text = refusal(given.alloc, fault)?;
-                return Ok(format!(in given.alloc; "{text}, {left} left")?);
-            }
-        };
-        write!(text, ", {left} left")?;
-        is_copied(given, &value)?;
-        let taken = &octets[..octets.len().saturating_sub(left)];
-        push_again(given, taken, &value, &mut text)?;
-        Ok(text)
+        told(given, given.other, given.memory, octets)
     }
 }
 
-/// A reader that has moved where a value was refused.
-fn moved(alloc: Global, fault: Fault) -> Stop {
-    match format!(in alloc; "{fault} and a reader that has moved") {
-        Ok(text) => Stop::Differs(text),
-        Err(_) => Stop::Memory,
+/// The value that is read at the front of octets, in words, how many octets are left, and what is written
+/// of it where that is not what was read.
+fn told<A: Allocator + Copy>(
+    given: Given<'_>,
+    other: A,
+    memory: A,
+    octets: &[u8],
+) -> Result<String, Stop> {
+    let mut reader = Reader::new(octets);
+    let read = read_value(memory, &mut reader);
+    let left = reader.rest().len();
+    match read {
+        Ok(value) => {
+            let mut text = format!(in given.alloc; "{}, {left} left", Words(&value))?;
+            let taken = &octets[..octets.len().saturating_sub(left)];
+            push_again(given, (other, memory), taken, &value, &mut text)?;
+            Ok(text)
+        }
+        Err(_) if left != octets.len() => Err(differs(given.alloc, "a reader that has moved")),
+        Err(fault) => {
+            let text = refusal(given.alloc, fault)?;
+            Ok(format!(in given.alloc; "{text}, {left} left")?)
+        }
     }
 }
 
-/// How many octets a reader has left, of which its `Debug` prints each.
-fn left(alloc: Global, reader: &Reader<'_>) -> Result<usize, Stop> {
-    let shown = format!(in alloc; "{reader:?}")?;
-    if shown.contains("[]") {
-        return Ok(0);
-    }
-    Ok(shown.split(',').count())
-}
-
-/// Whether the copy of a value is equal, and lies in the memory that it is given, not in that of the value.
-fn is_copied<'a>(given: Given<'a>, value: &Value<sheets::Memory<'a>>) -> Result<(), Stop> {
-    let original = value.copy(given.other)?;
-    given.other.refuse_all();
-    let copy = original.copy(given.memory);
-    given.other.refuse_only(0);
-    if copy? != *value {
-        return Err(differs(given.alloc, "a copy that is not equal"));
-    }
-    Ok(())
-}
-
-/// Appends what is written of a value, where that is not what was read.
-fn push_again<'a>(
-    given: Given<'a>,
+/// Appends what is written of a value, where that is not what was read. Its copy is equal, and lies in the
+/// memory that it is given, not in that of the value.
+fn push_again<A: Allocator + Copy>(
+    given: Given<'_>,
+    (other, memory): (A, A),
     taken: &[u8],
-    value: &Value<sheets::Memory<'a>>,
+    value: &Value<A>,
     text: &mut String,
 ) -> Result<(), Stop> {
+    if !is_copied(given, value.copy(other)?, memory, value)? {
+        return Err(differs(given.alloc, "a copy that is not equal"));
+    }
     if !value.is_sound() {
         return Err(differs(given.alloc, "a value without a spelling"));
     }
-    let mut out = buffer(given)?;
+    let mut out = buffer_in(memory)?;
     let came = write_value(value, &mut out);
     push_written(taken, written_octets(given, came, out.as_slice())?, text)?;
     Ok(())
+}
+
+/// Whether the copy of a value is equal, made while the memory is refused in which the value lies.
+fn is_copied<A: Allocator + Copy>(
+    given: Given<'_>,
+    original: Value<A>,
+    memory: A,
+    wanted: &Value<A>,
+) -> Result<bool, Stop> {
+    given.other.refuse_all();
+    let copy = original.copy(memory);
+    given.other.refuse_only(0);
+    Ok(copy? == *wanted)
 }
 
 /// Octets of which each is read, and what is written of the value.
@@ -82,14 +82,24 @@ struct Lengths;
 
 impl<'a> Trial<'a> for Lengths {
     fn answer(&self, given: Given<'a>, octets: &[u8]) -> Result<String, Stop> {
-        let value = match read_value(given.memory, &mut Reader::new(octets)) {
-            Ok(value) => value,
-            Err(fault) => return refusal(given.alloc, fault),
-        };
-        let mut text = String::from_str(given.alloc, "read")?;
-        is_copied(given, &value)?;
-        push_again(given, octets, &value, &mut text)?;
-        Ok(text)
+        told_long(given, given.other, given.memory, octets)
+    }
+}
+
+/// `read`, and what is written of the value that octets spell where that is not what was read.
+fn told_long<A: Allocator + Copy>(
+    given: Given<'_>,
+    other: A,
+    memory: A,
+    octets: &[u8],
+) -> Result<String, Stop> {
+    match read_value(memory, &mut Reader::new(octets)) {
+        Ok(value) => {
+            let mut text = String::from_str(given.alloc, "read")?;
+            push_again(given, (other, memory), octets, &value, &mut text)?;
+            Ok(text)
+        }
+        Err(fault) => refusal(given.alloc, fault),
     }
 }
 
@@ -102,21 +112,21 @@ pub(crate) fn run(given: Given<'_>, asked: &str, wanted: &str) -> Result<Counts,
             let octets = octets(given.alloc, word)?;
             try_row(given, &Lengths, octets.as_slice(), wanted)
         }
-        ("write", words) => run_text(soundness(given.alloc, words)?, wanted),
+        ("write", words) => run_text(soundness(given.alloc, given.alloc, words)?, wanted),
         _ => Err(Stop::Unread(Part::Asked)),
     }
 }
 
-/// Whether a value has a spelling, and which.
-fn soundness(alloc: Global, words: &str) -> Result<String, Stop> {
-    let values = parse_values(alloc, words)?;
+/// The spelling of a value in words, or `unsound` where it has none.
+fn soundness<A: Allocator + Copy>(alloc: Global, memory: A, words: &str) -> Result<String, Stop> {
+    let values = parse_values(memory, words)?;
     let [value] = values.as_slice() else {
         return Err(Stop::Unread(Part::Asked));
     };
     if !value.is_sound() {
         return Ok(String::from_str(alloc, "unsound")?);
     }
-    let mut out = Vec::new(alloc);
+    let mut out = Vec::new(memory);
     write_value(value, &mut out)?;
     Ok(octets_in_words(alloc, out.as_slice())?)
 }

@@ -7,10 +7,10 @@ use services::{
     Answer, Apdu, ObjectPropertyReference, ServiceError, answer_of, decode_reply, encode_reply,
 };
 use sheets::{
-    Counts, Given, Memory, Part, Stop, Trial, buffer, differs, octets, push_written, run_text,
+    Counts, Given, Part, Stop, Trial, buffer_in, differs, octets, push_written, run_text,
     run_trial, try_row, two_words, written_octets,
 };
-use std::alloc::AllocError;
+use std::alloc::Allocator;
 use words::{Words, parse_any_request, parse_number, parse_object, parse_reference};
 
 /// What the octets of an answer are.
@@ -35,17 +35,29 @@ struct Answers<'w> {
 
 impl<'w, 'a> Trial<'a> for Answers<'w> {
     fn answer(&self, given: Given<'a>, octets: &[u8]) -> Result<String, Stop> {
-        let Some(answer) = self.form.answer(octets) else {
-            return Ok(String::from_str(given.alloc, "no answer")?);
-        };
-        let request = parse_any_request(given.other, self.request)?;
-        given.other.refuse_all();
-        let found = decode_reply(given.memory, &request, &answer);
-        given.other.refuse_only(0);
-        match found? {
-            Some(reply) => replied(given, &request, &reply, &answer),
-            None => Ok(String::from_str(given.alloc, "none")?),
+        match self.form.answer(octets) {
+            Some(answer) => told(given, given.other, given.memory, self.request, &answer),
+            None => Ok(String::from_str(given.alloc, "no answer")?),
         }
+    }
+}
+
+/// The reply that an answer to a request is, both in words. The request lies in other memory, which is
+/// refused meanwhile.
+fn told<A: Allocator + Copy>(
+    given: Given<'_>,
+    other: A,
+    memory: A,
+    request: &str,
+    answer: &Answer<'_>,
+) -> Result<String, Stop> {
+    let request = parse_any_request(other, request)?;
+    given.other.refuse_all();
+    let found = decode_reply(memory, &request, answer);
+    given.other.refuse_only(0);
+    match found? {
+        Some(reply) => replied(given, memory, &request, &reply, answer),
+        None => Ok(String::from_str(given.alloc, "none")?),
     }
 }
 
@@ -71,13 +83,8 @@ fn answer_in(octets: &[u8]) -> Option<Answer<'_>> {
     }
 }
 
-/// A reply in words.
-fn shown<'a>(given: Given<'a>, reply: &Reply<Memory<'a>>) -> Result<String, AllocError> {
-    format!(in given.alloc; "{}", Words(reply))
-}
-
 /// Whether a reply goes in this answer.
-fn goes_in<'a>(reply: &Reply<Memory<'a>>, answer: &Answer<'_>) -> bool {
+fn goes_in<A: Allocator>(reply: &Reply<A>, answer: &Answer<'_>) -> bool {
     match answer {
         Answer::Complex(data) => answer_of(reply, data) == *answer,
         Answer::Simple | Answer::Error(_) => answer_of(reply, &[]) == *answer,
@@ -85,10 +92,11 @@ fn goes_in<'a>(reply: &Reply<Memory<'a>>, answer: &Answer<'_>) -> bool {
 }
 
 /// A reply in words, with what is written of it where that is not what was read.
-fn replied<'a>(
-    given: Given<'a>,
-    request: &Request<Memory<'a>>,
-    reply: &Reply<Memory<'a>>,
+fn replied<A: Allocator + Copy>(
+    given: Given<'_>,
+    memory: A,
+    request: &Request<A>,
+    reply: &Reply<A>,
     answer: &Answer<'_>,
 ) -> Result<String, Stop> {
     if !request.is_sound() || !reply.is_sound() || !reply.answers(request) {
@@ -97,10 +105,10 @@ fn replied<'a>(
     if !goes_in(reply, answer) {
         return Err(differs(given.alloc, "a reply that goes in another answer"));
     }
-    let mut text = shown(given, reply)?;
-    let mut out = buffer(given)?;
+    let mut out = buffer_in(memory)?;
     let came = encode_reply(request, reply, &mut out);
     let again = written_octets(given, came, out.as_slice())?;
+    let mut text = format!(in given.alloc; "{}", Words(reply))?;
     match answer {
         Answer::Complex(data) => push_written(data, again, &mut text)?,
         Answer::Simple | Answer::Error(_) => push_written(&[], again, &mut text)?,
@@ -165,18 +173,31 @@ fn failed_at(place: &str) -> Result<ObjectPropertyReference, Stop> {
     })
 }
 
-/// Runs a row of an answer without service data, which is read without memory.
-fn run_bare(given: Given<'_>, request: &str, form: Form, wanted: &str) -> Result<Counts, Stop> {
-    let request = parse_any_request(given.other, request)?;
-    let Some(answer) = form.answer(&[]) else {
-        return Err(Stop::Unread(Part::Asked));
-    };
+/// The reply that an answer without service data is, in words, read while each allocation is refused.
+fn told_bare<A: Allocator + Copy>(
+    given: Given<'_>,
+    other: A,
+    memory: A,
+    request: &str,
+    answer: &Answer<'_>,
+) -> Result<String, Stop> {
+    let request = parse_any_request(other, request)?;
     given.memory.refuse_all();
-    let found = decode_reply(given.memory, &request, &answer);
+    let found = decode_reply(memory, &request, answer);
     given.memory.refuse_only(0);
-    let text = match found? {
-        Some(reply) => shown(given, &reply)?,
-        None => String::from_str(given.alloc, "none")?,
-    };
-    run_text(text, wanted)
+    match found? {
+        Some(reply) => Ok(format!(in given.alloc; "{}", Words(&reply))?),
+        None => Ok(String::from_str(given.alloc, "none")?),
+    }
+}
+
+/// Runs a row of an answer without service data.
+fn run_bare(given: Given<'_>, request: &str, form: Form, wanted: &str) -> Result<Counts, Stop> {
+    match form.answer(&[]) {
+        Some(answer) => {
+            let text = told_bare(given, given.other, given.memory, request, &answer)?;
+            run_text(text, wanted)
+        }
+        None => Err(Stop::Unread(Part::Asked)),
+    }
 }

@@ -2,11 +2,12 @@
 //! `12 0C01400001 -> reject 5`. With `bare` in front the body is read while each allocation is refused.
 
 use objects::Request;
-use services::{RejectReason, decode_request, encode_request, service_of};
+use services::{decode_request, encode_request, service_of};
 use sheets::{
-    Counts, Given, Memory, Stop, Trial, buffer, differs, octets, push_written, run_octets,
-    run_text, two_words, written_octets,
+    Counts, Given, Stop, Trial, buffer_in, differs, octets, push_written, run_octets, run_text,
+    two_words, written_octets,
 };
+use std::alloc::Allocator;
 use words::{Words, parse_number};
 
 /// Octets that a request of a service is read from, and that are written of it.
@@ -17,62 +18,72 @@ struct Bodies {
 
 impl<'a> Trial<'a> for Bodies {
     fn answer(&self, given: Given<'a>, octets: &[u8]) -> Result<String, Stop> {
-        let found = decode_request(given.memory, self.service, octets)?;
-        let mut text = shown(given, &found)?;
-        if let Ok(request) = &found {
-            self.push_again(given, octets, request, &mut text)?;
-        }
-        Ok(text)
+        told(given, given.memory, self.service, octets)
     }
 }
 
-impl Bodies {
-    /// Appends what is written of a request, where that is not what was read.
-    fn push_again<'a>(
-        &self,
-        given: Given<'a>,
-        octets: &[u8],
-        request: &Request<Memory<'a>>,
-        text: &mut String,
-    ) -> Result<(), Stop> {
-        if !request.is_sound() || u8::from(service_of(request)) != self.service {
-            return Err(differs(given.alloc, "a request without a spelling"));
-        }
-        let mut out = buffer(given)?;
-        let came = encode_request(request, &mut out);
-        push_written(octets, written_octets(given, came, out.as_slice())?, text)?;
-        Ok(())
-    }
-}
-
-/// A request in words, or the number of its Reject.
-fn shown<'a>(
-    given: Given<'a>,
-    found: &Result<Request<Memory<'a>>, RejectReason>,
+/// The request that a body spells, in words, with what is written of it where that is not what was read,
+/// or the number of its Reject.
+fn told<A: Allocator + Copy>(
+    given: Given<'_>,
+    memory: A,
+    service: u8,
+    octets: &[u8],
 ) -> Result<String, Stop> {
-    match found {
-        Ok(request) => Ok(format!(in given.alloc; "{}", Words(request))?),
-        Err(reason) => Ok(format!(in given.alloc; "reject {}", u8::from(*reason))?),
+    match decode_request(memory, service, octets)? {
+        Ok(request) => {
+            let mut text = format!(in given.alloc; "{}", Words(&request))?;
+            push_again(given, memory, (service, octets), &request, &mut text)?;
+            Ok(text)
+        }
+        Err(reason) => Ok(format!(in given.alloc; "reject {}", u8::from(reason))?),
     }
+}
+
+/// Appends what is written of a request of a service, where that is not what was read.
+fn push_again<A: Allocator + Copy>(
+    given: Given<'_>,
+    memory: A,
+    (service, octets): (u8, &[u8]),
+    request: &Request<A>,
+    text: &mut String,
+) -> Result<(), Stop> {
+    if !request.is_sound() || u8::from(service_of(request)) != service {
+        return Err(differs(given.alloc, "a request without a spelling"));
+    }
+    let mut out = buffer_in(memory)?;
+    let came = encode_request(request, &mut out);
+    push_written(octets, written_octets(given, came, out.as_slice())?, text)?;
+    Ok(())
 }
 
 /// Runs a row.
 pub(crate) fn run(given: Given<'_>, asked: &str, wanted: &str) -> Result<Counts, Stop> {
-    if let Some(rest) = asked.strip_prefix("bare ") {
-        return run_bare(given, rest, wanted);
-    }
+    let (asked, is_bare) = match asked.strip_prefix("bare ") {
+        Some(rest) => (rest, true),
+        None => (asked, false),
+    };
     let (service, word) = two_words(asked);
     let service = parse_number(service)?;
+    if is_bare {
+        return run_text(told_bare(given, given.memory, service, word)?, wanted);
+    }
     run_octets(given, &Bodies { service }, word, wanted)
 }
 
-/// Runs a row of a body that is read without memory.
-fn run_bare(given: Given<'_>, asked: &str, wanted: &str) -> Result<Counts, Stop> {
-    let (service, word) = two_words(asked);
-    let service = parse_number(service)?;
+/// The request that a body spells, or the number of its Reject, read while each allocation is refused.
+fn told_bare<A: Allocator + Copy>(
+    given: Given<'_>,
+    memory: A,
+    service: u8,
+    word: &str,
+) -> Result<String, Stop> {
     let octets = octets(given.alloc, word)?;
     given.memory.refuse_all();
-    let found = decode_request(given.memory, service, octets.as_slice());
+    let found = decode_request(memory, service, octets.as_slice());
     given.memory.refuse_only(0);
-    run_text(shown(given, &found?)?, wanted)
+    match found? {
+        Ok(request) => Ok(format!(in given.alloc; "{}", Words(&request))?),
+        Err(reason) => Ok(format!(in given.alloc; "reject {}", u8::from(reason))?),
+    }
 }

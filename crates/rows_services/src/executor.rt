@@ -3,53 +3,80 @@
 //! it; `copy REQUEST | READ -> REPLY` is the same on a copy, and leaves the executor as it is. With `bare` in
 //! front a reply is given, or a request runs, while each allocation is refused.
 
-use objects::{DataLink, Request, SiteObject, SiteObjects, Table, ValueKind};
+use objects::{DataLink, SiteObject, SiteObjects, Table, ValueKind};
 use services::{Executor, ObjectExecutor};
 use sheets::{
-    Counts, Given, Memory, Part, Stop, Trial, compare, differs, run_text, try_row, two_words,
+    Counts, Given, Memory, Part, Report, Row, Stop, Trial, compare, differs, run_text, try_row,
+    two_words,
 };
-use std::alloc::{AllocError, Allocator, Global};
+use std::alloc::{AllocError, Allocator};
 use tags::Items;
 use words::{Words, parse_any_request, parse_number, parse_octets, parse_value};
 
 /// What executes the requests of rows.
 type Opened<'a> = ObjectExecutor<Memory<'a>>;
 
-/// What the rows of a file run on.
-#[derive(Drop)]
-pub(crate) struct Bench<'a> {
-    /// The memory that they run in.
-    pub(crate) given: Given<'a>,
-    /// The executor that a row opened last.
-    opened: Option<Opened<'a>>,
+/// Runs the rows of a file on the executor that a row opened last.
+pub(crate) fn run(
+    given: Given<'_>,
+    rows: &[Row<'_>],
+    report: &mut Report<'_>,
+) -> Result<(), AllocError> {
+    let mut opened = None;
+    for row in rows {
+        report.add(row, run_row(given, &mut opened, row))?;
+    }
+    Ok(())
 }
 
-impl<'a> Bench<'a> {
-    /// No executor.
-    pub(crate) fn new(given: Given<'a>) -> Bench<'a> {
-        Bench {
-            given,
-            opened: None,
-        }
+/// Runs a row.
+fn run_row<'a>(
+    given: Given<'a>,
+    opened: &mut Option<Opened<'a>>,
+    row: &Row<'_>,
+) -> Result<Counts, Stop> {
+    let wanted = row.wanted()?;
+    let (verb, rest) = two_words(row.asked);
+    if verb == "device" {
+        *opened = Some(open(given.memory, rest)?);
+        return run_text(String::from_str(given.alloc, "opened")?, wanted);
+    }
+    match opened {
+        Some(executor) => run_asked(given, executor, verb, rest, wanted),
+        None => Err(Stop::Unread(Part::Asked)),
     }
 }
 
-/// What any executor replies, in words.
-fn replied<A: Allocator, E: Executor<A>>(
-    alloc: Global,
+/// What any executor replies to a request, both in words. The memory that the request lies in is refused
+/// meanwhile.
+fn replied<A: Allocator + Copy, E: Executor<A>>(
+    given: Given<'_>,
+    other: A,
     executor: &E,
-    request: &Request<A>,
-) -> Result<String, AllocError> {
-    let reply = executor.reply(request)?;
-    format!(in alloc; "{}", Words(&reply))
+    request: &str,
+) -> Result<String, Stop> {
+    let request = parse_any_request(other, request)?;
+    given.other.refuse_all();
+    let reply = executor.reply(&request);
+    given.other.refuse_only(0);
+    Ok(format!(in given.alloc; "{}", Words(&reply?))?)
 }
 
-/// Whether any executor had the memory to run a request.
-fn ran<A: Allocator, E: Executor<A>>(executor: &mut E, request: &Request<A>) -> bool {
-    executor.run(request).is_ok()
+/// Whether any executor had the memory to run a request, while that in which the request lies is refused.
+fn ran<A: Allocator + Copy, E: Executor<A>>(
+    given: Given<'_>,
+    other: A,
+    executor: &mut E,
+    request: &str,
+) -> Result<bool, Stop> {
+    let request = parse_any_request(other, request)?;
+    given.other.refuse_all();
+    let is_done = executor.run(&request).is_ok();
+    given.other.refuse_only(0);
+    Ok(is_done)
 }
 
-/// A request to which an executor replies, in memory that is refused while it does.
+/// A request to which an executor replies.
 #[derive(Clone, Copy)]
 struct Asked<'t, 'w, 'a> {
     executor: &'t Opened<'a>,
@@ -58,11 +85,7 @@ struct Asked<'t, 'w, 'a> {
 
 impl<'t, 'w, 'a> Trial<'a> for Asked<'t, 'w, 'a> {
     fn answer(&self, given: Given<'a>, _octets: &[u8]) -> Result<String, Stop> {
-        let request = parse_any_request(given.other, self.request)?;
-        given.other.refuse_all();
-        let text = replied(given.alloc, self.executor, &request);
-        given.other.refuse_only(0);
-        Ok(text?)
+        replied(given, given.other, self.executor, self.request)
     }
 }
 
@@ -76,47 +99,30 @@ struct Runs<'t, 'w, 'a> {
 
 impl<'t, 'w, 'a> Trial<'a> for Runs<'t, 'w, 'a> {
     fn answer(&self, given: Given<'a>, _octets: &[u8]) -> Result<String, Stop> {
-        let request = parse_any_request(given.other, self.request)?;
-        let read = parse_any_request(given.other, self.read)?;
-        run_on_copy(given, self.executor, &request, &read)
+        run_on_copy(given, given.other, self.executor, self.request, self.read)
     }
 }
 
 /// What is read of a copy of an executor behind a request that runs on it, in words. The executor
 /// stays as it is, and so does the copy where memory was refused.
-fn run_on_copy<'a>(
-    given: Given<'a>,
-    executor: &Opened<'a>,
-    request: &Request<Memory<'a>>,
-    read: &Request<Memory<'a>>,
+fn run_on_copy<A: Allocator + Copy, E: Executor<A> + Drop>(
+    given: Given<'_>,
+    other: A,
+    executor: &E,
+    request: &str,
+    read: &str,
 ) -> Result<String, Stop> {
-    let before = replied(given.alloc, executor, read)?;
+    let before = replied(given, other, executor, read)?;
     let mut copy = executor.copy()?;
-    given.other.refuse_all();
-    let is_done = ran(&mut copy, request);
-    given.other.refuse_only(0);
-    let found = replied(given.alloc, &copy, read)?;
-    if replied(given.alloc, executor, read)? != before {
+    let is_done = ran(given, other, &mut copy, request)?;
+    let found = replied(given, other, &copy, read)?;
+    if replied(given, other, executor, read)? != before {
         return Err(differs(given.alloc, "a change by what runs on a copy"));
     }
     match is_done {
         true => Ok(found),
         false if found == before => Err(Stop::Memory),
         false => Err(differs(given.alloc, "a change where memory was refused")),
-    }
-}
-
-/// Runs a row.
-pub(crate) fn run(bench: &mut Bench<'_>, asked: &str, wanted: &str) -> Result<Counts, Stop> {
-    let given = bench.given;
-    let (verb, rest) = two_words(asked);
-    if verb == "device" {
-        bench.opened = Some(open(given, rest)?);
-        return run_text(String::from_str(given.alloc, "opened")?, wanted);
-    }
-    match &mut bench.opened {
-        Some(executor) => run_asked(given, executor, verb, rest, wanted),
-        None => Err(Stop::Unread(Part::Asked)),
     }
 }
 
@@ -137,16 +143,26 @@ fn run_asked<'a>(
             };
             try_row(given, &asked, &[], wanted)
         }
-        "bare" => run_bare(given, executor, rest, wanted),
-        "copy" => copied(given, executor, rest, wanted),
+        "bare" => run_text(run_bare(given, executor, rest)?, wanted),
+        "copy" => copied(given, executor, pair(rest)?, wanted),
         "run" => {
-            let counts = copied(given, executor, rest, wanted)?;
-            let (request, read) = pair(given, rest)?;
-            executor.run(&request)?;
-            compare(replied(given.alloc, &*executor, &read)?, wanted)?;
+            let (request, read) = pair(rest)?;
+            let counts = copied(given, executor, (request, read), wanted)?;
+            if !ran(given, given.other, executor, request)? {
+                return Err(Stop::Memory);
+            }
+            compare(replied(given, given.other, &*executor, read)?, wanted)?;
             Ok(counts)
         }
         _ => Err(Stop::Unread(Part::Asked)),
+    }
+}
+
+/// The request that runs, and the one that is read behind it.
+fn pair(rest: &str) -> Result<(&str, &str), Stop> {
+    match rest.split_once(" | ") {
+        Some(pair) => Ok(pair),
+        None => Err(Stop::Unread(Part::Asked)),
     }
 }
 
@@ -154,12 +170,9 @@ fn run_asked<'a>(
 fn copied<'a>(
     given: Given<'a>,
     executor: &Opened<'a>,
-    rest: &str,
+    (request, read): (&str, &str),
     wanted: &str,
 ) -> Result<Counts, Stop> {
-    let Some((request, read)) = rest.split_once(" | ") else {
-        return Err(Stop::Unread(Part::Asked));
-    };
     let runs = Runs {
         executor,
         request,
@@ -168,71 +181,58 @@ fn copied<'a>(
     try_row(given, &runs, &[], wanted)
 }
 
-/// The request that runs, and the one that is read behind it.
-fn pair<'a>(
-    given: Given<'a>,
-    rest: &str,
-) -> Result<(Request<Memory<'a>>, Request<Memory<'a>>), Stop> {
-    let Some((request, read)) = rest.split_once(" | ") else {
-        return Err(Stop::Unread(Part::Asked));
-    };
-    let request = parse_any_request(given.other, request)?;
-    Ok((request, parse_any_request(given.other, read)?))
-}
-
-/// Runs a row of `reply REQUEST -> REPLY` or `run REQUEST -> done` without memory.
-fn run_bare<'a>(
-    given: Given<'a>,
-    executor: &mut Opened<'a>,
-    rest: &str,
-    wanted: &str,
-) -> Result<Counts, Stop> {
-    let (verb, words) = two_words(rest);
-    let request = parse_any_request(given.other, words)?;
+/// What comes of `reply REQUEST` or `run REQUEST` while each allocation is refused, in words.
+fn run_bare<'a>(given: Given<'a>, executor: &mut Opened<'a>, rest: &str) -> Result<String, Stop> {
+    let (verb, request) = two_words(rest);
+    if verb != "run" {
+        given.memory.refuse_all();
+        let text = replied(given, given.other, &*executor, request);
+        given.memory.refuse_only(0);
+        return text;
+    }
     given.memory.refuse_all();
-    let found = match verb {
-        "run" => executor.run(&request).map(|()| None),
-        _ => executor.reply(&request).map(Some),
-    };
+    let is_done = ran(given, given.other, executor, request);
     given.memory.refuse_only(0);
-    let text = match found? {
-        Some(reply) => format!(in given.alloc; "{}", Words(&reply))?,
-        None => String::from_str(given.alloc, "done")?,
-    };
-    run_text(text, wanted)
+    match is_done? {
+        true => Ok(String::from_str(given.alloc, "done")?),
+        false => Err(Stop::Memory),
+    }
 }
 
 /// Opens a device of one Binary Value.
-fn open<'a>(given: Given<'a>, rest: &str) -> Result<Opened<'a>, Stop> {
+fn open<A: Allocator + Copy>(memory: A, rest: &str) -> Result<ObjectExecutor<A>, Stop> {
     let Some((device, object)) = rest.split_once(" | binary-value ") else {
         return Err(Stop::Unread(Part::Asked));
     };
     let (instance, device) = two_words(device);
     let (vendor, name) = two_words(device);
-    let mut objects = Items::new(given.memory);
-    objects.push(binary_value(given, object)?)?;
+    let instance = parse_number(instance)?;
+    let vendor = parse_number(vendor)?;
+    let mut objects = Items::new(memory);
+    objects.push(binary_value(memory, object)?)?;
     let site = SiteObjects {
-        name: parse_octets(given.memory, name)?,
-        instance: parse_number(instance)?,
-        vendor: parse_number(vendor)?,
+        name: parse_octets(memory, name)?,
+        instance,
+        vendor,
         data_link: DataLink::BacnetIp,
         objects,
     };
     Ok(ObjectExecutor {
-        table: Table::new(given.memory, site)?,
+        table: Table::new(memory, site)?,
     })
 }
 
 /// A Binary Value: its instance, name, description and default.
-fn binary_value<'a>(given: Given<'a>, words: &str) -> Result<SiteObject<Memory<'a>>, Stop> {
+fn binary_value<A: Allocator + Copy>(memory: A, words: &str) -> Result<SiteObject<A>, Stop> {
     let (instance, rest) = two_words(words);
     let (name, rest) = two_words(rest);
     let (description, default) = two_words(rest);
+    let instance = parse_number(instance)?;
     Ok(SiteObject {
         kind: ValueKind::Binary,
-        instance: parse_number(instance)?,
-        name: parse_octets(given.memory, name)?,
-        default: parse_value(given.memory, default)?,
-        description: parse_octets(given.memory, description)?,
+        instance,
+        name: parse_octets(memory, name)?,
+        default: parse_value(memory, default)?,
+        description: parse_octets(memory, description)?,
     })
 }

@@ -1,55 +1,73 @@
 //! The program `rows_services`: the bodies of the confirmed services, the answers to them and what executes
-//! them (ANSI/ASHRAE 135, clauses 15, 18.9, 19.2, 20.1 and 21), run on the rows of its `data/`.
+//! them (ANSI/ASHRAE 135, clauses 15, 18.9, 19.2, 20.1 and 21), and the two tools and the device that stand
+//! on them, run on the rows of its `data/`.
 //!
 //! - `bodies`: bodies, and the requests that they spell or their Reject.
 //! - `answers`: answers, and the replies that they spell to their requests.
 //! - `executor`: what an executor replies and leaves.
+//! - `tool`: what `answer` and `explain` print; `said` has it in words.
+//! - `lines`: command lines, what they print, and their exit status.
+//! - `headers`: what datagrams carry.
+//! - `device`: what a device says to datagrams in turn.
+//! - `writers`: the exit status where a writer fails.
+//!
+//! What holds memory is owned by functions over any allocator, and rows keep their words: a function
+//! that owns a request in memory with a lifetime costs the proof ten times as much.
 #![tactic(auto)]
 
 mod answers;
 mod bodies;
+mod device;
 mod executor;
+mod headers;
+mod lines;
+mod said;
+mod tool;
+mod writers;
 
-use executor::Bench;
-use refusing::Refusing;
-use sheets::{Counts, Given, Part, Report, Row, Stop};
-use std::alloc::{AllocError, Global};
-use std::{fs, io};
+use sheets::{Bench, Counts, Given, Part, Report, Row, Stop};
+use std::alloc::AllocError;
+use std::io;
+use tool::Tool;
 
-fn main(rt: HostRuntime) -> io::Result<()> {
-    for name in sheets::names(&rt)?.as_slice() {
-        let text = fs::read_to_string(&rt, name.as_str())?;
-        let said = run(rt.alloc(), name.as_str(), text.as_str())?;
-        rt.print(said.as_str())?;
+/// What the rows of the program run on.
+struct Services;
+
+impl Bench for Services {
+    fn run(
+        given: Given<'_>,
+        name: &str,
+        rows: &[Row<'_>],
+        report: &mut Report<'_>,
+    ) -> Result<(), AllocError> {
+        match name {
+            "services_executor.txt" => executor::run(given, rows, report),
+            "device_in_turn.txt" => device::run(given, rows, report),
+            _ => {
+                for row in rows {
+                    report.add(row, run_row(given, name, row))?;
+                }
+                Ok(())
+            }
+        }
     }
-    Ok(())
-}
-
-/// Runs the rows of a file, and answers what is printed of it.
-fn run(alloc: Global, name: &str, text: &str) -> Result<String, AllocError> {
-    let memory = Refusing::new(alloc);
-    let other = Refusing::new(alloc);
-    let given = Given {
-        alloc,
-        memory: &memory,
-        other: &other,
-    };
-    let mut bench = Bench::new(given);
-    let mut report = Report::new(alloc, name);
-    for row in sheets::rows(alloc, text)?.as_slice() {
-        report.add(row, run_row(name, &mut bench, row))?;
-    }
-    report.text()
 }
 
 /// Runs a row of a file of this name.
-fn run_row(name: &str, bench: &mut Bench<'_>, row: &Row<'_>) -> Result<Counts, Stop> {
-    let given = bench.given;
+fn run_row(given: Given<'_>, name: &str, row: &Row<'_>) -> Result<Counts, Stop> {
     let wanted = row.wanted()?;
     match name {
         "services_requests.txt" | "services_rejects.txt" => bodies::run(given, row.asked, wanted),
         "services_replies.txt" => answers::run(given, row.asked, wanted),
-        "services_executor.txt" => executor::run(bench, row.asked, wanted),
+        "headers_carried.txt" => headers::run(given, row.asked, wanted),
+        "lines.txt" => lines::run(given.alloc, row.asked, wanted),
+        "writers.txt" => writers::run(given.alloc, row.asked, wanted),
+        _ if name.starts_with("answer_") => tool::run(given, Tool::Answer, row.asked, wanted),
+        _ if name.starts_with("explain_") => tool::run(given, Tool::Explain, row.asked, wanted),
         _ => Err(Stop::Unread(Part::Asked)),
     }
+}
+
+fn main(rt: HostRuntime) -> io::Result<()> {
+    sheets::run_files::<Services>(&rt)
 }

@@ -4,6 +4,7 @@ use crate::stop::{Part, Stop};
 use hex::FromHexError;
 use std::alloc::{AllocError, Allocator, Global};
 use tags::{Items, Octets};
+use words::parse_number;
 
 /// How often an octet stands in a run that is written with its count.
 const LONG_RUN: usize = 24;
@@ -13,10 +14,7 @@ const LONG_RUN: usize = 24;
 /// # Errors
 /// `Unread` where the word is none.
 pub fn number(word: &str) -> Result<u32, Stop> {
-    match word.parse::<u32>() {
-        Ok(number) => Ok(number),
-        Err(_) => Err(Stop::Unread(Part::Number)),
-    }
+    Ok(parse_number(word)?)
 }
 
 /// A number of one octet.
@@ -24,10 +22,7 @@ pub fn number(word: &str) -> Result<u32, Stop> {
 /// # Errors
 /// `Unread` where the word is none.
 pub fn small(word: &str) -> Result<u8, Stop> {
-    match word.parse::<u8>() {
-        Ok(number) => Ok(number),
-        Err(_) => Err(Stop::Unread(Part::Number)),
-    }
+    Ok(parse_number(word)?)
 }
 
 /// What stands before the first space, and behind it.

@@ -12,10 +12,12 @@
 //!   prefix of its octets, and with each of its octets changed.
 //! - `written`: what a call writes.
 //! - `report`: what is printed of a file.
+//! - `program`: the files where a program runs, read, run and reported.
 #![tactic(auto)]
 
 mod digits;
 mod given;
+mod program;
 mod report;
 mod row;
 mod stop;
@@ -24,8 +26,9 @@ mod written;
 
 pub use digits::{number, octets, octets_in_words, push_octets, small, two_words};
 pub use given::{Given, Memory};
+pub use program::{Bench, run_files};
 pub use report::Report;
 pub use row::{Row, names, rows};
 pub use stop::{Part, Stop, compare, differs, refusal, refused_memory};
 pub use trial::{Counts, Trial, change_octets, run_octets, run_text, run_trial, try_row};
-pub use written::{buffer, push_written, written_octets};
+pub use written::{buffer, buffer_in, push_written, written_octets};

@@ -3,7 +3,7 @@
 use crate::digits::push_octets;
 use crate::given::{Given, Memory};
 use crate::stop::{Stop, differs};
-use std::alloc::AllocError;
+use std::alloc::{AllocError, Allocator};
 use tags::Fault;
 
 /// The octet that stands in a buffer before a call writes.
@@ -14,7 +14,15 @@ const STANDING: u8 = 0x55;
 /// # Errors
 /// Want of memory.
 pub fn buffer<'a>(given: Given<'a>) -> Result<Vec<u8, Memory<'a>>, AllocError> {
-    Vec::from_slice(given.memory, &[STANDING])
+    buffer_in(given.memory)
+}
+
+/// A buffer in which an octet stands, in memory of an allocator.
+///
+/// # Errors
+/// Want of memory.
+pub fn buffer_in<A: Allocator + Copy>(memory: A) -> Result<Vec<u8, A>, AllocError> {
+    Vec::from_slice(memory, &[STANDING])
 }
 
 /// What a call wrote into the buffer.

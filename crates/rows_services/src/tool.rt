@@ -1,4 +1,6 @@
-//! Rows of the two tools: the words of a datagram, and what is printed of it.
+//! Rows of the two tools, `WORDS -> STATUS: LINES ! LINES`: the words of a tool, its exit status, and the
+//! lines on standard output and, behind `!`, on standard error, parted by ` / `. `3E*700` stands for as many
+//! words, and a line with such a count for as many lines.
 
 use crate::said::{Said, octets_of, words_of};
 use console::{answer_line, explain_line};

@@ -1,4 +1,4 @@
-//! Rows of command lines: `bacsite answer 8 -> 1: ! bacsite: hex`.
+//! Rows of command lines: `bacsite answer 8 -> 1: ! bacsite: hex`; `..` stands for text of clap's.
 
 use crate::said::{Said, words_of};
 use sheets::{Counts, Stop, compare, differs};

@@ -1,10 +1,10 @@
-//! Rows of what the built-in device says to datagrams that it hears one after another.
+//! Rows of what the built-in device says to datagrams that it hears one after another, `DATAGRAM -> DATAGRAMS`.
 
 use crate::said::octets_of;
 use console::{Builtin, respond};
 use npdu::Mac;
 use sheets::{Counts, Given, Memory, Report, Row, Stop, compare, differs};
-use std::alloc::{AllocError, Global};
+use std::alloc::{AllocError, Allocator, Global};
 use tags::{Fault, Items, Octets};
 
 /// Where datagrams come from: 127.0.0.1:47809.
@@ -45,15 +45,15 @@ fn run_row<'a>(
     let wanted = row.wanted()?;
     let datagram = octets_of(given.alloc, row.asked)?;
     let all = octets_of(given.alloc, ALL)?;
-    let before = said(given, device, all.as_slice())?;
+    let before = said(given.alloc, given.memory, device, all.as_slice())?;
     for refused in 0..MANY {
         given.memory.refuse_only(refused.saturating_add(1));
-        let answer = said(given, device, datagram.as_slice());
+        let answer = said(given.alloc, given.memory, device, datagram.as_slice());
         let is_waiting = given.memory.is_waiting();
         given.memory.refuse_only(0);
         match answer {
             Err(Stop::Memory) if !is_waiting => {
-                let now = said(given, device, all.as_slice())?;
+                let now = said(given.alloc, given.memory, device, all.as_slice())?;
                 compare(now, before.as_str())?;
             }
             Ok(found) if is_waiting => {
@@ -80,23 +80,21 @@ fn counts(refused: u64) -> Counts {
 }
 
 /// What the device says to a datagram, in words.
-fn said<'a>(
-    given: Given<'a>,
-    device: &mut Builtin<Memory<'a>>,
+fn said<A: Allocator + Copy>(
+    alloc: Global,
+    memory: A,
+    device: &mut Builtin<A>,
     datagram: &[u8],
 ) -> Result<String, Stop> {
-    match respond(given.memory, device, FROM, datagram) {
-        Ok(said) => in_words(given.alloc, &said),
+    match respond(memory, device, FROM, datagram) {
+        Ok(said) => in_words(alloc, &said),
         Err(Fault::Memory) => Err(Stop::Memory),
-        Err(_) => Err(differs(given.alloc, "another refusal than want of memory")),
+        Err(_) => Err(differs(alloc, "another refusal than want of memory")),
     }
 }
 
 /// Datagrams as pairs of digits, ` / ` between them, or `none`.
-fn in_words<'a>(
-    alloc: Global,
-    said: &Items<Octets<Memory<'a>>, Memory<'a>>,
-) -> Result<String, Stop> {
+fn in_words<A: Allocator>(alloc: Global, said: &Items<Octets<A>, A>) -> Result<String, Stop> {
     if said.is_empty() {
         return Ok(String::from_str(alloc, "none")?);
     }
