@@ -1,0 +1,10 @@
+pub mod Books
+pub mod Devices
+pub mod Clients
+pub mod Heard
+pub mod Whole
+pub mod Laws
+pub mod Records
+pub mod Puts
+pub mod Runs
+pub mod Steps

@@ -1,0 +1,6 @@
+pub mod Profile
+pub mod Stations
+pub mod Happenings
+pub mod Honest
+pub mod Promised
+pub mod Records

@@ -1,0 +1,6 @@
+pub mod Numbers
+pub mod Lists
+pub mod Tests
+pub mod Pieces
+pub mod Book
+pub mod Legal
