@@ -1,0 +1,4 @@
+pub mod Keeping
+pub mod Ordering
+pub mod Living
+pub mod Places

@@ -1,0 +1,71 @@
+-- Records in a slab, under keys in order of execution.
+use Rattle.std.specs.Prelude.{◌≡◌, ◌≢◌, ℕ, suc, Bool, false, cond, option_map, List, [], ◌∷◌, Option, Some, None, slice_index_or}
+use Rattle.std.specs.List.{AllByRecursion}
+use Rattle.std.specs.BTreeMap as tree
+use Rattle.std.specs.Ordering.{is_eq}
+use Rattle.remembered.specs.declared.record.Asker.{Asker}
+use Rattle.remembered.specs.declared.record.Record.{Record}
+use Rattle.remembered.specs.Records.{asker_cmp, is_of, later_or, some_if}
+
+abbrev pub cons_some : {X : Type 0} → Option X → List X → List X
+cons_some None xs = xs
+cons_some (Some x) xs = x ∷ xs
+
+-- what a slab has at a key
+abbrev pub at : {X : Type 0} → List (Option X) → ℕ → Option X
+at held k = slice_index_or held k None
+
+-- the records under these keys
+abbrev pub listed : {A : Type 0} → List (Option (Record A)) → List ℕ → List (Record A)
+listed held [] = []
+listed held (k ∷ ks) = cons_some (at held k) (listed held ks)
+
+abbrev pub is_at : {A : Type 0} → Asker → Option (Record A) → Bool
+is_at a None = false
+is_at a (Some r) = is_of a r
+
+-- the key of the newest record of an asker
+abbrev pub key_of : {A : Type 0} → List (Option (Record A)) → Asker → List ℕ → Option ℕ
+key_of held a [] = None
+key_of held a (k ∷ ks) = later_or (key_of held a ks) (some_if (is_at a (at held k)) k)
+
+-- the key has a record
+pub record IsFilled {A : Type 0} (held : List (Option (Record A))) (k : ℕ) : Type 0 where
+  pub r : Record A
+  pub is : at held k ≡ Some r
+
+-- each key stands once
+abbrev pub AreApart : List ℕ → Type 0
+AreApart [] = Unit {0}
+AreApart (k ∷ ks) = AllByRecursion (λ j. j ≢ k) ks × AreApart ks
+
+-- each key in order has a record and stands once, and the map leads from each asker to its newest
+pub record IsKept {A : Type 0} (held : List (Option (Record A))) (keys : tree.BTreeMap Asker ℕ) (order : List ℕ) :
+    Type 0 where
+  pub filled : AllByRecursion (IsFilled held) order
+  pub apart : AreApart order
+  pub found : (a : Asker) → tree.get asker_cmp keys a ≡ key_of held a order
+
+-- the asker has this key, and each other the one that it had
+abbrev pub IsSet : Asker → ℕ → tree.BTreeMap Asker ℕ → tree.BTreeMap Asker ℕ → Type 0
+IsSet asker key old new =
+    (q : Asker) → tree.get asker_cmp new q ≡ cond (is_eq (asker_cmp asker q)) (Some key) (tree.get asker_cmp old q)
+
+-- the asker has none, and each other the one that it had
+abbrev pub IsDropped : Asker → tree.BTreeMap Asker ℕ → tree.BTreeMap Asker ℕ → Type 0
+IsDropped asker old new =
+    (q : Asker) → tree.get asker_cmp new q ≡ cond (is_eq (asker_cmp asker q)) None (tree.get asker_cmp old q)
+
+-- each asker has the key that it had
+abbrev pub IsSameMap : tree.BTreeMap Asker ℕ → tree.BTreeMap Asker ℕ → Type 0
+IsSameMap old new = (q : Asker) → tree.get asker_cmp new q ≡ tree.get asker_cmp old q
+
+-- the oldest
+abbrev pub first : {A : Type 0} → List (Record A) → Option (Record A)
+first [] = None
+first (r ∷ rs) = Some r
+
+-- the place of the newest record of an asker
+abbrev pub newest_place : {A : Type 0} → Asker → List (Record A) → Option ℕ
+newest_place a [] = None
+newest_place a (r ∷ rs) = later_or (option_map suc (newest_place a rs)) (some_if (is_of a r) 0)

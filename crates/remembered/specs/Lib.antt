@@ -1,0 +1,3 @@
+pub mod Records
+pub mod Keeping
+pub mod Laws
