@@ -7,6 +7,7 @@ use Rattle.remembered.specs.declared.record.Asker.{Asker}
 use Rattle.remembered.specs.declared.record.Record.{Record}
 use Rattle.remembered.specs.Records.{asker_cmp, is_of, later_or, some_if}
 
+-- a list with this in front, where there is one
 abbrev pub cons_some : {X : Type 0} → Option X → List X → List X
 cons_some None xs = xs
 cons_some (Some x) xs = x ∷ xs
@@ -20,6 +21,7 @@ abbrev pub listed : {A : Type 0} → List (Option (Record A)) → List ℕ → L
 listed held [] = []
 listed held (k ∷ ks) = cons_some (at held k) (listed held ks)
 
+-- there is a record, and it is of this asker
 abbrev pub is_at : {A : Type 0} → Asker → Option (Record A) → Bool
 is_at a None = false
 is_at a (Some r) = is_of a r

@@ -17,6 +17,7 @@ asker_cmp a b = ordering_then (station_cmp a.station b.station) (nat_cmp a.invok
 abbrev pub is_of : {A : Type 0} → Asker → Record A → Bool
 is_of a r = is_eq (asker_cmp r.asker a)
 
+-- this where the test holds, else none
 abbrev pub some_if : {X : Type 0} → Bool → X → Option X
 some_if true x = Some x
 some_if false x = None
@@ -72,6 +73,7 @@ AreAscending (r ∷ rs) = AreFrom r.at rs × AreAscending rs
 abbrev pub said_on : {A : Type 0} → Way → Option Cutting → Record A → Record A
 said_on way sending r = record r { way = way; sending = sending }
 
+-- a first record and those behind it: changed where it is of the asker, and none behind it is
 abbrev pub said_by : {A : Type 0} → Option (Record A) → Bool → Way → Option Cutting → Record A → List (Record A) →
     List (Record A) → List (Record A)
 said_by (Some x) is_of way sending r rs rest = r ∷ rest

@@ -58,10 +58,12 @@ acknowledged_by now number window c =
       sent = max c.sent (min (piece_count c.chunk c.length) (suc number + window));
     }
 
+-- it ends where each piece is acknowledged, else it says its window
 abbrev pub turn_if : Bool → Turn
 turn_if true = Ends
 turn_if false = Sends
 
+-- a SegmentACK that does not count changes nothing
 abbrev pub acknowledges_if : Bool → ℕ → ℕ → ℕ → Cutting → Turned
 acknowledges_if false now number window c = record { state = c; turn = Waits }
 acknowledges_if true now number window c =
@@ -70,6 +72,7 @@ acknowledges_if true now number window c =
       turn = turn_if (is_acknowledged (acknowledged_by now number window c));
     }
 
+-- what has ended hears nothing more
 abbrev pub hears_if : (has_ended is_heard : Bool) → ℕ → ℕ → ℕ → Cutting → Turned
 hears_if true is_heard now number window c = record { state = c; turn = Waits }
 hears_if false is_heard now number window c = acknowledges_if is_heard now number window c
@@ -78,6 +81,7 @@ hears_if false is_heard now number window c = acknowledges_if is_heard now numbe
 unfoldable pub hears : ℕ → ℕ → ℕ → Bool → Cutting → Turned
 hears now number window nak c = hears_if (has_ended now c) (is_heard number nak c) now number window c
 
+-- a new sender begins; one that has ended ends; one that is timed out says its window again; else it waits
 abbrev pub wakes_if : (is_new has_ended is_timed_out : Bool) → ℕ → Cutting → Turned
 wakes_if true has_ended is_timed_out now c = record { state = record c { sent = 1; at = now }; turn = Sends }
 wakes_if false true is_timed_out now c = record { state = c; turn = Ends }

@@ -41,24 +41,29 @@ abbrev pub may_nak : ℕ → Option ℕ → Bool
 may_nak now None = true
 may_nak now (Some at) = nat_le APDU_SEGMENT_TIMEOUT_MS (now - at)
 
+-- the SegmentACK that is due, if one is
 abbrev pub ack_if : Bool → ℕ → Option ℕ
 ack_if true number = Some number
 ack_if false number = None
 
+-- on the next segment: it is taken, unless it passes a limit
 abbrev pub step_in_order : (is_full is_due : Bool) → Joining → Step
 step_in_order true is_due j = Full
 step_in_order false is_due j = Taken (ack_if is_due j.next)
 
+-- on any other: nothing before the first came, else a NAK of the last in order, unless one was just said
 abbrev pub step_out_of_order : (is_begun may_nak : Bool) → Joining → Step
 step_out_of_order false may_nak j = Dropped
 step_out_of_order true false j = Dropped
 step_out_of_order true true j = Nak (j.next - 1)
 
+-- what is whole takes no more
 abbrev pub step_on : (is_whole is_next : Bool) → ℕ → Bool → List ℕ → Joining → Step
 step_on true is_next now more octets j = Dropped
 step_on false true now more octets j = step_in_order (is_full octets j) (is_due more j) j
 step_on false false now more octets j = step_out_of_order (nat_lt 0 j.next) (may_nak now j.nak_at) j
 
+-- a SegmentACK that is said begins the count anew
 abbrev pub due_after : Option ℕ → ℕ → ℕ
 due_after (Some ack) due = 0
 due_after None due = suc due
@@ -82,6 +87,7 @@ joining_after Full now more octets j = j
 unfoldable pub step_of : ℕ → ℕ → Bool → List ℕ → Joining → Step
 step_of now number more octets j = step_on j.is_whole (number == j.next) now more octets j
 
+-- what such a segment leaves, and what is done
 unfoldable pub joins : ℕ → ℕ → Bool → List ℕ → Joining → Joined
 joins now number more octets j =
     record {
@@ -94,5 +100,6 @@ abbrev pub whole_if : Bool → List ℕ → Option (List ℕ)
 whole_if true octets = Some octets
 whole_if false octets = None
 
+-- the octets of the message, once it is whole
 abbrev pub whole_of : Joining → Option (List ℕ)
 whole_of j = whole_if j.is_whole j.octets

@@ -17,6 +17,7 @@ pub record IsFewest (chunk length count : ℕ) : Type 0 where
   pub holds : length ≤ count * chunk
   pub fewest : (fewer : ℕ) → 1 ≤ fewer → length ≤ fewer * chunk → count ≤ fewer
 
+-- a body has the fewest pieces that hold it
 abbrev pub PiecesAreFewest : Type 0
 PiecesAreFewest = (chunk : ℕ) (body : List ℕ) → 1 ≤ chunk → IsFewest chunk (length body) (length (pieces chunk body))
 
@@ -35,9 +36,11 @@ pub record Heard : Type 0 where
   pub at : ℕ
   pub says : PlainPiece
 
+-- what a receiver does on a segment that is heard
 abbrev pub step_by : Heard → Joining → Step
 step_by h j = step_of h.at h.says.number h.says.has_more h.says.octets j
 
+-- the receiver after it
 abbrev pub after_one : Heard → Joining → Joining
 after_one h j = (joins h.at h.says.number h.says.has_more h.says.octets j).state
 
@@ -46,6 +49,7 @@ abbrev pub after_all : List Heard → Joining → Joining
 after_all [] j = j
 after_all (h ∷ hs) j = after_all hs (after_one h j)
 
+-- the piece is among what was taken, if the step took it
 abbrev pub taken_by : Step → PlainPiece → List PlainPiece → List PlainPiece
 taken_by (Taken ack) p ps = p ∷ ps
 taken_by (Nak number) p ps = ps
@@ -74,6 +78,7 @@ pub record IsJoined (ps : List PlainPiece) (j : Joining) : Type 0 where
   pub next : j.next ≡ length ps
   pub whole : j.is_whole ≡ are_ended (nothing_joined 0).is_whole ps
 
+-- so after any segments
 abbrev pub WholeIsTaken : Type 0
 WholeIsTaken = (window : ℕ) (heard : List Heard) →
     IsJoined (taken heard (nothing_joined window)) (after_all heard (nothing_joined window))
@@ -93,10 +98,11 @@ pub record IsFront (chunk : ℕ) (body : List ℕ) (j : Joining) : Type 0 where
   pub octets : j.octets ≡ take (j.next * chunk) body
   pub whole : (octets : List ℕ) → whole_of j ≡ Some octets → octets ≡ body
 
--- nothing is a front of every body, and a piece of the body keeps it a front
+-- nothing is a front of every body ..
 abbrev pub NothingIsFront : Type 0
 NothingIsFront = (chunk window : ℕ) (body : List ℕ) → IsFront chunk body (nothing_joined window)
 
+-- .. and a piece of the body, of at most 256, keeps it a front
 abbrev pub JoinsKeepFront : Type 0
 JoinsKeepFront = (chunk : ℕ) (body : List ℕ) (h : Heard) (j : Joining) → 1 ≤ chunk → length (pieces chunk body) ≤ 256 →
     IsPiece chunk body h.says → IsFront chunk body j → IsFront chunk body (after_one h j)

@@ -26,13 +26,15 @@ before c words = before_first (λ b. b == c) words
 abbrev pub behind : ℕ → List ℕ → List ℕ
 behind c words = after_first (λ b. b == c) words
 
--- a colon, a slash and a space
+-- a colon
 abbrev pub colon : ℕ
 colon = 58
 
+-- a slash
 abbrev pub slash : ℕ
 slash = 47
 
+-- a space
 abbrev pub space : ℕ
 space = 32
 
