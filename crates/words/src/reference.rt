@@ -1,7 +1,7 @@
 //! Objects, as `5:1`, and properties or elements of them, as `85` or `87/17`.
 
 ghost use Rattle.std.specs.Prelude.{◌≡◌, ◌⊎◌, IfOk, IfErr};
-ghost use Rattle.words.specs.Says.{SaysObject, SaysReference};
+ghost use Rattle.words.specs.Says.{Has, HasNo, SaysObject, SaysReference, colon};
 ghost use Rattle.words.specs.Unsaid.{NoObject, NoReference};
 
 use crate::octets::{parse_u16, parse_u32};
@@ -19,6 +19,8 @@ use tags::ObjectId;
 pub fn parse_object(word: &str) -> Result<ObjectId, Unread>
     ensures read { IfOk result (SaysObject word.now) }
     ensures refused { IfErr result (λ e. NoObject word.now) }
+    ensures cause { IfErr result (λ e. (HasNo colon word.now × (e ≡ Unread.Object)) ⊎
+        (Has colon word.now × (e ≡ Unread.Number))) }
 {
     let Some((object_type, instance)) = word.split_once(':') else {
         return Err(Unread::Object);
@@ -42,11 +44,11 @@ impl<'a> fmt::Display for Words<'a, ObjectId> {
 /// The property or element of one that a word says, as `85` or `87/17`.
 ///
 /// # Errors
-/// `Reference` where its parts are not numbers of 32 bits.
+/// `Number` where its parts are not numbers of 32 bits.
 #[tactic(auto, using(crate::proofs::Unsaid::no_property))]
 pub fn parse_reference(word: &str) -> Result<PropertyReference, Unread>
     ensures read { IfOk result (SaysReference word.now) }
-    ensures refused { IfErr result (λ e. NoReference word.now) }
+    ensures refused { IfErr result (λ e. (e ≡ Unread.Number) × NoReference word.now) }
 {
     match word.split_once('/') {
         Some((property, index)) => Ok(PropertyReference {
