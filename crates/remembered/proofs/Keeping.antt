@@ -22,8 +22,8 @@ use Rattle.remembered.specs.Keeping.{cons_some, at, listed, is_at, key_of, IsFil
 -- ---- askers that compare alike are one
 pub exact_asker : (a b : Asker) → asker_cmp a b ≡ Equal → a ≡ b
 exact_asker a b e =
-    let p = then_equal (station_cmp a.station b.station) (nat_cmp a.invoke_id b.invoke_id) e in
-    ap (λ (s : Station). record { station = s; invoke_id = a.invoke_id }) (station_order.apart a.station b.station p.0) ∙ ap (λ (n : ℕ). record { station = b.station; invoke_id = n }) (exact_unsigned a.invoke_id b.invoke_id p.1)
+    let p = then_equal (nat_cmp a.invoke_id b.invoke_id) (station_cmp a.station b.station) e in
+    ap (λ (s : Station). record { station = s; invoke_id = a.invoke_id }) (station_order.apart a.station b.station p.1) ∙ ap (λ (n : ℕ). record { station = b.station; invoke_id = n }) (exact_unsigned a.invoke_id b.invoke_id p.0)
 
 pub is_equal : (o : Ordering) → is_eq o ≡ true → o ≡ Equal
 is_equal Less e = absurd (cc e)

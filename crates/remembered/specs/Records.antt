@@ -9,9 +9,9 @@ use Rattle.segments.specs.Numbers.{KEEP_MS, MAX_REMEMBERED}
 use Rattle.remembered.specs.declared.record.Asker.{Asker}
 use Rattle.remembered.specs.declared.record.Record.{Record}
 
--- askers by their stations, then by their invoke IDs
+-- askers by their invoke IDs, then by their stations
 abbrev pub asker_cmp : Asker → Asker → Ordering
-asker_cmp a b = ordering_then (station_cmp a.station b.station) (nat_cmp a.invoke_id b.invoke_id)
+asker_cmp a b = ordering_then (nat_cmp a.invoke_id b.invoke_id) (station_cmp a.station b.station)
 
 -- the record is of this asker
 abbrev pub is_of : {A : Type 0} → Asker → Record A → Bool

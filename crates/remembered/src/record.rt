@@ -10,11 +10,12 @@ use services::{AbortReason, ConfirmedService};
 use std::alloc::{AllocError, Allocator};
 use tags::Octets;
 
-/// Who asked: a station, and the invoke ID of its request, 0..=255 (20.1.2.6).
+/// Who asked: a station, and the invoke ID of its request, 0..=255 (20.1.2.6). In their order the invoke ID counts
+/// first: it tells most askers apart at once.
 #[derive(Clone, Copy, Debug, PartialEq, Eq, PartialOrd, Ord)]
 pub struct Asker {
-    pub station: Station,
     pub invoke_id: u8,
+    pub station: Station,
 }
 
 impl Asker {

@@ -7,43 +7,42 @@
 //! - `joining`: what a receiver of segments does.
 //! - `every`: every list of a few segments.
 //! - `numbers`: waits, lifetimes, counts and limits.
+//! - `askers`, `entries`: who asks, and what is remembered, in words.
+//! - `forms`, `devices`: both forms of what remembers, and a device that does.
+//! - `remembering`: what it answers, remembering in a list and under keys.
 #![tactic(auto)]
 
 mod asked;
+mod askers;
 mod cutting;
+mod devices;
+mod entries;
 mod every;
+mod forms;
 mod joining;
 mod numbers;
 mod pieces;
+mod remembering;
 
-use refusing::Refusing;
-use sheets::{Counts, Given, Part, Report, Row, Stop, two_words};
-use std::alloc::{AllocError, Global};
-use std::{fs, io};
+use sheets::{Bench, Counts, Given, Part, Report, Row, Stop, two_words};
+use std::alloc::AllocError;
+use std::io;
 
-fn main(rt: HostRuntime) -> io::Result<()> {
-    for name in sheets::names(&rt)?.as_slice() {
-        let text = fs::read_to_string(&rt, name.as_str())?;
-        let said = run(rt.alloc(), name.as_str(), text.as_str())?;
-        rt.print(said.as_str())?;
+/// What the rows of the program run on.
+struct Transactions;
+
+impl Bench for Transactions {
+    fn run(
+        given: Given<'_>,
+        name: &str,
+        rows: &[Row<'_>],
+        report: &mut Report<'_>,
+    ) -> Result<(), AllocError> {
+        for row in rows {
+            report.add(row, run_row(given, name, row))?;
+        }
+        Ok(())
     }
-    Ok(())
-}
-
-/// Runs the rows of a file, and answers what is printed of it.
-fn run(alloc: Global, name: &str, text: &str) -> Result<String, AllocError> {
-    let memory = Refusing::new(alloc);
-    let other = Refusing::new(alloc);
-    let given = Given {
-        alloc,
-        memory: &memory,
-        other: &other,
-    };
-    let mut report = Report::new(alloc, name);
-    for row in sheets::rows(alloc, text)?.as_slice() {
-        report.add(row, run_row(given, name, row))?;
-    }
-    report.text()
 }
 
 /// Runs a row of a file of this name.
@@ -51,6 +50,7 @@ fn run_row(given: Given<'_>, name: &str, row: &Row<'_>) -> Result<Counts, Stop> 
     let wanted = row.wanted()?;
     match name {
         "segments.txt" => run_segments(given, row.asked, wanted),
+        "remembered.txt" => remembering::run(given, row.asked, wanted),
         _ => Err(Stop::Unread(Part::Asked)),
     }
 }
@@ -67,4 +67,8 @@ fn run_segments(given: Given<'_>, asked: &str, wanted: &str) -> Result<Counts, S
         "every" => every::run(given, rest, wanted),
         _ => Err(Stop::Unread(Part::Asked)),
     }
+}
+
+fn main(rt: HostRuntime) -> io::Result<()> {
+    sheets::run_files::<Transactions>(&rt)
 }

@@ -1,0 +1,248 @@
+//! A device that remembers its answers: Integer Value 1, what executes writes to it, and the records.
+
+use crate::askers::Askers;
+use crate::entries::{entry_of, push_entry};
+use crate::forms::Form;
+use objects::{DataLink, Request, SiteObject, SiteObjects, Table, ValueKind};
+use remembered::Asker;
+use segments::numbers::{KEEP_MS, MAX_REMEMBERED};
+use services::{Executor, ObjectExecutor};
+use sheets::{Given, Stop, differs};
+use std::alloc::{AllocError, Allocator};
+use tags::{Items, Value};
+use words::{Words, parse_any_request};
+
+/// How many allocations of an execution are refused at most.
+const MANY: u64 = 100;
+
+/// Memory that a row runs in: what a device has lies in `own`, and what it is asked in `other`.
+#[derive(Clone, Copy)]
+pub(crate) struct Run<'a, A> {
+    pub(crate) given: Given<'a>,
+    pub(crate) own: A,
+    pub(crate) other: A,
+}
+
+/// A device, and the moment.
+#[derive(Drop)]
+pub(crate) struct Device<A: Allocator + Copy> {
+    pub(crate) records: Form<A>,
+    pub(crate) executor: ObjectExecutor<A>,
+    pub(crate) now: u64,
+    /// How many allocations were refused.
+    pub(crate) refused: u64,
+}
+
+/// How a device takes a request.
+#[derive(Clone, Copy, PartialEq, Eq)]
+pub(crate) enum Taken {
+    /// It is executed.
+    Executed,
+    /// Its answer is remembered, and it is not executed.
+    Again,
+    /// There is no place for its answer, and it is not executed.
+    Full,
+}
+
+/// The objects of the device: Integer Value 1, at 7.
+fn table<A: Allocator + Copy>(alloc: A) -> Result<Table<A>, Stop> {
+    let mut objects = Items::new(alloc);
+    objects.push(SiteObject {
+        kind: ValueKind::Integer { units: 95 },
+        instance: 1,
+        name: Items::from_slice(alloc, b"level")?,
+        default: Value::Signed(7),
+        description: Items::new(alloc),
+    })?;
+    let site = SiteObjects {
+        name: Items::from_slice(alloc, b"station")?,
+        instance: 99,
+        vendor: 260,
+        data_link: DataLink::BacnetIp,
+        objects,
+    };
+    Ok(Table::new(alloc, site)?)
+}
+
+/// A device with these records, at the moment 0.
+///
+/// # Errors
+/// Want of memory.
+pub(crate) fn opened<A: Allocator + Copy>(own: A, records: Form<A>) -> Result<Device<A>, Stop> {
+    Ok(Device {
+        records,
+        executor: ObjectExecutor { table: table(own)? },
+        now: 0,
+        refused: 0,
+    })
+}
+
+impl<A: Allocator + Copy> Device<A> {
+    /// Whether there is no place for another answer.
+    pub(crate) fn is_full(&self) -> bool {
+        self.records.len() >= MAX_REMEMBERED && !self.records.begins_dead(self.now)
+    }
+
+    /// Whether the answer to this asker is remembered, and lives.
+    fn is_remembered(&self, asker: Asker) -> bool {
+        match self.records.find(asker) {
+            Some(entry) => entry.at.saturating_add(KEEP_MS) >= self.now,
+            None => false,
+        }
+    }
+
+    /// Takes a request of this asker, as a device does: a write of a value, and what is remembered of it.
+    pub(crate) fn ask(
+        &mut self,
+        run: &Run<'_, A>,
+        asker: Asker,
+        value: &str,
+        answer: &str,
+    ) -> Result<Taken, Stop> {
+        if self.is_remembered(asker) {
+            return Ok(Taken::Again);
+        }
+        if self.is_full() {
+            return Ok(Taken::Full);
+        }
+        self.execute(run, asker, value, answer)?;
+        self.records.forget_dead(self.now);
+        Ok(Taken::Executed)
+    }
+
+    /// Executes a write, once each of its allocations has been refused in turn on copies.
+    pub(crate) fn execute(
+        &mut self,
+        run: &Run<'_, A>,
+        asker: Asker,
+        value: &str,
+        answer: &str,
+    ) -> Result<(), Stop> {
+        let refused = self.refuse_each(run, asker, value, answer)?;
+        self.refused = self.refused.saturating_add(refused);
+        self.try_execute(run, asker, value, answer, 0)?;
+        Ok(())
+    }
+
+    /// Executes a write on copies with each allocation refused in turn, until none is. A copy is then as it
+    /// was, and the same call made again on it succeeds. Answers how many were refused.
+    fn refuse_each(
+        &self,
+        run: &Run<'_, A>,
+        asker: Asker,
+        value: &str,
+        answer: &str,
+    ) -> Result<u64, Stop> {
+        let before = self.state(run)?;
+        let mut other = self.copy()?;
+        other.try_execute(run, asker, value, answer, 0)?;
+        let after = other.state(run)?;
+        for refused in 0..MANY {
+            let mut copy = self.copy()?;
+            if copy.try_execute(run, asker, value, answer, refused + 1)? {
+                return Ok(refused);
+            }
+            if copy.state(run)? != before {
+                return Err(differs(run.given.alloc, "a change where memory was refused"));
+            }
+            copy.try_execute(run, asker, value, answer, 0)?;
+            if copy.state(run)? != after {
+                return Err(differs(
+                    run.given.alloc,
+                    "another change where the call is made again",
+                ));
+            }
+        }
+        Err(differs(
+            run.given.alloc,
+            "an execution that is refused memory again and again",
+        ))
+    }
+
+    /// Executes a write with this allocation refused, none for 0. Answers whether it was executed.
+    fn try_execute(
+        &mut self,
+        run: &Run<'_, A>,
+        asker: Asker,
+        value: &str,
+        answer: &str,
+        refused: u64,
+    ) -> Result<bool, Stop> {
+        let entry = entry_of(run.own, asker, self.now, answer)?;
+        let request = write_of(run, value)?;
+        let memory = run.given.memory;
+        memory.refuse_only(refused);
+        let came = self.records.execute(entry, &mut self.executor, &request);
+        let is_met = refused > 0 && !memory.is_waiting();
+        memory.refuse_only(0);
+        match came {
+            Ok(()) if !is_met => Ok(true),
+            Err(AllocError) if is_met => Ok(false),
+            _ => Err(differs(
+                run.given.alloc,
+                "want of memory where there was enough, or the reverse",
+            )),
+        }
+    }
+
+    /// A device with equal records and objects.
+    fn copy(&self) -> Result<Self, Stop> {
+        Ok(Device {
+            records: self.records.copy()?,
+            executor: self.executor.copy()?,
+            now: self.now,
+            refused: 0,
+        })
+    }
+
+    /// All that the device has, in words: its records in order and as they are found, and its object.
+    pub(crate) fn state(&self, run: &Run<'_, A>) -> Result<String, Stop> {
+        let mut out = String::new(run.given.alloc);
+        self.push_list(&mut out)?;
+        self.push_found(&mut out)?;
+        push_entry(self.records.at(self.records.len()), &mut out)?;
+        self.push_value(run, &mut out)?;
+        let is_dead = self.records.begins_dead(self.now);
+        write!(out, " {is_dead} {}", self.records.len())?;
+        Ok(out)
+    }
+
+    /// Appends all records, in order of execution.
+    pub(crate) fn push_list(&self, out: &mut String) -> Result<(), AllocError> {
+        if self.records.len() == 0 {
+            return push_entry(self.records.at(0), out);
+        }
+        for place in 0..self.records.len() {
+            if place > 0 {
+                out.push_str(", ")?;
+            }
+            push_entry(self.records.at(place), out)?;
+        }
+        Ok(())
+    }
+
+    /// Appends the newest record of the asker of each record.
+    fn push_found(&self, out: &mut String) -> Result<(), AllocError> {
+        for place in 0..self.records.len() {
+            out.push_str(", ")?;
+            if let Some(entry) = self.records.at(place) {
+                push_entry(self.records.find(entry.asker), out)?;
+            }
+        }
+        Ok(())
+    }
+
+    /// Appends the Present_Value of Integer Value 1.
+    pub(crate) fn push_value(&self, run: &Run<'_, A>, out: &mut String) -> Result<(), Stop> {
+        let request = parse_any_request(run.other, "read 45:1 85")?;
+        let reply = self.executor.reply(&request)?;
+        write!(out, "{}", Words(&reply))?;
+        Ok(())
+    }
+}
+
+/// The request that writes a value to Integer Value 1.
+fn write_of<A: Allocator + Copy>(run: &Run<'_, A>, value: &str) -> Result<Request<A>, Stop> {
+    let words = format!(in run.given.alloc; "write 45:1 85 signed {value}")?;
+    Ok(parse_any_request(run.other, words.as_str())?)
+}
