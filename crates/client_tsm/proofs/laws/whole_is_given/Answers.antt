@@ -1,0 +1,8 @@
+use Rattle.client_tsm.proofs.Telling as telling
+use Rattle.client_tsm.proofs.laws.whole_is_given.Goals as goal
+
+pub returns-clause-whole : goal.returns-clause-whole
+returns-clause-whole g c = telling.whole_is_given
+
+pub returns-clause-joined : goal.returns-clause-joined
+returns-clause-joined g c = telling.joined_is_given

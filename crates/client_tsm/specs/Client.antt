@@ -1,0 +1,86 @@
+-- The client of transactions: what it knows, and what changes of it (5.4.1, 5.4.4).
+use Rattle.std.specs.Prelude.{ℕ, ◌+◌, ◌%◌, ◌==◌, ◌&&◌, nat_le, not, option_map, Bool, List, [], ◌∷◌, ◌++◌, remove, replicate, Option, Some, None, slice_get, slice_index, slice_set}
+use Rattle.std.specs.List.{list_any}
+use Rattle.segments.specs.Cutting.{Cutting}
+use Rattle.segments.specs.Numbers.{REUSE_MS}
+use Rattle.client_tsm.specs.Accepts.{PlainAccepts}
+use Rattle.client_tsm.specs.Open.{Open}
+use Rattle.client_tsm.specs.Waking.{all_left}
+use Rattle.client_tsm.specs.declared.gathering.Gathering.{Gathering}
+use Rattle.client_tsm.specs.declared.plan.Change.{Change}
+use Rattle.client_tsm.specs.declared.plan.Change.TheVariants.{Stays, Opens, Sends, Gathers, Renews, Ends, Wakes}
+
+-- accepts: what it takes of an answer; next: the next invoke ID; free_from: for each invoke ID the moment from which it
+-- may be given again; open_ones: the transactions that have no end, in order of issue; moment: that of the last change
+pub record ClientTsmState (A : Type 0) : Type 0 where
+  pub accepts : PlainAccepts
+  pub next : ℕ
+  pub free_from : List ℕ
+  pub open_ones : List (Open A)
+  pub moment : ℕ
+
+-- no invoke ID was given yet: each may be given from the moment 0 on
+unfoldable pub never_given : List ℕ
+never_given = replicate 256 0
+
+-- a client that has asked nothing
+abbrev pub new_client : {A : Type 0} → PlainAccepts → ClientTsmState A
+new_client accepts =
+    record { accepts = accepts; next = 0; free_from = never_given; open_ones = []; moment = 0 }
+
+-- a transaction under this invoke ID has no end yet
+abbrev pub is_open : {A : Type 0} → ℕ → List (Open A) → Bool
+is_open id os = list_any (λ o. o.invoke_id == id) os
+
+-- the next invoke ID may be given: it was last given long enough ago, and no transaction has it (5.4.1)
+abbrev pub may_issue : {A : Type 0} → ℕ → ClientTsmState A → Bool
+may_issue now st = nat_le (slice_index st.free_from st.next) now && not (is_open st.next st.open_ones)
+
+-- the transactions with one more, under the next invoke ID; IDs are given 0, 1, .. 255, 0, .. in turn (5.4.1)
+abbrev pub opens : {A : Type 0} → ℕ → Open A → ClientTsmState A → ClientTsmState A
+opens now o st =
+    record st {
+      next = (st.next + 1) % 256;
+      free_from = slice_set st.free_from st.next (now + REUSE_MS);
+      open_ones = st.open_ones ++ o ∷ [];
+      moment = now;
+    }
+
+-- more of the request came, and this goes on sending it (5.4.4.2)
+abbrev pub sends_on : {A : Type 0} → ℕ → Option Cutting → Open A → Open A
+sends_on now sending o = record o { sent = now; sending = sending }
+
+-- a segment of the answer came: the request came whole (5.4.4.4)
+abbrev pub gathers_on : {A : Type 0} → Option (Gathering A) → Open A → Open A
+gathers_on gathering o = record o { sending = None; gathering = gathering }
+
+-- the same segments, one of which was heard at this moment
+abbrev pub heard_at : {A : Type 0} → ℕ → Gathering A → Gathering A
+heard_at now g = record { receiver = g.receiver; at = now }
+
+-- a segment of the answer was heard and not taken
+abbrev pub renews : {A : Type 0} → ℕ → Open A → Open A
+renews now o = gathers_on (option_map (heard_at now) o.gathering) o
+
+-- the same, but for the one that was found at this place
+abbrev pub changed_if : {X : Type 0} → Option X → ℕ → (X → X) → List X → List X
+changed_if None place f xs = xs
+changed_if (Some x) place f xs = slice_set xs place (f x)
+
+-- the same, but for the one at this place, if there is one
+abbrev pub changed_at : {X : Type 0} → ℕ → (X → X) → List X → List X
+changed_at place f xs = changed_if (slice_get xs place) place f xs
+
+-- these transactions, after an input at this moment
+abbrev pub with_open : {A : Type 0} → ℕ → List (Open A) → ClientTsmState A → ClientTsmState A
+with_open now os st = record st { open_ones = os; moment = now }
+
+-- what a change leaves
+abbrev pub committed : {A : Type 0} → ℕ → Change A → ClientTsmState A → ClientTsmState A
+committed now Stays st = with_open now st.open_ones st
+committed now (Opens o) st = opens now o st
+committed now (Sends place sending) st = with_open now (changed_at place (sends_on now sending) st.open_ones) st
+committed now (Gathers place g) st = with_open now (changed_at place (gathers_on (Some g)) st.open_ones) st
+committed now (Renews place) st = with_open now (changed_at place (renews now) st.open_ones) st
+committed now (Ends place) st = with_open now (remove st.open_ones place) st
+committed now Wakes st = with_open now (all_left now st.open_ones) st

@@ -1,0 +1,100 @@
+-- What holds of any client: what is told of it, and when an answer counts (5.4.1, 5.4.4).
+use Rattle.std.specs.Prelude.{◌≡◌, ◌⊎◌, ℕ, ◌+◌, ◌<◌, true, false, List, [], ◌∷◌, length, Option, Some, slice_get}
+use Rattle.std.specs.List.{AllByRecursion, flat_map}
+use Rattle.apdu.specs.declared.apdu.Segment.{Segment}
+use Rattle.npdu.specs.declared.mac.Station.{Station}
+use Rattle.primitives.specs.declared.plain_data.Reply.{Reply}
+use Rattle.segments.specs.Numbers.{DEADLINE_MS}
+use Rattle.segments.specs.declared.step.Step.TheVariants.{Taken}
+use Rattle.services.specs.Asked.{service_asked}
+use Rattle.services.specs.Contents.{PlainAnswer, complex, MeansReply}
+use Rattle.client_tsm.specs.Client.{ClientTsmState}
+use Rattle.client_tsm.specs.Hearing.{Message, answers, answers_in_part, acknowledges, closes, nothing, Heard, joined_at, place_of, quiet}
+use Rattle.client_tsm.specs.Open.{Open, goes_on}
+use Rattle.client_tsm.specs.Steps.{IsPlan}
+use Rattle.client_tsm.specs.Waking.{all_left, told_of}
+use Rattle.client_tsm.specs.declared.plan.Change.TheVariants.{Stays, Ends}
+use Rattle.client_tsm.specs.declared.plan.Outcome.TheVariants.{Answered, TimedOut}
+use Rattle.client_tsm.specs.declared.plan.Plan.{Plan}
+use Rattle.client_tsm.specs.declared.plan.Told.{Told}
+
+-- where a message has a service, it is that of the request (20.1.4, 20.1.5, 20.1.7)
+abbrev pub HasService : {A : Type 0} → Message A → Open A → Type 0
+HasService (answers service contents) o = service ≡ service_asked o.request
+HasService (answers_in_part service segment octets) o = service ≡ service_asked o.request
+HasService (acknowledges negative number window) o = Unit {0}
+HasService (closes outcome) o = Unit {0}
+HasService nothing o = Unit {0}
+
+-- what is heard counts for a transaction that is open: it is addressed to the station heard, under the invoke ID and of
+-- the service that were heard; it is before the deadline, and before its end (5.4.1, 5.4.4)
+pub record IsCounted {A : Type 0} (now : ℕ) (from : Station) (h : Heard A) (st : ClientTsmState A) (place : ℕ)
+    (o : Open A) : Type 0 where
+  pub there : slice_get st.open_ones place ≡ Some o
+  pub id : o.invoke_id ≡ h.invoke_id
+  pub station : o.station ≡ from
+  pub service : HasService h.message o
+  pub early : now < o.at + DEADLINE_MS
+  pub living : goes_on now o ≡ true
+
+-- what is told is told of a transaction for which what is heard counts, and which ends
+pub record IsToldOf {A : Type 0} (now : ℕ) (from : Station) (h : Heard A) (st : ClientTsmState A) (plan : Plan A)
+    (t : Told A) : Type 0 where
+  pub place : ℕ
+  pub transaction : Open A
+  pub counted : IsCounted now from h st place transaction
+  pub named : t.invoke_id ≡ transaction.invoke_id
+  pub ends : plan.change ≡ Ends place
+
+-- what is heard counts for a transaction, or nothing is said, told or changed
+abbrev pub CountsOrNothing : Type 0 → Type 0
+CountsOrNothing A = (now : ℕ) (from : Station) (h : Heard A) (st : ClientTsmState A) (plan : Plan A) →
+    IsPlan now from h st plan →
+    (plan ≡ quiet Stays) ⊎ ((place : ℕ) × (o : Open A) × IsCounted now from h st place o)
+
+-- an outcome is told only of an open transaction that takes what is heard, and closes it
+abbrev pub ToldIsOpen : Type 0 → Type 0
+ToldIsOpen A = (now : ℕ) (from : Station) (h : Heard A) (st : ClientTsmState A) (plan : Plan A) →
+    IsPlan now from h st plan → AllByRecursion (IsToldOf now from h st plan) plan.told
+
+-- a whole answer that counts, and means a reply, is given: nothing else is told, and the transaction ends
+abbrev pub WholeIsGiven : Type 0 → Type 0
+WholeIsGiven A = (now : ℕ) (from : Station) (id : ℕ) (contents : PlainAnswer) (reply : Reply A)
+    (st : ClientTsmState A) (plan : Plan A) (place : ℕ) (o : Open A) →
+    place_of now from id st.open_ones ≡ Some place → slice_get st.open_ones place ≡ Some o →
+    MeansReply o.request contents reply →
+    IsPlan now from (record { invoke_id = id; message = answers (service_asked o.request) contents }) st plan →
+    (plan.told ≡ record { invoke_id = o.invoke_id; outcome = Answered reply } ∷ []) × (plan.change ≡ Ends place)
+
+-- .. so is one whose last segment is taken, by what its segments are together
+abbrev pub JoinedIsGiven : Type 0 → Type 0
+JoinedIsGiven A = (now : ℕ) (from : Station) (id : ℕ) (segment : Segment) (octets : List ℕ) (reply : Reply A)
+    (st : ClientTsmState A) (plan : Plan A) (place : ℕ) (o : Open A) (ack : Option ℕ) →
+    place_of now from id st.open_ones ≡ Some place → slice_get st.open_ones place ≡ Some o →
+    (joined_at now o segment octets).step ≡ Taken ack → segment.more_follows ≡ false →
+    MeansReply o.request (complex (joined_at now o segment octets).state.octets) reply →
+    IsPlan now from (record { invoke_id = id; message = answers_in_part (service_asked o.request) segment octets }) st
+    plan →
+    (plan.told ≡ record { invoke_id = o.invoke_id; outcome = Answered reply } ∷ []) × (plan.change ≡ Ends place)
+
+-- what is heard is planned in one way
+abbrev pub OnePlan : Type 0 → Type 0
+OnePlan A = (now : ℕ) (from : Station) (h : Heard A) (st : ClientTsmState A) (x y : Plan A) → IsPlan now from h st x →
+    IsPlan now from h st y → x ≡ y
+
+-- what is told at a wake: a transaction that was open, and has its end, is timed out
+pub record IsEnded {A : Type 0} (now : ℕ) (os : List (Open A)) (t : Told A) : Type 0 where
+  pub place : ℕ
+  pub transaction : Open A
+  pub there : slice_get os place ≡ Some transaction
+  pub dead : goes_on now transaction ≡ false
+  pub is : t ≡ record { invoke_id = transaction.invoke_id; outcome = TimedOut }
+
+-- at a wake only ends are told
+abbrev pub WokenAreEnded : Type 0 → Type 0
+WokenAreEnded A = (now : ℕ) (os : List (Open A)) → AllByRecursion (IsEnded now os) (flat_map (told_of now) os)
+
+-- .. and each transaction is told or left, and not both
+abbrev pub ToldOrLeft : Type 0 → Type 0
+ToldOrLeft A = (now : ℕ) (os : List (Open A)) →
+    length (flat_map (told_of now) os) + length (all_left now os) ≡ length os

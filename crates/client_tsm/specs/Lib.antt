@@ -1,0 +1,11 @@
+pub mod Accepts
+pub mod Open
+pub mod Limits
+pub mod Said
+pub mod Asking
+pub mod Waking
+pub mod Client
+pub mod Issuing
+pub mod Hearing
+pub mod Steps
+pub mod Laws

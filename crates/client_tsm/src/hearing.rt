@@ -1,0 +1,394 @@
+//! What a client does with an APDU that it hears (5.4.4).
+
+ghost use Rattle.std.specs.Prelude.{◌≡◌, [], IfOk};
+ghost use Rattle.services.specs.Contents.{answer_contents};
+ghost use Rattle.client_tsm.specs.Hearing as spec;
+ghost use Rattle.client_tsm.specs.Steps.{IsFinished};
+
+use crate::client::ClientTsm;
+use crate::gathering::Gathering;
+use crate::plan::{Change, Effects, Outcome, Plan, Told};
+use crate::said::Said;
+use crate::transaction::Transaction;
+use npdu::Station;
+use segments::{Receiver, Sender, Step, Turn, granted_window};
+use services::{Answer, Apdu, Segment, decode_reply};
+use std::alloc::{AllocError, Allocator};
+use tags::Items;
+
+/// The invoke ID of an APDU, 0 where it has none.
+fn invoke_id_of(apdu: &Apdu<'_>) -> u8
+    ensures { result ≡ spec.invoke_id_of apdu.now }
+{
+    match apdu {
+        Apdu::UnconfirmedRequest { .. } => 0,
+        Apdu::ConfirmedRequest { invoke_id, .. }
+        | Apdu::SimpleAck { invoke_id, .. }
+        | Apdu::ComplexAck { invoke_id, .. }
+        | Apdu::SegmentAck { invoke_id, .. }
+        | Apdu::Error { invoke_id, .. }
+        | Apdu::Reject { invoke_id, .. }
+        | Apdu::Abort { invoke_id, .. } => *invoke_id,
+    }
+}
+
+/// Nothing is said or told, and this changes.
+fn quiet<A: Allocator + Copy>(alloc: A, change: Change<A>) -> Plan<A>
+    ensures { result ≡ spec.quiet change }
+{
+    Plan {
+        said: Items::new(alloc),
+        told: Items::new(alloc),
+        change,
+    }
+}
+
+/// What joins the segments of an answer, where this window is proposed.
+fn receiver_of<A: Allocator + Copy>(
+    alloc: A,
+    gathering: &Option<Gathering<A>>,
+    window: u8,
+) -> Result<Receiver<A>, AllocError>
+    ensures { IfOk result (λ receiver. receiver ≡ spec.receiver_of gathering.now window) }
+{
+    match gathering {
+        None => Ok(Receiver::new(alloc, granted_window(window))),
+        Some(gathering) => gathering.receiver.copy(),
+    }
+}
+
+/// An open transaction that takes what is heard at a moment, in milliseconds, and its place.
+#[derive(Drop)]
+struct Taker<'a, A: Allocator> {
+    alloc: A,
+    moment: u64,
+    place: usize,
+    transaction: &'a Transaction<A>,
+}
+
+impl<A: Allocator + Copy> Taker<'_, A> {
+    /// The transaction ends so, and this is said.
+    fn closing(&self, said: Items<Said<A>, A>, outcome: Outcome<A>) -> Result<Plan<A>, AllocError>
+        ensures { IfOk result (λ plan. plan ≡
+            spec.closing said self.now.place self.now.transaction.now outcome) }
+    {
+        let transaction = self.transaction;
+        let mut told = Items::new(self.alloc);
+        told.push(Told {
+            invoke_id: transaction.invoke_id,
+            outcome,
+        })?;
+        Ok(Plan {
+            said,
+            told,
+            change: Change::Ends(self.place),
+        })
+    }
+
+    /// The transaction ends so, and nothing is said.
+    fn closed(&self, outcome: Outcome<A>) -> Result<Plan<A>, AllocError>
+        ensures { IfOk result (λ plan. plan ≡
+            spec.closing [] self.now.place self.now.transaction.now outcome) }
+    {
+        self.closing(Items::new(self.alloc), outcome)
+    }
+
+    /// A whole answer: of its last segment this is said, and where it means no reply this changes.
+    #[tactic(auto, using(crate::proofs::Meaning::meaning_rules))]
+    fn answered(
+        &self,
+        answer: &Answer<'_>,
+        said: Items<Said<A>, A>,
+        otherwise: Change<A>,
+    ) -> Result<Plan<A>, AllocError>
+        ensures { IfOk result (IsFinished (spec.completes (record {
+          place = self.now.place;
+          transaction = self.now.transaction.now;
+          contents = answer_contents answer.now;
+          says = said;
+          otherwise = otherwise;
+        }))) }
+    {
+        let transaction = self.transaction;
+        match decode_reply(self.alloc, &transaction.request, answer)? {
+            None => Ok(Plan {
+                said,
+                told: Items::new(self.alloc),
+                change: otherwise,
+            }),
+            Some(reply) => self.closing(said, Outcome::Answered(reply)),
+        }
+    }
+
+    /// An answer that came in one APDU.
+    fn whole_heard(&self, answer: &Answer<'_>) -> Result<Plan<A>, AllocError>
+        ensures { IfOk result (IsFinished
+            (spec.whole_heard self.now.place self.now.transaction.now (answer_contents answer.now))) }
+    {
+        self.answered(answer, Items::new(self.alloc), Change::Stays)
+    }
+
+    /// A SegmentACK of the answer.
+    fn ack_said(&self, negative: bool, sequence_number: u8, receiver: &Receiver<A>) -> Said<A>
+        ensures { result ≡
+            spec.ack_said negative sequence_number receiver.now self.now.transaction.now }
+    {
+        let transaction = self.transaction;
+        Said::SegmentAck {
+            way: transaction.way,
+            negative,
+            invoke_id: transaction.invoke_id,
+            sequence_number,
+            window: receiver.window(),
+        }
+    }
+
+    /// A SegmentACK of the answer, where one is due.
+    fn ack_if(
+        &self,
+        number: Option<u8>,
+        receiver: &Receiver<A>,
+    ) -> Result<Items<Said<A>, A>, AllocError>
+        ensures { IfOk result (λ said. said ≡
+            spec.ack_if number receiver.now self.now.transaction.now) }
+    {
+        let mut said = Items::new(self.alloc);
+        if let Some(number) = number {
+            said.push(self.ack_said(false, number, receiver))?;
+        }
+        Ok(said)
+    }
+
+    /// A segment that isn't taken renews what is gathered, where something is.
+    fn renewed_if(&self) -> Change<A>
+        ensures { result ≡ spec.renewed_if self.now.transaction.now.gathering self.now.place }
+    {
+        let transaction = self.transaction;
+        if transaction.gathering.is_some() {
+            Change::Renews(self.place)
+        } else {
+            Change::Stays
+        }
+    }
+
+    /// The answer came so far, and this is said.
+    fn gathered(&self, said: Items<Said<A>, A>, receiver: Receiver<A>) -> Plan<A>
+        ensures { result ≡ spec.gathered self.now.moment said self.now.place receiver }
+    {
+        let gathering = Gathering {
+            receiver,
+            at: self.moment,
+        };
+        Plan {
+            said,
+            told: Items::new(self.alloc),
+            change: Change::Gathers(self.place, gathering),
+        }
+    }
+
+    /// What comes of a segment of the answer.
+    fn joined_by(
+        &self,
+        step: Step,
+        more: bool,
+        receiver: Receiver<A>,
+    ) -> Result<Plan<A>, AllocError>
+        ensures { IfOk result (IsFinished (spec.joined_by step more self.now.moment self.now.place
+            self.now.transaction.now receiver)) }
+    {
+        match step {
+            Step::Taken(ack) => {
+                let said = self.ack_if(ack, &receiver)?;
+                if more {
+                    return Ok(self.gathered(said, receiver));
+                }
+                let answer = Answer::Complex(receiver.octets());
+                self.answered(&answer, said, Change::Renews(self.place))
+            }
+            Step::Nak(number) => {
+                let mut said = Items::new(self.alloc);
+                said.push(self.ack_said(true, number, &receiver))?;
+                Ok(self.gathered(said, receiver))
+            }
+            Step::Dropped => Ok(quiet(self.alloc, self.renewed_if())),
+            Step::Full => self.closed(Outcome::TimedOut),
+        }
+    }
+
+    /// A segment of the answer.
+    fn part_heard(&self, segment: &Segment, octets: &[u8]) -> Result<Plan<A>, AllocError>
+        ensures { IfOk result (IsFinished (spec.part_heard self.now.moment self.now.place
+            self.now.transaction.now segment.now octets.now)) }
+    {
+        let Segment {
+            more_follows,
+            sequence_number,
+            window,
+        } = *segment;
+        let transaction = self.transaction;
+        let mut receiver = receiver_of(self.alloc, &transaction.gathering, window)?;
+        let step = receiver.on_segment(sequence_number, more_follows, octets, self.moment)?;
+        self.joined_by(step, more_follows, receiver)
+    }
+
+    /// What comes of a SegmentACK of the request.
+    fn turned_by(&self, turn: Turn, sender: Sender) -> Result<Plan<A>, AllocError>
+        ensures { IfOk result (λ plan. plan ≡
+            spec.turned_by turn self.now.place self.now.transaction.now sender) }
+    {
+        match turn {
+            Turn::Waits => Ok(quiet(self.alloc, Change::Stays)),
+            Turn::Sends => {
+                let mut said = Items::new(self.alloc);
+                self.transaction.ask(self.alloc, Some(sender), &mut said)?;
+                Ok(Plan {
+                    said,
+                    told: Items::new(self.alloc),
+                    change: Change::Sends(self.place, Some(sender)),
+                })
+            }
+            Turn::Ends => Ok(quiet(self.alloc, Change::Sends(self.place, None))),
+        }
+    }
+
+    /// A SegmentACK of the request.
+    fn ack_heard(&self, negative: bool, number: u8, window: u8) -> Result<Plan<A>, AllocError>
+        ensures { IfOk result (λ plan. plan ≡ spec.ack_heard self.now.transaction.now.sending
+            self.now.moment self.now.place self.now.transaction.now negative number window) }
+    {
+        let transaction = self.transaction;
+        match transaction.sending {
+            None => Ok(quiet(self.alloc, Change::Stays)),
+            Some(mut sender) => {
+                let turn = sender.on_ack(number, window, negative, self.moment);
+                self.turned_by(turn, sender)
+            }
+        }
+    }
+
+    /// Whether an APDU that has a service has that of the request.
+    fn is_asked(&self, apdu: &Apdu<'_>) -> bool
+        ensures { result ≡ spec.is_asked (spec.message_of apdu.now) self.now.transaction.now }
+    {
+        match apdu {
+            Apdu::SimpleAck { service, .. }
+            | Apdu::ComplexAck { service, .. }
+            | Apdu::Error { service, .. } => *service == self.transaction.service(),
+            _ => true,
+        }
+    }
+
+    /// What an APDU comes to, that has the service of the request where it has one.
+    fn asked_told(&self, apdu: &Apdu<'_>) -> Result<Plan<A>, AllocError>
+        ensures { IfOk result (IsFinished (spec.asked_told self.now.moment self.now.place
+            self.now.transaction.now (spec.message_of apdu.now))) }
+    {
+        match apdu {
+            Apdu::SimpleAck { .. } => self.whole_heard(&Answer::Simple),
+            Apdu::ComplexAck {
+                segment: None,
+                data,
+                ..
+            } => self.whole_heard(&Answer::Complex(data)),
+            Apdu::ComplexAck {
+                segment: Some(segment),
+                data,
+                ..
+            } => self.part_heard(segment, data),
+            Apdu::Error { error, .. } => self.whole_heard(&Answer::Error(*error)),
+            Apdu::SegmentAck {
+                server: true,
+                negative,
+                sequence_number,
+                window,
+                ..
+            } => self.ack_heard(*negative, *sequence_number, *window),
+            Apdu::Reject { reason, .. } => self.closed(Outcome::Rejected(*reason)),
+            Apdu::Abort {
+                server: true,
+                reason,
+                ..
+            } => self.closed(Outcome::Aborted(*reason)),
+            // What no server says is not for a client. An arm for each: where they join, no proof is found.
+            Apdu::SegmentAck { server: false, .. } => Ok(quiet(self.alloc, Change::Stays)),
+            Apdu::Abort { server: false, .. } => Ok(quiet(self.alloc, Change::Stays)),
+            Apdu::ConfirmedRequest { .. } => Ok(quiet(self.alloc, Change::Stays)),
+            Apdu::UnconfirmedRequest { .. } => Ok(quiet(self.alloc, Change::Stays)),
+        }
+    }
+
+    /// What an APDU comes to.
+    fn told_open(&self, apdu: &Apdu<'_>) -> Result<Plan<A>, AllocError>
+        ensures { IfOk result (IsFinished (spec.told_open self.now.moment self.now.place
+            self.now.transaction.now (spec.message_of apdu.now))) }
+    {
+        if self.is_asked(apdu) {
+            self.asked_told(apdu)
+        } else {
+            Ok(quiet(self.alloc, Change::Stays))
+        }
+    }
+}
+
+impl<A: Allocator + Copy> ClientTsm<A> {
+    ghost use Rattle.std.specs.Prelude.{◌≡◌, ◌≤◌, ◌^◌, IfOk, OnErr};
+    ghost use Rattle.client_tsm.specs.Hearing.{heard_of, place_of};
+    ghost use Rattle.client_tsm.specs.Steps.{IsPlan, IsStep};
+
+    /// The place of the first transaction that takes what this station says under this invoke ID.
+    fn place_of(&self, now: u64, from: Station, invoke_id: u8) -> Option<usize>
+        ensures { result ≡ place_of now from invoke_id self.now.open_ones }
+    {
+        let mut place = 0;
+        for transaction in &self.open_ones {
+            if transaction.takes(now, from, invoke_id) {
+                return Some(place);
+            }
+            place += 1;
+        }
+        None
+    }
+
+    /// What is said, told and left where this station says this APDU to the client at the moment `now`, in
+    /// milliseconds.
+    ///
+    /// # Errors
+    /// Want of memory.
+    pub fn plan(&self, from: Station, apdu: &Apdu<'_>, now: u64) -> Result<Plan<A>, AllocError>
+        ensures { IfOk result (IsPlan now from (heard_of apdu.now) self.now) }
+    {
+        let Some(place) = self.place_of(now, from, invoke_id_of(apdu)) else {
+            return Ok(quiet(self.alloc, Change::Stays));
+        };
+        let Some(transaction) = self.open_ones.get(place) else {
+            return Ok(quiet(self.alloc, Change::Stays));
+        };
+        let taker = Taker {
+            alloc: self.alloc,
+            moment: now,
+            place,
+            transaction,
+        };
+        taker.told_open(apdu)
+    }
+
+    /// Hears this APDU from this station at the moment `now`, in milliseconds, and answers what is said and told.
+    ///
+    /// # Errors
+    /// Want of memory. The client is then as it was.
+    pub fn on_apdu(
+        &mut self,
+        from: Station,
+        apdu: &Apdu<'_>,
+        now: u64,
+    ) -> Result<Effects<A>, AllocError>
+        requires greatest { now ≤ 2 ^ 62 }
+        requires order { self.old.moment ≤ now }
+        ensures step { IfOk result (λ effects. IsStep now from (heard_of apdu.now) self.old effects self.new) }
+        ensures unchanged { OnErr result (self.new ≡ self.old) }
+    {
+        let Plan { said, told, change } = self.plan(from, apdu, now)?;
+        self.commit(change, now)?;
+        Ok(Effects { said, told })
+    }
+}

@@ -1,0 +1,30 @@
+//! What holds of any client, for the proofs of the layers above. A function without a body is a law: its contract.
+
+ghost use Rattle.client_tsm.specs.Laws as spec;
+
+use std::alloc::Allocator;
+
+/// What is heard counts only from the station addressed, with the invoke ID of an open transaction and, where it has
+/// one, its service, before the deadline and the end of the transaction; all else changes nothing. An outcome is told
+/// only where it counts, and closes the transaction.
+pub fn told_is_open<A: Allocator>()
+    ensures counts { spec.CountsOrNothing A }
+    ensures told { spec.ToldIsOpen A }
+{}
+
+/// An answer that counts and means a reply is given: a whole one, and one whose last segment is taken.
+pub fn whole_is_given<A: Allocator>()
+    ensures whole { spec.WholeIsGiven A }
+    ensures joined { spec.JoinedIsGiven A }
+{}
+
+/// What is heard is planned in one way.
+pub fn one_plan<A: Allocator>()
+    ensures { spec.OnePlan A }
+{}
+
+/// At a wake each transaction is told to have timed out, where it has its end, or left.
+pub fn woken_are_ended<A: Allocator>()
+    ensures ended { spec.WokenAreEnded A }
+    ensures each { spec.ToldOrLeft A }
+{}

@@ -1,0 +1,222 @@
+//! A transaction of a client: a request that has neither an answer nor an end (5.4.4).
+
+use crate::gathering::Gathering;
+use crate::limits::begun;
+use crate::said::Accepts;
+use npdu::{Station, Way};
+use objects::Request;
+use segments::numbers::{
+    APDU_TIMEOUT_MS, ASSEMBLY_TIMEOUT_MS, DEADLINE_MS, NUMBER_OF_APDU_RETRIES,
+};
+use segments::{Sender, Turn};
+use services::service_of;
+use std::alloc::{AllocError, Allocator};
+use std::marker::Model;
+use tags::Octets;
+
+/// A request that has neither an answer nor an end.
+#[derive(Drop)]
+pub struct Transaction<A: Allocator> {
+    pub(crate) invoke_id: u8,
+    pub(crate) station: Station,
+    pub(crate) way: Way,
+    pub(crate) request: Request<A>,
+    pub(crate) body: Octets<A>,
+    pub(crate) max_apdu: u16,
+    pub(crate) accepts: Accepts,
+    pub(crate) at: u64,
+    pub(crate) sent: u64,
+    pub(crate) repeats: u8,
+    pub(crate) sending: Option<Sender>,
+    pub(crate) gathering: Option<Gathering<A>>,
+}
+
+impl<A: Allocator> Model for Transaction<A> {
+    ghost use Rattle.std.specs.Prelude.{◌≡◌, ◌≤◌};
+    ghost use Rattle.services.specs.Asked.{request_octets};
+    ghost use Rattle.client_tsm.specs.Open.{Open};
+
+    ghost Value = { Open A };
+
+    ghost view = { λ t. record {
+      invoke_id = t.invoke_id;
+      station = t.station;
+      way = t.way;
+      request = t.request;
+      max_apdu = t.max_apdu;
+      accepts = t.accepts;
+      at = t.at;
+      sent = t.sent;
+      repeats = t.repeats;
+      sending = t.sending;
+      gathering = t.gathering;
+    } };
+
+    ghost invariant = { λ t. (t.body ≡ request_octets t.request) × (50 ≤ t.max_apdu) };
+}
+
+impl<A: Allocator> Transaction<A> {
+    ghost use Rattle.std.specs.Prelude.{◌≡◌, ◌==◌, length, Some};
+    ghost use Rattle.services.specs.Asked.{service_asked};
+    ghost use Rattle.client_tsm.specs.Client.{gathers_on, renews, sends_on};
+    ghost use Rattle.client_tsm.specs.Open.{gathers_still, goes_on, sends_still, takes};
+    ghost use Rattle.client_tsm.specs.Waking.{again, is_overdue, turn_of};
+
+    /// Whether this is its invoke ID.
+    pub(crate) fn has_id(&self, invoke_id: u8) -> bool
+        ensures { result ≡ (self.now.invoke_id == invoke_id) }
+    {
+        self.invoke_id == invoke_id
+    }
+
+    /// The number of the service of its request.
+    #[tactic(auto, using(crate::proofs::Names::asked_service))]
+    pub(crate) fn service(&self) -> u8
+        ensures { result ≡ service_asked self.now.request }
+    {
+        u8::from(service_of(&self.request))
+    }
+
+    /// Whether what is gathered of its answer isn't too old.
+    fn gathers_still(&self, now: u64) -> bool
+        ensures { result ≡ gathers_still now self.now.gathering }
+    {
+        match &self.gathering {
+            None => true,
+            Some(gathering) => now.saturating_sub(gathering.at) < ASSEMBLY_TIMEOUT_MS,
+        }
+    }
+
+    /// Whether no window of its request was repeated in vain.
+    fn sends_still(&self, now: u64) -> bool
+        ensures { result ≡ sends_still now self.now.sending }
+    {
+        match &self.sending {
+            None => true,
+            Some(sender) => !sender.has_ended(now),
+        }
+    }
+
+    /// Whether it has no end yet at the moment `now`, in milliseconds.
+    fn goes_on(&self, now: u64) -> bool
+        ensures { result ≡ goes_on now self.now }
+    {
+        now.saturating_sub(self.at) < DEADLINE_MS
+            && self.gathers_still(now)
+            && self.sends_still(now)
+    }
+
+    /// Whether it takes what this station says under this invoke ID.
+    pub(crate) fn takes(&self, now: u64, from: Station, invoke_id: u8) -> bool
+        ensures { result ≡ takes now from invoke_id self.now }
+    {
+        self.invoke_id == invoke_id && self.station == from && self.goes_on(now)
+    }
+
+    /// Whether no answer came in time, and it may be said again.
+    fn is_overdue(&self, now: u64) -> bool
+        ensures { result ≡ is_overdue now self.now }
+    {
+        now.saturating_sub(self.sent) >= APDU_TIMEOUT_MS && self.repeats < NUMBER_OF_APDU_RETRIES
+    }
+
+    /// What it does when the client wakes.
+    pub(crate) fn turn(&self, now: u64) -> Turn
+        ensures { result ≡ turn_of now self.now }
+    {
+        if !self.goes_on(now) {
+            return Turn::Ends;
+        }
+        if self.gathering.is_some() {
+            return Turn::Waits;
+        }
+        match self.sending {
+            Some(mut sender) => sender.on_tick(now),
+            None if self.is_overdue(now) => Turn::Sends,
+            None => Turn::Waits,
+        }
+    }
+
+    /// What goes on sending it where it is said again: its window, or it from its beginning.
+    pub(crate) fn sending_again(&self, now: u64) -> Option<Sender>
+        ensures { result ≡ (again now self.now).sending }
+    {
+        match self.sending {
+            Some(mut sender) => {
+                sender.on_tick(now);
+                Some(sender)
+            }
+            None => begun(now, self.max_apdu, self.body.as_slice()),
+        }
+    }
+
+    /// It is said again.
+    pub(crate) fn say_again(&mut self, now: u64)
+        requires { turn_of now self.old ≡ Turn.Sends }
+        ensures { self.new ≡ again now self.old }
+    {
+        let sending = self.sending_again(now);
+        if self.sending.is_none() && self.repeats < NUMBER_OF_APDU_RETRIES {
+            self.repeats += 1;
+        }
+        self.sent = now;
+        self.sending = sending;
+    }
+
+    /// More of its request came, and this goes on sending it.
+    pub(crate) fn send_on(&mut self, now: u64, sending: Option<Sender>)
+        ensures { self.new ≡ sends_on now sending self.old }
+    {
+        self.sent = now;
+        self.sending = sending;
+    }
+
+    /// More of its answer came.
+    pub(crate) fn gather(&mut self, gathering: Gathering<A>)
+        ensures { self.new ≡ gathers_on (Some gathering) self.old }
+    {
+        self.sending = None;
+        self.gathering = Some(gathering);
+    }
+
+    /// A segment of its answer was heard, and not taken.
+    pub(crate) fn renew(&mut self, now: u64)
+        ensures { self.new ≡ renews now self.old }
+    {
+        self.sending = None;
+        if let Some(gathering) = &mut self.gathering {
+            gathering.at = now;
+        }
+    }
+}
+
+impl<A: Allocator + Copy> Transaction<A> {
+    ghost use Rattle.std.specs.Prelude.{◌≡◌, IfOk};
+
+    /// An equal transaction, in memory of `alloc`.
+    ///
+    /// # Errors
+    /// Want of memory.
+    pub(crate) fn copy(&self, alloc: A) -> Result<Self, AllocError>
+        ensures { IfOk result (λ copy. copy ≡ self.now) }
+    {
+        let gathering = match &self.gathering {
+            None => None,
+            Some(gathering) => Some(gathering.copy()?),
+        };
+        Ok(Transaction {
+            invoke_id: self.invoke_id,
+            station: self.station,
+            way: self.way,
+            request: self.request.copy(alloc)?,
+            body: self.body.copy(alloc)?,
+            max_apdu: self.max_apdu,
+            accepts: self.accepts,
+            at: self.at,
+            sent: self.sent,
+            repeats: self.repeats,
+            sending: self.sending,
+            gathering,
+        })
+    }
+}

@@ -1,0 +1,96 @@
+//! What a client does when it wakes (5.4.4).
+
+ghost use Rattle.std.specs.Prelude.{◌≡◌, ◌++◌, OnOk};
+ghost use Rattle.client_tsm.specs.Waking.{all_left, said_of, told_of};
+
+use crate::client::ClientTsm;
+use crate::plan::{Change, Effects, Outcome, Plan, Told};
+use crate::said::Said;
+use crate::transaction::Transaction;
+use segments::Turn;
+use std::alloc::{AllocError, Allocator};
+use tags::Items;
+
+/// Appends what a transaction says when the client wakes, and what is told of it.
+fn wake_one<A: Allocator + Copy>(
+    alloc: A,
+    now: u64,
+    transaction: &Transaction<A>,
+    said: &mut Items<Said<A>, A>,
+    told: &mut Items<Told<A>, A>,
+) -> Result<(), AllocError>
+    ensures said { OnOk result (said.new ≡ said.old ++ said_of now transaction.now) }
+    ensures told { OnOk result (told.new ≡ told.old ++ told_of now transaction.now) }
+{
+    match transaction.turn(now) {
+        Turn::Waits => Ok(()),
+        Turn::Sends => transaction.ask(alloc, transaction.sending_again(now), said),
+        Turn::Ends => told.push(Told {
+            invoke_id: transaction.invoke_id,
+            outcome: Outcome::TimedOut,
+        }),
+    }
+}
+
+/// What is left of all transactions when the client wakes. It takes no memory.
+#[tactic(auto, using(crate::proofs::Wakes::wake_rules))]
+pub(crate) fn wake_all<A: Allocator>(open_ones: &mut Vec<Transaction<A>, A>, now: u64)
+    ensures { open_ones.new.items ≡ all_left now open_ones.old.items }
+{
+    let mut place = 0;
+    while place < open_ones.len() {
+        match open_ones[place].turn(now) {
+            Turn::Waits => place += 1,
+            Turn::Sends => {
+                open_ones[place].say_again(now);
+                place += 1;
+            }
+            Turn::Ends => {
+                open_ones.remove(place);
+            }
+        }
+    }
+}
+
+impl<A: Allocator + Copy> ClientTsm<A> {
+    ghost use Rattle.std.specs.Prelude.{◌≡◌, ◌≤◌, ◌^◌, IfOk, OnOk, OnErr};
+    ghost use Rattle.client_tsm.specs.Client.{committed};
+    ghost use Rattle.client_tsm.specs.Steps.{effects_of};
+    ghost use Rattle.client_tsm.specs.Waking.{woken};
+
+    /// What is said, told and left where the client wakes at the moment `now`, in milliseconds: one sending of a
+    /// transaction, and the ends that are due, in order of issue.
+    ///
+    /// # Errors
+    /// Want of memory.
+    pub fn plan_tick(&self, now: u64) -> Result<Plan<A>, AllocError>
+        ensures { IfOk result (λ plan. plan ≡ woken now self.now.open_ones) }
+    {
+        let mut said = Items::new(self.alloc);
+        let mut told = Items::new(self.alloc);
+        for transaction in &self.open_ones {
+            wake_one(self.alloc, now, transaction, &mut said, &mut told)?;
+        }
+        Ok(Plan {
+            said,
+            told,
+            change: Change::Wakes,
+        })
+    }
+
+    /// Wakes at the moment `now`, in milliseconds, and answers what is said and told.
+    ///
+    /// # Errors
+    /// Want of memory. The client is then as it was.
+    pub fn on_tick(&mut self, now: u64) -> Result<Effects<A>, AllocError>
+        requires greatest { now ≤ 2 ^ 62 }
+        requires order { self.old.moment ≤ now }
+        ensures effects { IfOk result (λ effects. effects ≡ effects_of (woken now self.old.open_ones)) }
+        ensures left { OnOk result (self.new ≡ committed now (woken now self.old.open_ones).change self.old) }
+        ensures unchanged { OnErr result (self.new ≡ self.old) }
+    {
+        let Plan { said, told, change } = self.plan_tick(now)?;
+        self.commit(change, now)?;
+        Ok(Effects { said, told })
+    }
+}
