@@ -11,17 +11,14 @@ use Rattle.npdu.specs.declared.priority.Priority.TheVariants.{Normal}
 use Rattle.npdu.specs.declared.view.Dnet.TheVariants.{Network, Global}
 use Rattle.primitives.specs.declared.plain_data.Request.{Request}
 use Rattle.primitives.specs.declared.plain_data.Reply.{Reply}
-use Rattle.primitives.specs.declared.plain_data.Reply.TheVariants.{Done, Error, ErrorAt}
-use Rattle.primitives.specs.Errors.{class_number, code_number}
 use Rattle.objects.specs.Machine.{reply, after}
 use Rattle.objects.specs.Objects.{PlainTable}
-use Rattle.apdu.specs.Apdu.{PlainApdu, confirmed, unconfirmed, simple_ack, complex_ack}
-use Rattle.apdu.specs.Apdu.{error_pdu, reject_pdu, abort_pdu}
+use Rattle.apdu.specs.Apdu.{PlainApdu, confirmed, unconfirmed}
+use Rattle.apdu.specs.Apdu.{reject_pdu, abort_pdu}
 use Rattle.apdu.specs.ApduWriting as application
-use Rattle.services.specs.CanonicalReply.{canonical_reply}
-use Rattle.apdu.specs.Numbers.{service_number, reject_number, abort_number}
+use Rattle.apdu.specs.Numbers.{reject_number, abort_number}
 use Rattle.apdu.specs.Sizes.{apdu_code, apdu_taken, IsNamedSize}
-use Rattle.services.specs.Request.{request_service, SpellsRequest, RejectsRequest}
+use Rattle.services.specs.Request.{SpellsRequest, RejectsRequest}
 use Rattle.apdu.specs.Unconfirmed as who
 use Rattle.apdu.specs.Unconfirmed.{SpellsWhoIs, Covers, i_am_octets}
 use Rattle.apdu.specs.declared.numbers.RejectReason.{RejectReason}
@@ -29,6 +26,7 @@ use Rattle.apdu.specs.declared.numbers.AbortReason.TheVariants.{SegmentationNotS
 use Rattle.apdu.specs.declared.sizes.MaxApdu.{MaxApdu}
 use Rattle.apdu.specs.declared.unconfirmed.Limits.{Limits}
 use Rattle.apdu.specs.declared.unconfirmed.UnconfirmedService.TheVariants.{WhoIs, IAm}
+use Rattle.server_tsm.specs.Answering.{answer_apdu}
 use Rattle.console.specs.Builtin.{builtin_i_am, builtin_network, longest_apdu}
 use Rattle.console.specs.Hearing.{Heard, Hears, OnlyHears, HearsNothing}
 
@@ -79,20 +77,6 @@ everywhere = record { net = Global; mac = []; hops = initial_hop_count }
 -- the datagram of an APDU to all stations of all networks (6.3.2, J.2.12)
 abbrev pub global_datagram : List ℕ → List ℕ
 global_datagram apdu = link.canonical (link.broadcast (network.canonical (header_to (Some everywhere) apdu)))
-
--- the number of the service of a request (21, BACnetConfirmedServiceChoice)
-abbrev pub number_of : {A : Type 0} → Request A → ℕ
-number_of request = service_number (request_service request)
-
--- the APDU that answers a request with this reply (20.1.4, 20.1.5, 20.1.7)
-abbrev pub answer_apdu : {A : Type 0} → ℕ → Request A → Reply A → PlainApdu
-answer_apdu invoke request Done = simple_ack invoke (number_of request)
-answer_apdu invoke request (Error class code) =
-    error_pdu invoke (number_of request) (class_number class) (code_number code) None
-answer_apdu invoke request (ErrorAt class code object property index) =
-    error_pdu invoke (number_of request) (class_number class) (code_number code)
-    (Some (record { object = object; property = property; index = index }))
-answer_apdu invoke request reply = complex_ack None invoke (number_of request) (canonical_reply request reply)
 
 -- the Abort of a device, segmentation-not-supported (5.4.5.3, 18.10, 20.1.9)
 abbrev pub abort_octets : ℕ → List ℕ

@@ -13,7 +13,8 @@ ghost use Rattle.console.specs.Builtin.{builtin_site, builtin_i_am, longest_apdu
 ghost use Rattle.console.specs.Heard.{heard_of, way_of, asked};
 ghost use Rattle.console.specs.Hearing.{request_body};
 ghost use Rattle.console.specs.Respond.{Responds, Says, AnswersRequest, AnswersWho, AsksWho, AsksOther};
-ghost use Rattle.console.specs.Respond.{i_am_datagram, answer_datagram, answer_octets, answer_apdu, rejection};
+ghost use Rattle.console.specs.Respond.{i_am_datagram, answer_datagram, answer_octets, rejection};
+ghost use Rattle.server_tsm.specs.Answering.{answer_apdu};
 ghost use Rattle.apdu.specs.ApduWriting.{CanBeWritten};
 ghost use Rattle.services.specs.CanonicalReply.{canonical_reply};
 ghost use Rattle.objects.specs.Machine.{reply};

@@ -1,0 +1,9 @@
+pub mod Askers
+pub mod Places
+pub mod Timely
+pub mod Names
+pub mod Meaning
+pub mod Full
+pub mod Planned
+pub mod Busy
+pub mod Silent

@@ -1,0 +1,325 @@
+-- What a server does with an APDU that it hears (5.4.5).
+use Rattle.std.specs.Prelude.{ℕ, ◌==◌, ◌||◌, nat_le, nat_lt, not, Bool, true, false, List, [], ◌∷◌, ◌++◌, length, filter, Option, Some, None, Result, Ok, Err}
+use Rattle.std.specs.List.{find}
+use Rattle.apdu.specs.declared.apdu.Apdu.{Apdu}
+use Rattle.apdu.specs.declared.apdu.Apdu.TheVariants as apdu
+use Rattle.apdu.specs.declared.apdu.Segment.{Segment}
+use Rattle.apdu.specs.declared.numbers.AbortReason.{AbortReason}
+use Rattle.apdu.specs.declared.numbers.AbortReason.TheVariants.{BufferOverflow, OutOfResources}
+use Rattle.apdu.specs.declared.numbers.RejectReason.{RejectReason}
+use Rattle.npdu.specs.declared.mac.Way.{Way}
+use Rattle.primitives.specs.declared.plain_data.Request.{Request}
+use Rattle.primitives.specs.declared.plain_data.Reply.{Reply}
+use Rattle.remembered.specs.Records.{is_full, remembered, said_on, some_if}
+use Rattle.remembered.specs.declared.record.Asker.{Asker}
+use Rattle.remembered.specs.declared.record.Record.{Record}
+use Rattle.segments.specs.Cutting.{Cutting, Turned, has_ended, hears}
+use Rattle.segments.specs.Joining.{Joining, granted_window, joins, nothing_joined}
+use Rattle.segments.specs.Numbers.{MAX_ASSEMBLIES, MAX_OCTETS}
+use Rattle.segments.specs.declared.step.Step.{Step}
+use Rattle.segments.specs.declared.step.Step.TheVariants.{Taken, Nak, Dropped, Full}
+use Rattle.segments.specs.declared.step.Turn.{Turn}
+use Rattle.segments.specs.declared.step.Turn.TheVariants as turn
+use Rattle.services.specs.Asked.{replied}
+use Rattle.server_tsm.specs.Answering.{answered_by, record_of}
+use Rattle.server_tsm.specs.Limits.{begun}
+use Rattle.server_tsm.specs.Server.{ServerTsmState, gathers_still, is_for}
+use Rattle.server_tsm.specs.Waking.{saying_by}
+use Rattle.server_tsm.specs.declared.asked.AnswerLimits.{AnswerLimits}
+use Rattle.server_tsm.specs.declared.asked.Asked.{Asked}
+use Rattle.server_tsm.specs.declared.asked.Origin.{Origin}
+use Rattle.server_tsm.specs.declared.assembly.Assembly.{Assembly}
+use Rattle.server_tsm.specs.declared.plan.Change.{Change}
+use Rattle.server_tsm.specs.declared.plan.Change.TheVariants.{Stays, Says, Gathers, GivesUp, Executes}
+use Rattle.server_tsm.specs.declared.plan.Plan.{Plan}
+use Rattle.server_tsm.specs.declared.said.Said.{Said}
+use Rattle.server_tsm.specs.declared.said.Said.TheVariants as said
+
+-- what an APDU says to a server: a request whole, or a segment of one, of a service; that segments of the answer came;
+-- that the transaction is over; or nothing (20.1)
+pub data Message : Type 0 where
+  asks : Option Segment → AnswerLimits → (service : ℕ) → List ℕ → Message
+  acknowledges : (negative : Bool) → (number window : ℕ) → Message
+  gives_up : Message
+  nothing : Message
+
+-- what a server hears, under which invoke ID
+pub record Heard : Type 0 where
+  pub invoke_id : ℕ
+  pub message : Message
+
+-- what a server says is not for a server (20.1.6.2, 20.1.9.1)
+abbrev pub of_client : (server : Bool) → Message → Message
+of_client true message = nothing
+of_client false message = message
+
+-- what an APDU says to a server: nothing where it is an answer (20.1)
+abbrev pub message_of : Apdu → Message
+message_of (apdu.ConfirmedRequest segment accepted max_segments max_apdu invoke service octets) =
+    asks segment (record { segmented = accepted; max_segments = max_segments; max_apdu = max_apdu }) service octets.now
+message_of (apdu.UnconfirmedRequest service octets) = nothing
+message_of (apdu.SimpleAck invoke service) = nothing
+message_of (apdu.ComplexAck segment invoke service octets) = nothing
+message_of (apdu.SegmentAck negative server invoke number window) =
+    of_client server (acknowledges negative number window)
+message_of (apdu.Error invoke service e) = nothing
+message_of (apdu.Reject invoke reason) = nothing
+message_of (apdu.Abort server invoke reason) = of_client server gives_up
+
+-- its invoke ID, or 0 where it has none (20.1)
+abbrev pub invoke_id_of : Apdu → ℕ
+invoke_id_of (apdu.ConfirmedRequest segment accepted max_segments max_apdu invoke service octets) = invoke
+invoke_id_of (apdu.UnconfirmedRequest service octets) = 0
+invoke_id_of (apdu.SimpleAck invoke service) = invoke
+invoke_id_of (apdu.ComplexAck segment invoke service octets) = invoke
+invoke_id_of (apdu.SegmentAck negative server invoke number window) = invoke
+invoke_id_of (apdu.Error invoke service e) = invoke
+invoke_id_of (apdu.Reject invoke reason) = invoke
+invoke_id_of (apdu.Abort server invoke reason) = invoke
+
+-- what an APDU says to a server (20.1)
+abbrev pub heard_of : Apdu → Heard
+heard_of a = record { invoke_id = invoke_id_of a; message = message_of a }
+
+-- who says it
+abbrev pub asker_of : Origin → Heard → Asker
+asker_of from h = record { station = from.station; invoke_id = h.invoke_id }
+
+-- nothing is said or executed, and this changes
+abbrev pub quiet : {A : Type 0} → Change A → Plan A
+quiet change = record { said = []; told = None; change = change }
+
+-- an Abort is said behind this, and this changes (5.4.5.1, 5.4.5.2)
+abbrev pub aborting : {A : Type 0} → List (Said A) → AbortReason → Asked → Change A → Plan A
+aborting says reason asked change =
+    record { said = says ++ said.Abort asked.way asked.asker.invoke_id reason ∷ []; told = None; change = change }
+
+-- a request that came whole. says: what is said of its last segment
+pub record Whole (A : Type 0) : Type 0 where
+  pub asked : Asked
+  pub octets : List ℕ
+  pub says : List (Said A)
+
+-- what an input comes to before any service data are read
+pub data Reached (A : Type 0) : Type 0 where
+  plans : Plan A → Reached A
+  completes : Whole A → Reached A
+
+-- an answer is being said in segments (5.4.5.4)
+abbrev pub is_sending : ℕ → Option Cutting → Bool
+is_sending now None = false
+is_sending now (Some c) = not (has_ended now c)
+
+-- an answer that goes on so is said on this way
+abbrev pub said_with : {A : Type 0} → Option Cutting → Way → Record A → Plan A
+said_with sending way r =
+    record {
+      said = answered_by sending (said_on way sending r);
+      told = None;
+      change = Says (saying_by sending (said_on way sending r));
+    }
+
+-- a request whose answer is remembered: while segments of it are said it is dropped, else it is said again
+abbrev pub repeated_if : {A : Type 0} → (is_sending : Bool) → ℕ → Way → Record A → Plan A
+repeated_if true now way r = quiet Stays
+repeated_if false now way r = said_with (begun now r.chunk r.answer) way r
+
+-- .. so (5.4.5.1)
+abbrev pub repeated : {A : Type 0} → ℕ → Way → Record A → Plan A
+repeated now way r = repeated_if (is_sending now r.sending) now way r
+
+-- one with too many octets is aborted
+abbrev pub completed_if : {A : Type 0} → (is_too_long : Bool) → Whole A → Reached A
+completed_if true w = plans (aborting w.says BufferOverflow w.asked (GivesUp w.asked.asker))
+completed_if false w = completes w
+
+-- a request came whole, and no answer of it is remembered (5.4.5.1, 5.4.5.2)
+abbrev pub completed : {A : Type 0} → Whole A → Reached A
+completed w = completed_if (nat_lt MAX_OCTETS (length w.octets)) w
+
+-- a request in one APDU (5.4.5.1)
+abbrev pub whole_heard : {A : Type 0} → Option (Record A) → ℕ → Asked → List ℕ → Reached A
+whole_heard (Some r) now asked octets = plans (repeated now asked.way r)
+whole_heard None now asked octets = completed (record { asked = asked; octets = octets; says = [] })
+
+-- a SegmentACK of the request (20.1.6)
+abbrev pub ack_said : {A : Type 0} → (negative : Bool) → ℕ → Joining → Asked → Said A
+ack_said negative number j asked = said.SegmentAck asked.way negative asked.asker.invoke_id number j.window
+
+-- a SegmentACK, where one is due (5.4.5.2)
+abbrev pub ack_if : {A : Type 0} → Option ℕ → Joining → Asked → List (Said A)
+ack_if None j asked = []
+ack_if (Some number) j asked = ack_said false number j asked ∷ []
+
+-- the request came so far, and this is said (5.4.5.2)
+abbrev pub gathered : {A : Type 0} → ℕ → List (Said A) → Asked → Joining → Plan A
+gathered now says asked j =
+    record { said = says; told = None; change = Gathers (record { asked = asked; receiver = j; at = now }) }
+
+-- a segment was taken: more follow, or the request is whole (5.4.5.2)
+abbrev pub taken_if : {A : Type 0} → (more : Bool) → ℕ → List (Said A) → Asked → Joining → Reached A
+taken_if true now says asked j = plans (gathered now says asked j)
+taken_if false now says asked j = completed (record { asked = asked; octets = j.octets; says = says })
+
+-- .. by what the receiver does with it; one that would pass a limit gives the request up, with an Abort (5.4.5.2)
+abbrev pub joined_by : {A : Type 0} → Step → (more : Bool) → ℕ → Asked → Joining → Reached A
+joined_by (Taken ack) more now asked j = taken_if more now (ack_if ack j asked) asked j
+joined_by (Nak number) more now asked j = plans (gathered now (ack_said true number j asked ∷ []) asked j)
+joined_by Dropped more now asked j = plans (gathered now [] asked j)
+joined_by Full more now asked j = plans (aborting [] BufferOverflow asked (GivesUp asked.asker))
+
+-- a segment joins what came so far (5.4.5.2)
+abbrev pub joined : {A : Type 0} → ℕ → Asked → Joining → Segment → List ℕ → Reached A
+joined now asked j s octets =
+    let x = joins now s.sequence_number s.more_follows octets j in
+    joined_by x.step s.more_follows now asked x.state
+
+-- a segment of another service than the first's is dropped (5.4.5.2)
+abbrev pub of_service : {A : Type 0} → (is_same : Bool) → Reached A → Reached A
+of_service true reached = reached
+of_service false reached = plans (quiet Stays)
+
+-- who asked in segments, as the first of them said it, but for the way of the last
+abbrev pub asked_on : {A : Type 0} → Way → Assembly A → Asked
+asked_on way a = record a.asked { way = way }
+
+-- the first segment begins, where there is a place; all others are dropped (5.4.5.1)
+abbrev pub begins_if : {A : Type 0} → (is_first is_crowded : Bool) → ℕ → Asked → Segment → List ℕ → Reached A
+begins_if false is_crowded now asked s octets = plans (quiet Stays)
+begins_if true true now asked s octets = plans (aborting [] OutOfResources asked Stays)
+begins_if true false now asked s octets = joined now asked (nothing_joined (granted_window s.window)) s octets
+
+-- MAX_ASSEMBLIES requests are being assembled
+abbrev pub is_crowded : {A : Type 0} → ℕ → List (Assembly A) → Bool
+is_crowded now xs = nat_le MAX_ASSEMBLIES (length (filter (gathers_still now) xs))
+
+-- a segment of a request, of which this came so far (5.4.5.1, 5.4.5.2)
+abbrev pub part_joined : {A : Type 0} → Option (Assembly A) → ℕ → Asked → Segment → List ℕ → List (Assembly A) →
+    Reached A
+part_joined (Some a) now asked s octets xs =
+    of_service (asked.service == a.asked.service) (joined now (asked_on asked.way a) a.receiver s octets)
+part_joined None now asked s octets xs = begins_if (s.sequence_number == 0) (is_crowded now xs) now asked s octets
+
+-- what is still assembled
+abbrev pub still : {A : Type 0} → ℕ → Option (Assembly A) → Option (Assembly A)
+still now None = None
+still now (Some a) = some_if (gathers_still now a) a
+
+-- what came of a request of this asker, unless it is too old (5.4.5.2)
+abbrev pub assembled : {A : Type 0} → ℕ → Asker → List (Assembly A) → Option (Assembly A)
+assembled now asker xs = still now (find (is_for asker) xs)
+
+-- a segment of a request: its answer may be remembered (5.4.5.1, 5.4.5.2)
+abbrev pub part_heard : {A : Type 0} → Option (Record A) → ℕ → Asked → Segment → List ℕ → List (Assembly A) → Reached A
+part_heard (Some r) now asked s octets xs = plans (repeated now asked.way r)
+part_heard None now asked s octets xs = part_joined (assembled now asked.asker xs) now asked s octets xs
+
+-- a SegmentACK of the answer, by what the sender does on it (5.4.5.4)
+abbrev pub turned_by : {A : Type 0} → Turn → Cutting → Way → Record A → Plan A
+turned_by turn.Waits c way r = quiet Stays
+turned_by turn.Sends c way r = said_with (Some c) way r
+turned_by turn.Ends c way r = quiet (Says (saying_by None (said_on way None r)))
+
+-- .. with what it leaves of the sender
+abbrev pub turned : {A : Type 0} → Turned → Way → Record A → Plan A
+turned t way r = turned_by t.turn t.state way r
+
+-- a SegmentACK of an answer that goes on so (5.4.5.4)
+abbrev pub ack_taken : {A : Type 0} → Option Cutting → ℕ → (number window : ℕ) → Bool → Way → Record A → Plan A
+ack_taken None now number window negative way r = quiet Stays
+ack_taken (Some c) now number window negative way r = turned (hears now number window negative c) way r
+
+-- a SegmentACK of an answer, where it is remembered (5.4.5.4)
+abbrev pub ack_heard : {A : Type 0} → Option (Record A) → ℕ → (number window : ℕ) → Bool → Way → Plan A
+ack_heard None now number window negative way = quiet Stays
+ack_heard (Some r) now number window negative way = ack_taken r.sending now number window negative way r
+
+-- an Abort of the client ends the saying of the answer, which stays remembered, or the assembling (5.4.5)
+abbrev pub given_up : {A : Type 0} → Option (Record A) → Asker → Plan A
+given_up None asker = quiet (GivesUp asker)
+given_up (Some r) asker = quiet (Says (saying_by None r))
+
+-- a request that came by a broadcast is dropped, and each before the end of the quiet time (5.4)
+abbrev pub is_deaf : {A : Type 0} → ℕ → (by_broadcast : Bool) → ServerTsmState A → Bool
+is_deaf now by_broadcast st = by_broadcast || nat_lt now st.quiet_until
+
+-- dropped where the server is deaf
+abbrev pub unless : {A : Type 0} → (is_deaf : Bool) → Reached A → Reached A
+unless true reached = plans (quiet Stays)
+unless false reached = reached
+
+-- who asks, and what of
+abbrev pub asked_by : Origin → Asker → AnswerLimits → ℕ → Asked
+asked_by from asker limits service = record { asker = asker; way = from.way; limits = limits; service = service }
+
+-- a request, whole or a segment of it (20.1.2)
+abbrev pub request_heard : {A : Type 0} → Option Segment → ℕ → Asked → List ℕ → ServerTsmState A → Reached A
+request_heard None now asked octets st = whole_heard (remembered now asked.asker st.records) now asked octets
+request_heard (Some s) now asked octets st =
+    part_heard (remembered now asked.asker st.records) now asked s octets st.assemblies
+
+-- what a message of this asker comes to (5.4.5)
+abbrev pub reached_by : {A : Type 0} → Message → ℕ → Origin → Asker → ServerTsmState A → Reached A
+reached_by (asks segment limits service octets) now from asker st =
+    unless (is_deaf now from.by_broadcast st)
+    (request_heard segment now (asked_by from asker limits service) octets st)
+reached_by (acknowledges negative number window) now from asker st =
+    plans (ack_heard (remembered now asker st.records) now number window negative from.way)
+reached_by gives_up now from asker st = plans (given_up (remembered now asker st.records) asker)
+reached_by nothing now from asker st = plans (quiet Stays)
+
+-- the half of the step that needs no service data
+abbrev pub reached : {A : Type 0} → ℕ → Origin → Heard → ServerTsmState A → Reached A
+reached now from h st = reached_by h.message now from (asker_of from h) st
+
+-- a request is rejected behind this (18.9)
+abbrev pub rejecting : {A : Type 0} → List (Said A) → RejectReason → Asked → Plan A
+rejecting says reason asked =
+    record {
+      said = says ++ said.Reject asked.way asked.asker.invoke_id reason ∷ [];
+      told = None;
+      change = GivesUp asked.asker;
+    }
+
+-- an answer is said behind this and remembered, and the request executed (5.4.5.3)
+abbrev pub answering : {A : Type 0} → List (Said A) → Request A → Reply A → Record A → Plan A
+answering says request reply r =
+    record {
+      said = says ++ answered_by r.sending r;
+      told = Some (record { asker = r.asker; request = request; reply = reply });
+      change = Executes request r;
+    }
+
+-- .. with this reply
+abbrev pub executing : {A : Type 0} → ℕ → List (Said A) → Asked → Request A → Reply A → ServerTsmState A → Plan A
+executing now says asked request reply st =
+    answering says request reply (record_of now st.max_apdu asked request reply)
+
+-- .. where there is a place for its answer; else it is aborted (5.4.5.1)
+abbrev pub executing_if : {A : Type 0} → (is_full : Bool) → ℕ → List (Said A) → Asked → Request A → ServerTsmState A →
+    Plan A
+executing_if true now says asked request st = aborting says OutOfResources asked (GivesUp asked.asker)
+executing_if false now says asked request st = executing now says asked request (replied st.table request) st
+
+-- a request that came whole: it is rejected or executed by what its service data mean
+abbrev pub finished_by : {A : Type 0} → Result (Request A) RejectReason → ℕ → List (Said A) → Asked →
+    ServerTsmState A → Plan A
+finished_by (Err reason) now says asked st = rejecting says reason asked
+finished_by (Ok request) now says asked st = executing_if (is_full now st.records) now says asked request st
+
+-- .. where something was found in them
+abbrev pub finished_with : {A : Type 0} → Option (Result (Request A) RejectReason) → ℕ → Whole A → ServerTsmState A →
+    Plan A
+finished_with None now w st = quiet Stays
+finished_with (Some found) now w st = finished_by found now w.says w.asked st
+
+-- .. and the other half, where this is what the service data of a whole request mean
+abbrev pub finished : {A : Type 0} → ℕ → Reached A → Option (Result (Request A) RejectReason) → ServerTsmState A →
+    Plan A
+finished now (plans plan) found st = plan
+finished now (completes w) found st = finished_with found now w st
+
+-- what is said, executed and left of what a server hears, where this is what the service data of a whole request mean
+abbrev pub planned : {A : Type 0} → ℕ → Origin → Heard → Option (Result (Request A) RejectReason) → ServerTsmState A →
+    Plan A
+planned now from h found st = finished now (reached now from h st) found st

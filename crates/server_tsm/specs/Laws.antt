@@ -1,0 +1,116 @@
+-- What holds of any server: what is executed, said again, and refused (5.4.5).
+use Rattle.std.specs.Prelude.{◌≡◌, ◌≤◌, ◌<◌, ◌⊎◌, ℕ, Bool, true, false, List, [], length, filter, Option, Some, None, slice_get}
+use Rattle.std.specs.List.{AllByRecursion}
+use Rattle.apdu.specs.ApduWriting.{canonical}
+use Rattle.apdu.specs.declared.apdu.Segment.{Segment}
+use Rattle.apdu.specs.declared.numbers.AbortReason.TheVariants.{OutOfResources}
+use Rattle.npdu.specs.declared.mac.Way.{Way}
+use Rattle.primitives.specs.declared.plain_data.Reply.{Reply}
+use Rattle.primitives.specs.declared.plain_data.Request.{Request}
+use Rattle.remembered.specs.Records.{lives, remembered}
+use Rattle.remembered.specs.declared.record.Record.{Record}
+use Rattle.segments.specs.Cutting.{Cutting}
+use Rattle.segments.specs.Numbers.{MAX_ASSEMBLIES, MAX_OCTETS, MAX_REMEMBERED}
+use Rattle.services.specs.Asked.{replied}
+use Rattle.services.specs.Request.{SpellsRequest}
+use Rattle.server_tsm.specs.Answering.{answer_apdu, answer_of, answered_by, number_of}
+use Rattle.server_tsm.specs.Hearing.{Heard, asks, acknowledges, asked_by, asker_of, executing, quiet, repeated}
+use Rattle.server_tsm.specs.Said.{answer_octets}
+use Rattle.server_tsm.specs.Server.{AreTimely, ServerTsmState, committed, gathers_still}
+use Rattle.server_tsm.specs.Steps.{IsPlan}
+use Rattle.server_tsm.specs.Waking.{woken}
+use Rattle.server_tsm.specs.declared.asked.AnswerLimits.{AnswerLimits}
+use Rattle.server_tsm.specs.declared.asked.Origin.{Origin}
+use Rattle.server_tsm.specs.declared.plan.Change.{Change}
+use Rattle.server_tsm.specs.declared.plan.Change.TheVariants.{Stays, Executes}
+use Rattle.server_tsm.specs.declared.plan.Plan.{Plan}
+use Rattle.server_tsm.specs.declared.said.Said.{Said}
+use Rattle.server_tsm.specs.declared.said.Said.TheVariants as said
+
+-- the answers that live
+abbrev pub living_records : {A : Type 0} → ℕ → ServerTsmState A → ℕ
+living_records now st = length (filter (lives now) st.records)
+
+-- the requests that are still assembled
+abbrev pub living_assemblies : {A : Type 0} → ℕ → ServerTsmState A → ℕ
+living_assemblies now st = length (filter (gathers_still now) st.assemblies)
+
+-- it hears a request from a station alone, outside the quiet time (5.4)
+pub record IsTaken {A : Type 0} (now : ℕ) (from : Origin) (st : ServerTsmState A) : Type 0 where
+  pub alone : from.by_broadcast ≡ false
+  pub quiet_over : st.quiet_until ≤ now
+
+-- a whole request that means one, of which no answer is remembered, and for whose answer there is a place, is executed
+-- and its answer said (5.4.5.1)
+abbrev pub WholeIsExecuted : Type 0 → Type 0
+WholeIsExecuted A = (now id : ℕ) (from : Origin) (limits : AnswerLimits) (service : ℕ) (octets : List ℕ)
+    (request : Request A) (st : ServerTsmState A) (plan : Plan A) →
+    let h : Heard = record { invoke_id = id; message = asks None limits service octets } in
+    IsTaken now from st → AreTimely st.moment st.records → remembered now (asker_of from h) st.records ≡ None →
+    living_records now st < MAX_REMEMBERED → length octets ≤ MAX_OCTETS → SpellsRequest service octets request →
+    IsPlan now from h st plan →
+    plan ≡ executing now [] (asked_by from (asker_of from h) limits service) request (replied st.table request) st
+
+-- of a request, or a segment of one, whose answer is remembered, that is said again on the way of what was heard,
+-- unless segments of it are being said (5.4.5.1)
+abbrev pub RepeatIsSaidAgain : Type 0 → Type 0
+RepeatIsSaidAgain A = (now id : ℕ) (from : Origin) (segment : Option Segment) (limits : AnswerLimits) (service : ℕ)
+    (octets : List ℕ) (r : Record A) (st : ServerTsmState A) (plan : Plan A) →
+    let h : Heard = record { invoke_id = id; message = asks segment limits service octets } in
+    IsTaken now from st → remembered now (asker_of from h) st.records ≡ Some r → IsPlan now from h st plan →
+    plan ≡ repeated now from.way r
+
+-- nothing is executed
+abbrev pub ExecutesNothing : {A : Type 0} → Change A → Type 0
+ExecutesNothing (Executes request r) = ⊥
+ExecutesNothing change = Unit {0}
+
+-- where an answer is remembered, nothing is executed, whatever is heard of its asker (5.4.5.1)
+abbrev pub RememberedIsNotExecuted : Type 0 → Type 0
+RememberedIsNotExecuted A = (now : ℕ) (from : Origin) (h : Heard) (r : Record A) (st : ServerTsmState A)
+    (plan : Plan A) → remembered now (asker_of from h) st.records ≡ Some r → IsPlan now from h st plan →
+    (plan.told ≡ None) × ExecutesNothing plan.change
+
+-- a request is aborted for want of resources only where so many answers live, or so many requests are assembled
+-- (5.4.5.1)
+abbrev pub BusyIsFull : Type 0 → Type 0
+BusyIsFull A = (now : ℕ) (from : Origin) (h : Heard) (st : ServerTsmState A) (plan : Plan A) (place id : ℕ)
+    (way : Way) → AreTimely st.moment st.records → IsPlan now from h st plan →
+    slice_get plan.said place ≡ Some (said.Abort way id OutOfResources) →
+    (MAX_REMEMBERED ≤ living_records now st) ⊎ (MAX_ASSEMBLIES ≤ living_assemblies now st)
+
+-- this is said of an answer that lives
+pub record IsSaidOfLiving {A : Type 0} (now : ℕ) (rs : List (Record A)) (s : Said A) : Type 0 where
+  pub r : Record A
+  pub k : ℕ
+  pub there : slice_get rs k ≡ Some r
+  pub living : lives now r ≡ true
+  pub sending : Option Cutting
+  pub place : ℕ
+  pub is : slice_get (answered_by sending r) place ≡ Some s
+
+-- when the server wakes, each thing said is of an answer that lives (5.4.5.4)
+abbrev pub WokenLive : Type 0 → Type 0
+WokenLive A = (now : ℕ) (rs : List (Record A)) → AllByRecursion (IsSaidOfLiving now rs) (woken now rs).said
+
+-- a SegmentACK of an answer that isn't remembered, or is dead, comes to nothing (5.4.5.4)
+abbrev pub AckOfDeadIsDropped : Type 0 → Type 0
+AckOfDeadIsDropped A = (now id number window : ℕ) (negative : Bool) (from : Origin) (st : ServerTsmState A)
+    (plan : Plan A) → let h : Heard = record { invoke_id = id; message = acknowledges negative number window } in
+    remembered now (asker_of from h) st.records ≡ None → IsPlan now from h st plan → plan ≡ quiet Stays
+
+-- what is heard is planned in one way
+abbrev pub OnePlan : Type 0 → Type 0
+OnePlan A = (now : ℕ) (from : Origin) (h : Heard) (st : ServerTsmState A) (x y : Plan A) → IsPlan now from h st x →
+    IsPlan now from h st y → x ≡ y
+
+-- what is remembered stays in order of execution, and none of it is executed later than the moment
+abbrev pub StaysTimely : Type 0 → Type 0
+StaysTimely A = (now : ℕ) (change : Change A) (st : ServerTsmState A) → st.moment ≤ now →
+    AreTimely st.moment st.records →
+    AreTimely (committed now change st).moment (committed now change st).records
+
+-- the octets of the answer with a reply, whole, are those of the APDU that answers with it (20.1)
+abbrev pub AnswerIsWhole : Type 0 → Type 0
+AnswerIsWhole A = (invoke : ℕ) (request : Request A) (reply : Reply A) →
+    answer_octets invoke (number_of request) (answer_of request reply) ≡ canonical (answer_apdu invoke request reply)

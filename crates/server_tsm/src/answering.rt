@@ -1,0 +1,166 @@
+//! What a server answers to a request, what it remembers of the answer, and how it says it (5.4.5).
+
+ghost use Rattle.std.specs.Prelude.{◌≡◌, ◌++◌, None, IfOk, OnOk};
+ghost use Rattle.apdu.specs.ApduWriting.{CanBeWritten, error_octets};
+ghost use Rattle.apdu.specs.Apdu.{error_pdu};
+ghost use Rattle.primitives.specs.Answers.{IsAnswerTo};
+ghost use Rattle.primitives.specs.Errors.{class_number, code_number};
+ghost use Rattle.primitives.specs.Sound.{IsSoundReply, IsSoundRequest};
+ghost use Rattle.remembered.specs.Records.{said_on};
+ghost use Rattle.segments.specs.Pieces.{piece_of};
+ghost use Rattle.services.specs.CanonicalReply.{canonical_reply};
+ghost use Rattle.server_tsm.specs.Answering.{answer_of, answered_by, data_of, piece_said, recorded, whole_said};
+
+use crate::asked::Asked;
+use crate::limits::begun;
+use crate::said::Said;
+use npdu::Way;
+use objects::{Reply, Request};
+use remembered::{Record, RememberedAnswer};
+use segments::numbers::WINDOW;
+use segments::{Piece, Sender};
+use services::{Answer, Apdu, Segment, ServiceError, answer_of, encode_reply, service_of};
+use std::alloc::{AllocError, Allocator};
+use tags::{Items, Octets};
+
+/// The contents of an Error.
+fn contents_of<A: Allocator + Copy>(
+    alloc: A,
+    service: u8,
+    error: ServiceError,
+) -> Result<Octets<A>, AllocError>
+    requires { CanBeWritten
+        (error_pdu 0 service (class_number error.class) (code_number error.code) error.first_failed) }
+    ensures { IfOk result (λ contents. contents ≡
+        error_octets (class_number error.class) (code_number error.code) error.first_failed) }
+{
+    let apdu = Apdu::Error {
+        invoke_id: 0,
+        service,
+        error,
+    };
+    let mut out = Vec::new(alloc);
+    if apdu.write(&mut out).is_err() {
+        return Err(AllocError);
+    }
+    match out.as_slice() {
+        [_, _, _, contents @ ..] => Octets::from_slice(alloc, contents),
+        _ => Ok(Octets::new(alloc)),
+    }
+}
+
+/// The answer with this reply, before it is known how it goes.
+#[tactic(auto, unfolding(crate::specs::Answering::answer_of))]
+pub(crate) fn kept_answer<A: Allocator + Copy>(
+    alloc: A,
+    request: &Request<A>,
+    reply: &Reply<A>,
+) -> Result<RememberedAnswer<A>, AllocError>
+    requires asked { IsSoundRequest request.now }
+    requires sound { IsSoundReply reply.now }
+    requires answers { IsAnswerTo request.now reply.now }
+    ensures { IfOk result (λ answer. answer ≡ answer_of request.now reply.now) }
+{
+    let mut body = Vec::new(alloc);
+    if encode_reply(request, reply, &mut body).is_err() {
+        return Err(AllocError);
+    }
+    match answer_of(reply, &[]) {
+        Answer::Simple => Ok(RememberedAnswer::Simple),
+        Answer::Complex(_) => Ok(RememberedAnswer::Complex(Octets::from_vec(body))),
+        Answer::Error(error) => {
+            let service = u8::from(service_of(request));
+            Ok(RememberedAnswer::Error(contents_of(alloc, service, error)?))
+        }
+    }
+}
+
+/// An answer that is remembered from the moment `now`, in milliseconds, on, and said from its beginning.
+pub(crate) fn recorded<A: Allocator>(
+    now: u64,
+    chunk: usize,
+    asked: &Asked,
+    request: &Request<A>,
+    answer: RememberedAnswer<A>,
+) -> Record<A>
+    ensures { result ≡ recorded now chunk asked.now request.now answer }
+{
+    let sending = begun(now, chunk, &answer);
+    Record {
+        asker: asked.asker,
+        service: service_of(request),
+        answer,
+        chunk,
+        at: now,
+        way: asked.way,
+        sending,
+    }
+}
+
+/// The service data of an answer, where it has some.
+fn data_of<A: Allocator>(answer: &RememberedAnswer<A>) -> &[u8]
+    ensures { result.now ≡ data_of answer.now }
+{
+    match answer {
+        RememberedAnswer::Complex(octets) => octets.as_slice(),
+        _ => &[],
+    }
+}
+
+/// A remembered answer whole, on this way.
+fn whole_said<A: Allocator + Copy>(
+    alloc: A,
+    way: Way,
+    entry: &Record<A>,
+) -> Result<Said<A>, AllocError>
+    ensures { IfOk result (λ said. said ≡ whole_said (said_on way None entry.now)) }
+{
+    Ok(Said::Answer {
+        way,
+        invoke_id: entry.asker.invoke_id,
+        service: entry.service,
+        answer: entry.answer.copy(alloc)?,
+    })
+}
+
+/// A piece of a remembered answer in a segment, on this way.
+fn piece_said<A: Allocator + Copy>(
+    alloc: A,
+    way: Way,
+    entry: &Record<A>,
+    piece: &Piece<'_>,
+) -> Result<Said<A>, AllocError>
+    ensures { IfOk result (λ said. said ≡ piece_said (said_on way None entry.now) (piece_of piece.now)) }
+{
+    let segment = Segment {
+        more_follows: piece.has_more,
+        sequence_number: piece.number,
+        window: WINDOW,
+    };
+    Ok(Said::Segment {
+        way,
+        invoke_id: entry.asker.invoke_id,
+        service: entry.service,
+        segment,
+        data: Octets::from_slice(alloc, piece.octets)?,
+    })
+}
+
+/// Appends a remembered answer whole, or the window of what goes on sending it, on this way.
+pub(crate) fn answer<A: Allocator + Copy>(
+    alloc: A,
+    sending: &Option<Sender>,
+    way: Way,
+    entry: &Record<A>,
+    said: &mut Items<Said<A>, A>,
+) -> Result<(), AllocError>
+    ensures { OnOk result (said.new ≡ said.old ++ answered_by sending.now (said_on way sending.now entry.now)) }
+{
+    let Some(sender) = sending else {
+        return said.push(whole_said(alloc, way, entry)?);
+    };
+    for piece in sender.window(data_of(&entry.answer)) {
+        said.push(piece_said(alloc, way, entry, &piece)?)?;
+    }
+    Ok(())
+}

@@ -1,0 +1,214 @@
+//! The server of transactions: what it knows, and what changes of it (5.4.1, 5.4.5).
+
+ghost use Rattle.std.specs.Prelude.{◌≡◌, ◌<◌, ◌∷◌, ◌++◌, []};
+ghost use Rattle.std.specs.Prelude.{vec_capacity, vec_len};
+ghost use Rattle.server_tsm.specs.Waking.{all_said_so};
+
+use crate::assembling::{copied, keep_gathered};
+use crate::assembly::Assembly;
+use crate::plan::{Change, Saying};
+use objects::Request;
+use remembered::{Asker, Record, Records, SlabRecords};
+use segments::numbers::KEEP_MS;
+use services::{Executor, MaxApdu};
+use std::alloc::{AllocError, Allocator};
+use std::marker::Model;
+
+/// The server of transactions.
+#[derive(Drop)]
+pub struct ServerTsm<E: Executor<A> + Drop, A: Allocator> {
+    pub(crate) alloc: A,
+    pub(crate) records: SlabRecords<A>,
+    pub(crate) assemblies: Vec<Assembly<A>, A>,
+    pub(crate) executor: E,
+    pub(crate) max_apdu: MaxApdu,
+    pub(crate) quiet_until: u64,
+    pub(crate) moment: u64,
+}
+
+impl<E: Executor<A> + Drop, A: Allocator> Model for ServerTsm<E, A> {
+    ghost use Rattle.server_tsm.specs.Server.{ServerTsmState, AreTimely};
+
+    ghost Value = { ServerTsmState A };
+
+    ghost view = { λ s. record {
+      records = s.records;
+      assemblies = s.assemblies.items;
+      table = E.table_of s.executor;
+      max_apdu = s.max_apdu;
+      quiet_until = s.quiet_until;
+      moment = s.moment;
+    } };
+
+    ghost invariant = { λ s. AreTimely s.moment s.records };
+}
+
+/// Puts an element behind all others, for which there is room.
+fn push_reserved<T: Drop, A: Allocator>(list: &mut Vec<T, A>, item: T)
+    requires { vec_len list.old < vec_capacity list.old }
+    ensures { list.new.items ≡ list.old.items ++ item ∷ [] }
+{
+    list.push(item).unwrap();
+}
+
+/// Answers are said so, one after another.
+fn say_all<A: Allocator + Copy>(records: &mut SlabRecords<A>, sayings: &[Saying])
+    ensures { records.new ≡ all_said_so sayings.now records.old }
+{
+    for saying in sayings {
+        records.replace(saying.asker, saying.way, saying.sending);
+    }
+}
+
+#[tactic(auto, using(crate::proofs::Timely::timely_rules))]
+impl<E: Executor<A> + Drop, A: Allocator + Copy> ServerTsm<E, A> {
+    ghost use Rattle.std.specs.Prelude.{◌≡◌, ◌≤◌, ◌^◌, IfOk, OnOk, OnErr, None};
+    ghost use Rattle.server_tsm.specs.Server.{committed, new_server, restarted};
+
+    /// A server that has executed nothing, on the objects of this executor, whose memory will be that of `alloc`.
+    /// Its link carries APDUs of at most this size. It takes no memory.
+    pub fn new(alloc: A, executor: E, max_apdu: MaxApdu) -> Self
+        ensures { result ≡ new_server (E.table_of executor) max_apdu }
+    {
+        ServerTsm {
+            alloc,
+            records: SlabRecords::new(alloc),
+            assemblies: Vec::new(alloc),
+            executor,
+            max_apdu,
+            quiet_until: 0,
+            moment: 0,
+        }
+    }
+
+    /// The moment of the last call that was not refused, in milliseconds.
+    pub fn moment(&self) -> u64
+        ensures { result ≡ self.now.moment }
+    {
+        self.moment
+    }
+
+    /// What executes its requests.
+    pub fn executor(&self) -> &E
+        ensures { E.table_of result.now ≡ self.now.table }
+    {
+        &self.executor
+    }
+
+    /// An equal server, in the same memory.
+    ///
+    /// # Errors
+    /// Want of memory.
+    pub fn copy(&self) -> Result<Self, AllocError>
+        ensures { IfOk result (λ copy. copy ≡ self.now) }
+    {
+        Ok(ServerTsm {
+            alloc: self.alloc,
+            records: self.records.copy()?,
+            assemblies: copied(self.alloc, self.assemblies.as_slice())?,
+            executor: self.executor.copy()?,
+            max_apdu: self.max_apdu,
+            quiet_until: self.quiet_until,
+            moment: self.moment,
+        })
+    }
+
+    /// Restarts at the moment `now`, in milliseconds, with the objects of this executor: it forgets all that it
+    /// remembers and assembles, and takes no request for 13000. It takes no memory, and says nothing.
+    pub fn restart(&mut self, executor: E, now: u64)
+        requires greatest { now ≤ 2 ^ 62 }
+        requires order { self.old.moment ≤ now }
+        ensures { self.new ≡ restarted now (E.table_of executor) self.old }
+    {
+        self.records.clear();
+        self.assemblies.clear();
+        self.executor = executor;
+        self.quiet_until = now + KEEP_MS;
+        self.moment = now;
+    }
+
+    /// Makes a change that was planned, at the moment `now`, in milliseconds. It was planned at that moment, with
+    /// no other input between. What is remembered of a request has that moment.
+    ///
+    /// # Errors
+    /// Want of memory, where a request is executed or came so far. The server is then as it was.
+    pub fn commit(&mut self, change: Change<A>, now: u64) -> Result<(), AllocError>
+        requires greatest { now ≤ 2 ^ 62 }
+        requires order { self.old.moment ≤ now }
+        ensures done { OnOk result (self.new ≡ committed now change self.old) }
+        ensures unchanged { OnErr result (self.new ≡ self.old) }
+    {
+        match change {
+            Change::Stays => self.moment = now,
+            Change::Says(saying) => self.say(saying, now),
+            Change::Gathers(assembly) => self.gather(assembly, now)?,
+            Change::GivesUp(asker) => self.give_up(asker, now),
+            Change::Executes(request, entry) => self.execute(&request, entry, now)?,
+            Change::Wakes(sayings) => self.wake(sayings.as_slice(), now),
+        }
+        Ok(())
+    }
+
+    /// An answer is said so.
+    fn say(&mut self, saying: Saying, now: u64)
+        requires { self.old.moment ≤ now }
+        ensures { self.new ≡ committed now (Change.Says saying) self.old }
+    {
+        self.records
+            .replace(saying.asker, saying.way, saying.sending);
+        self.moment = now;
+    }
+
+    /// A request came so far.
+    fn gather(&mut self, assembly: Assembly<A>, now: u64) -> Result<(), AllocError>
+        requires { self.old.moment ≤ now }
+        ensures done { OnOk result (self.new ≡ committed now (Change.Gathers assembly) self.old) }
+        ensures unchanged { OnErr result (self.new ≡ self.old) }
+    {
+        self.assemblies.reserve(1)?;
+        keep_gathered(&mut self.assemblies, now, Some(assembly.asked.asker));
+        push_reserved(&mut self.assemblies, assembly);
+        self.moment = now;
+        Ok(())
+    }
+
+    /// What came of a request of this asker is given up.
+    fn give_up(&mut self, asker: Asker, now: u64)
+        requires { self.old.moment ≤ now }
+        ensures { self.new ≡ committed now (Change.GivesUp asker) self.old }
+    {
+        keep_gathered(&mut self.assemblies, now, Some(asker));
+        self.moment = now;
+    }
+
+    /// A request is executed, and this remembered of it. No memory is taken after the execution.
+    #[tactic(auto, using(crate::proofs::Timely::timely_rules, crate::proofs::Names::left_name))]
+    fn execute(
+        &mut self,
+        request: &Request<A>,
+        mut kept: Record<A>,
+        now: u64,
+    ) -> Result<(), AllocError>
+        requires { self.old.moment ≤ now }
+        ensures done { OnOk result (self.new ≡ committed now (Change.Executes request.now kept) self.old) }
+        ensures unchanged { OnErr result (self.new ≡ self.old) }
+    {
+        kept.at = now;
+        let asker = kept.asker;
+        self.records.execute(kept, &mut self.executor, request)?;
+        self.records.forget_dead(now);
+        keep_gathered(&mut self.assemblies, now, Some(asker));
+        self.moment = now;
+        Ok(())
+    }
+    /// What is too old is forgotten, and answers are said so. It takes no memory.
+    fn wake(&mut self, sayings: &[Saying], now: u64)
+        requires { self.old.moment ≤ now }
+        ensures { self.new ≡ committed now (Change.Wakes sayings.now) self.old }
+    {
+        self.records.forget_dead(now);
+        say_all(&mut self.records, sayings);
+        keep_gathered(&mut self.assemblies, now, None);
+        self.moment = now;
+    }
+}

@@ -1,0 +1,141 @@
+//! What a server does when it wakes (5.4.5).
+
+ghost use Rattle.std.specs.Prelude.{◌≡◌, ◌++◌, ◌+◌, OnOk, drop};
+ghost use Rattle.std.specs.List.{flat_map};
+ghost use Rattle.server_tsm.specs.Waking.{again, said_of, saying_of, turn_of};
+
+use crate::answering::answer;
+use crate::plan::{Change, Effects, Plan, Saying};
+use crate::said::Said;
+use crate::server::ServerTsm;
+use remembered::{Record, Records, SlabRecords};
+use segments::numbers::KEEP_MS;
+use segments::{Sender, Turn};
+use services::Executor;
+use std::alloc::{AllocError, Allocator};
+use tags::Items;
+
+/// What is done with a remembered answer.
+fn turn_of<A: Allocator>(entry: &Record<A>, now: u64) -> Turn
+    ensures { result ≡ turn_of now entry.now }
+{
+    if entry.at < now.saturating_sub(KEEP_MS) {
+        return Turn::Waits;
+    }
+    match entry.sending {
+        None => Turn::Waits,
+        Some(mut sender) => sender.on_tick(now),
+    }
+}
+
+/// What goes on sending an answer, once its window is said again.
+fn again(sending: &Option<Sender>, now: u64) -> Option<Sender>
+    ensures { result ≡ again now sending.now }
+{
+    match sending {
+        None => None,
+        Some(sender) => {
+            let mut sender = *sender;
+            sender.on_tick(now);
+            Some(sender)
+        }
+    }
+}
+
+/// Appends what is said of a remembered answer, and what goes on sending it, where that changes.
+fn wake_one<A: Allocator + Copy>(
+    alloc: A,
+    now: u64,
+    entry: &Record<A>,
+    said: &mut Items<Said<A>, A>,
+    sayings: &mut Items<Saying, A>,
+) -> Result<(), AllocError>
+    ensures said { OnOk result (said.new ≡ said.old ++ said_of now entry.now) }
+    ensures sayings { OnOk result (sayings.new ≡ sayings.old ++ saying_of now entry.now) }
+{
+    let sending = match turn_of(entry, now) {
+        Turn::Waits => return Ok(()),
+        Turn::Sends => {
+            let sending = again(&entry.sending, now);
+            answer(alloc, &sending, entry.way, entry, said)?;
+            sending
+        }
+        Turn::Ends => None,
+    };
+    sayings.push(Saying {
+        asker: entry.asker,
+        way: entry.way,
+        sending,
+    })
+}
+
+/// Appends what is said of the record at this place, and what goes on sending it, where that changes.
+#[tactic(auto, using(crate::proofs::Places::map_rules))]
+fn wake_at<A: Allocator + Copy>(
+    alloc: A,
+    now: u64,
+    records: &SlabRecords<A>,
+    place: usize,
+    said: &mut Items<Said<A>, A>,
+    sayings: &mut Items<Saying, A>,
+) -> Result<(), AllocError>
+    ensures said { OnOk result (said.new ++ flat_map (said_of now) (drop (place + 1) records.now) ≡
+        said.old ++ flat_map (said_of now) (drop place records.now)) }
+    ensures sayings { OnOk result (sayings.new ++ flat_map (saying_of now) (drop (place + 1) records.now) ≡
+        sayings.old ++ flat_map (saying_of now) (drop place records.now)) }
+{
+    match records.at(place) {
+        None => Ok(()),
+        Some(entry) => wake_one(alloc, now, entry, said, sayings),
+    }
+}
+
+impl<E: Executor<A> + Drop, A: Allocator + Copy> ServerTsm<E, A> {
+    ghost use Rattle.std.specs.Prelude.{◌≡◌, ◌≤◌, ◌^◌, IfOk, OnOk, OnErr};
+    ghost use Rattle.server_tsm.specs.Server.{committed};
+    ghost use Rattle.server_tsm.specs.Steps.{effects_of};
+    ghost use Rattle.server_tsm.specs.Waking.{woken};
+
+    /// What is said and left where the server wakes at the moment `now`, in milliseconds: windows of answers, in
+    /// order of execution.
+    ///
+    /// # Errors
+    /// Want of memory.
+    pub fn plan_tick(&self, now: u64) -> Result<Plan<A>, AllocError>
+        ensures { IfOk result (λ plan. plan ≡ woken now self.now.records) }
+    {
+        let mut said = Items::new(self.alloc);
+        let mut sayings = Items::new(self.alloc);
+        for place in 0..self.records.len() {
+            wake_at(
+                self.alloc,
+                now,
+                &self.records,
+                place,
+                &mut said,
+                &mut sayings,
+            )?;
+        }
+        Ok(Plan {
+            said,
+            told: None,
+            change: Change::Wakes(sayings),
+        })
+    }
+
+    /// Wakes at the moment `now`, in milliseconds, and answers what is said.
+    ///
+    /// # Errors
+    /// Want of memory. The server is then as it was.
+    pub fn on_tick(&mut self, now: u64) -> Result<Effects<A>, AllocError>
+        requires greatest { now ≤ 2 ^ 62 }
+        requires order { self.old.moment ≤ now }
+        ensures effects { IfOk result (λ effects. effects ≡ effects_of (woken now self.old.records)) }
+        ensures left { OnOk result (self.new ≡ committed now (woken now self.old.records).change self.old) }
+        ensures unchanged { OnErr result (self.new ≡ self.old) }
+    {
+        let Plan { said, told, change } = self.plan_tick(now)?;
+        self.commit(change, now)?;
+        Ok(Effects { said, told })
+    }
+}
