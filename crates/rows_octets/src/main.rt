@@ -1,9 +1,10 @@
-//! The program `rows_octets`: what octets spell, from tags to APDUs (ANSI/ASHRAE 135, clauses 6.2, 16.10,
-//! 18.9, 18.10, 20.1, 20.2 and 21, and Annex J), and what is written again, run on the rows of its `data/`.
+//! The program `rows_octets`: what octets spell, from tags to APDUs (ANSI/ASHRAE 135, clauses 6.2, 9.3, 16.10,
+//! 18.9, 18.10, 20.1, 20.2 and 21, and Annexes G and J), and what is written again, run on the rows of its `data/`.
 //!
 //! - `tag_values`, `tag_rows`: values, and tags one after another.
 //! - `npdu_headers`, `npdu_addresses`: the header of the network layer, its addresses and parcels.
 //! - `bvll_datagrams`: the datagrams of BACnet/IP.
+//! - `mstp_streams`: the frames in a stream of octets on a bus.
 //! - `apdus`, `apdu_parts`: APDUs, and what stands in them.
 //! - `numbers`: the standard's numbers.
 #![tactic(auto)]
@@ -11,6 +12,7 @@
 mod apdu_parts;
 mod apdus;
 mod bvll_datagrams;
+mod mstp_streams;
 mod npdu_addresses;
 mod npdu_headers;
 mod numbers;
@@ -47,6 +49,7 @@ fn run_row(given: Given<'_>, name: &str, row: &Row<'_>) -> Result<Counts, Stop> 
         "npdu_headers.txt" => npdu_headers::run(given, row.asked, wanted),
         "npdu_addresses.txt" => npdu_addresses::run(given, row.asked, wanted),
         "bvll_datagrams.txt" => bvll_datagrams::run(given, row.asked, wanted),
+        "mstp_streams.txt" => mstp_streams::run(given, row.asked, wanted),
         "apdu_apdus.txt" => apdus::run(given, row.asked, wanted),
         "apdu_parts.txt" => apdu_parts::run(given, row.asked, wanted),
         "numbers.txt" => numbers::run(given, row.asked, wanted),

@@ -6,6 +6,7 @@ use apdu::{
     UnconfirmedService, UnknownService,
 };
 use bvll::{Function, ResultCode};
+use mstp_frame::FrameType;
 use npdu::{Dnet, Priority};
 use sheets::{Counts, Given, Part, Stop, compare, refusal, two_words};
 use std::alloc::Global;
@@ -75,6 +76,15 @@ fn octet_meaning(alloc: Global, kind: &str, number: u8) -> Result<String, Stop> 
         "priority" => tried(alloc, Priority::try_from(number), number),
         "router-reject" => tried(alloc, npdu::RejectReason::try_from(number), number),
         "bvlc-function" => tried(alloc, Function::try_from(number), number),
+        "frame-type" => {
+            let frame_type = FrameType::from(number);
+            named(
+                alloc,
+                &frame_type,
+                u32::from(number),
+                u32::from(u8::from(frame_type)),
+            )
+        }
         "pdu-type" => tried(alloc, PduType::try_from(number), number),
         "unconfirmed-service" => tried(alloc, UnconfirmedService::try_from(number), number),
         "confirmed-service" => confirmed_service(alloc, number),

@@ -1,0 +1,10 @@
+pub mod Division
+pub mod Tables
+pub mod Checks
+pub mod Spellings
+pub mod Fronts
+pub mod HearingLaws
+pub mod Leading
+pub mod Judging
+pub mod Taking
+pub mod Cuts

@@ -1,0 +1,7 @@
+pub mod Remainder
+pub mod FrameType
+pub mod Frame
+pub mod Heard
+pub mod Feeding
+pub mod Front
+pub mod Laws
