@@ -1,0 +1,7 @@
+pub mod Tables
+pub mod Times
+pub mod Reaching
+pub mod Reached
+pub mod Carried
+pub mod Worked
+pub mod Apart

@@ -1,0 +1,6 @@
+pub mod Tables
+pub mod Manager
+pub mod Reach
+pub mod Passing
+pub mod Laws
+pub mod Worked

@@ -1,0 +1,53 @@
+//! Lists of addresses.
+
+ghost use Rattle.std.specs.Prelude.{◌≡◌, ◌++◌, [], OnOk, option_map, unwrap_or};
+ghost use Rattle.bbmd.specs.Tables.{is_among, others, same_address};
+
+use bvll::Address;
+use std::alloc::{AllocError, Allocator};
+
+/// Whether two addresses are one.
+pub(crate) fn is_same(a: Address, b: Address) -> bool
+    ensures { result ≡ same_address a b }
+{
+    a == b
+}
+
+/// Whether the address is one of these.
+pub(crate) fn is_among(address: Address, all: &[Address]) -> bool
+    ensures { result ≡ is_among address all.now }
+{
+    all.contains(&address)
+}
+
+/// Appends these addresses without that one.
+///
+/// # Errors
+/// Want of memory.
+pub(crate) fn append_others<A: Allocator>(
+    out: &mut Vec<Address, A>,
+    without: Address,
+    all: &[Address],
+) -> Result<(), AllocError>
+    ensures { OnOk result (out.new.items ≡ out.old.items ++ others without all.now) }
+{
+    for address in all {
+        if !is_same(*address, without) {
+            out.push(*address)?;
+        }
+    }
+    Ok(())
+}
+
+/// These addresses, or none.
+pub(crate) fn or_nobody<A: Allocator>(
+    alloc: A,
+    addresses: Option<Vec<Address, A>>,
+) -> Vec<Address, A>
+    ensures { result.items ≡ unwrap_or (option_map (λ v. v.items) addresses) [] }
+{
+    match addresses {
+        Some(addresses) => addresses,
+        None => Vec::new(alloc),
+    }
+}

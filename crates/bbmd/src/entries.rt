@@ -1,0 +1,57 @@
+//! The entries of a manager's two tables, as it tells them.
+
+ghost use Rattle.std.specs.Prelude.{◌≡◌, ◌≤◌, length, map, IfOk};
+ghost use Rattle.bbmd.specs.Tables.{living, told, two_hops};
+
+use crate::registration::Registration;
+use bvll::{Address, DistributionEntry, ForeignDevice};
+use std::alloc::{AllocError, Allocator};
+
+/// The entry of a manager, whose mask asks for two hops (J.2.2, J.4.3).
+fn two_hops(address: Address) -> DistributionEntry
+    ensures { result ≡ two_hops address }
+{
+    DistributionEntry {
+        address,
+        mask: [0xFF; 4],
+    }
+}
+
+/// The entries of these managers, in order.
+///
+/// # Errors
+/// Want of memory.
+pub(crate) fn distribution_entries<A: Allocator>(
+    alloc: A,
+    managers: &[Address],
+) -> Result<Vec<DistributionEntry, A>, AllocError>
+    ensures entries { IfOk result (λ all. all.items ≡ map two_hops managers.now) }
+    ensures count { IfOk result (λ all. length all.items ≤ length managers.now) }
+{
+    let mut all = Vec::new(alloc);
+    for address in managers {
+        all.push(two_hops(*address))?;
+    }
+    Ok(all)
+}
+
+/// The entries of the foreign devices that are served at the moment `now`, in milliseconds, in order.
+///
+/// # Errors
+/// Want of memory.
+pub(crate) fn foreign_entries<A: Allocator>(
+    alloc: A,
+    registrations: &[Registration],
+    now: u64,
+) -> Result<Vec<ForeignDevice, A>, AllocError>
+    ensures entries { IfOk result (λ all. all.items ≡ map (told now) (living now registrations.now)) }
+    ensures count { IfOk result (λ all. length all.items ≤ length registrations.now) }
+{
+    let mut all = Vec::new(alloc);
+    for registration in registrations {
+        if registration.lives(now) {
+            all.push(registration.told(now))?;
+        }
+    }
+    Ok(all)
+}
