@@ -1,0 +1,28 @@
+//! The program `bench`: how long calls take, by the clock.
+//!
+//! Without words it makes each call a few times and says what came of them. With `--times` it makes each one often
+//! and prints the nanoseconds of one call in the best of several runs.
+//!
+//! - `clock`: the time of a call.
+//! - `frames`: the check of data, and hearing a frame, over 500 octets.
+//! - `managers`: what a broadcast manager forwards.
+//! - `remembered_answers`: finding and executing, with 1, 8 and 64 remembered answers.
+#![tactic(auto)]
+
+mod clock;
+mod frames;
+mod managers;
+mod remembered_answers;
+
+use std::{env, io};
+
+fn main(rt: HostRuntime) -> io::Result<()> {
+    let words: Vec<String> = env::args(&rt)?.collect(rt.alloc())?;
+    let has_times = words
+        .as_slice()
+        .iter()
+        .any(|word| word.as_str() == "--times");
+    remembered_answers::run(&rt, has_times)?;
+    frames::run(&rt, has_times)?;
+    managers::run(&rt, has_times)
+}

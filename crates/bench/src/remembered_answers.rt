@@ -1,0 +1,227 @@
+//! Remembered answers (ANSI/ASHRAE 135, clause 5.4.5): finding one, and executing a request with so many there.
+
+use crate::clock::{Work, time};
+use npdu::{Mac, Station, Way};
+use objects::{DataLink, Request, SiteObjects, Table};
+use remembered::{Asker, ListRecords, Record, Records, RememberedAnswer, SlabRecords};
+use segments::numbers::KEEP_MS;
+use services::{ConfirmedService, ObjectExecutor};
+use std::alloc::{AllocError, Global};
+use std::io;
+use tags::{Items, ObjectId};
+
+/// How often a call is made in a run without words, and in one that is timed.
+const FEW: u64 = 1_000;
+
+const OFTEN: u64 = 1_000_000;
+
+/// How many answers are remembered.
+const COUNTS: [u8; 3] = [1, 8, 64];
+
+/// A form of what remembers.
+trait Form {
+    /// None, in memory of `alloc`.
+    fn none(alloc: Global) -> Self;
+
+    /// Executes a request, and puts the record of it behind all others.
+    fn run(
+        &mut self,
+        entry: Record<Global>,
+        executor: &mut ObjectExecutor<Global>,
+        request: &Request<Global>,
+    ) -> Result<(), AllocError>;
+}
+
+impl Form for ListRecords<Global> {
+    fn none(alloc: Global) -> Self {
+        ListRecords::new(alloc)
+    }
+
+    fn run(
+        &mut self,
+        entry: Record<Global>,
+        executor: &mut ObjectExecutor<Global>,
+        request: &Request<Global>,
+    ) -> Result<(), AllocError> {
+        self.execute(entry, executor, request)
+    }
+}
+
+impl Form for SlabRecords<Global> {
+    fn none(alloc: Global) -> Self {
+        SlabRecords::new(alloc)
+    }
+
+    fn run(
+        &mut self,
+        entry: Record<Global>,
+        executor: &mut ObjectExecutor<Global>,
+        request: &Request<Global>,
+    ) -> Result<(), AllocError> {
+        self.execute(entry, executor, request)
+    }
+}
+
+/// The asker of this number, at a station of its own on BACnet/IP.
+fn asker(number: u8) -> Asker {
+    Asker {
+        station: Station {
+            net: 1,
+            mac: Mac::Six([192, 168, 1, number, 0xBA, 0xC0]),
+        },
+        invoke_id: number,
+    }
+}
+
+/// The record of a request of this asker, executed at this moment.
+fn entry(asker: Asker, at: u64) -> Record<Global> {
+    Record {
+        asker,
+        service: ConfirmedService::ReadProperty,
+        answer: RememberedAnswer::Simple,
+        chunk: 475,
+        at,
+        way: Way {
+            to: asker.station.mac,
+            destination: None,
+        },
+        sending: None,
+    }
+}
+
+/// A device that remembers the answers to so many askers, of which one is executed at each moment from 0 on.
+#[derive(Drop)]
+struct Device<R: Drop> {
+    records: R,
+    executor: ObjectExecutor<Global>,
+    request: Request<Global>,
+    count: u8,
+    now: u64,
+}
+
+impl<R: Records<Global> + Form + Drop> Device<R> {
+    /// A device with so many records.
+    fn new(alloc: Global, count: u8) -> io::Result<Device<R>> {
+        let site = SiteObjects {
+            name: Items::new(alloc),
+            instance: 1,
+            vendor: 260,
+            data_link: DataLink::BacnetIp,
+            objects: Items::new(alloc),
+        };
+        let Ok(table) = Table::new(alloc, site) else {
+            return Err(io::Error::from(AllocError));
+        };
+        let mut device = Device {
+            records: R::none(alloc),
+            executor: ObjectExecutor { table },
+            request: Request::Read {
+                object: ObjectId {
+                    object_type: 8,
+                    instance: 1,
+                },
+                property: 77,
+                index: None,
+            },
+            count,
+            now: 0,
+        };
+        for _ in 0..count {
+            device.execute_next()?;
+        }
+        Ok(device)
+    }
+
+    /// Executes the next asker's request.
+    fn execute_next(&mut self) -> Result<(), AllocError> {
+        let number = (self.now % 65) as u8;
+        let entry = entry(asker(number), self.now);
+        self.records.run(entry, &mut self.executor, &self.request)?;
+        self.now = self.now.saturating_add(1);
+        Ok(())
+    }
+}
+
+/// The next number below `count`, in turn.
+fn next(number: u8, count: u8) -> u8 {
+    let next = number.saturating_add(1);
+    if next < count { next } else { 0 }
+}
+
+/// Finding each asker's record in turn.
+#[derive(Drop)]
+struct Finding<R: Drop>(Device<R>);
+
+impl<R: Records<Global> + Form + Drop> Work for Finding<R> {
+    fn go(&mut self, times: u64) -> Result<u64, AllocError> {
+        let mut found = 0u64;
+        let mut number = 0u8;
+        for _ in 0..times {
+            if let Some(entry) = self.0.records.find(asker(number)) {
+                found = found
+                    .saturating_add(entry.at.saturating_sub(u64::from(number)))
+                    .saturating_add(1);
+            }
+            number = next(number, self.0.count);
+        }
+        Ok(found)
+    }
+}
+
+/// Executing a request, and forgetting the oldest record.
+#[derive(Drop)]
+struct Executing<R: Drop>(Device<R>);
+
+impl<R: Records<Global> + Form + Drop> Work for Executing<R> {
+    fn go(&mut self, times: u64) -> Result<u64, AllocError> {
+        for _ in 0..times {
+            self.0.execute_next()?;
+            let kept = self.0.now.saturating_sub(u64::from(self.0.count));
+            self.0.records.forget_dead(kept.saturating_add(KEEP_MS));
+        }
+        Ok(self.0.records.len() as u64)
+    }
+}
+
+/// Times the calls of a form, and prints them.
+fn run_form<R: Records<Global> + Form + Drop>(
+    rt: &HostRuntime,
+    name: &str,
+    has_times: bool,
+) -> io::Result<()> {
+    let times = if has_times { OFTEN } else { FEW };
+    for count in COUNTS {
+        let found = time(
+            rt,
+            &mut Finding(Device::<R>::new(rt.alloc(), count)?),
+            times,
+        )?;
+        let held = time(
+            rt,
+            &mut Executing(Device::<R>::new(rt.alloc(), count)?),
+            times,
+        )?;
+        if has_times {
+            let find = found.text(rt.alloc())?;
+            let execute = held.text(rt.alloc())?;
+            rt.println(format!(in rt.alloc();
+                "{name} {count}: find {find}, execute {execute}"
+            )?.as_str())?;
+        } else {
+            let (found, held) = (found.came, held.came);
+            rt.println(format!(in rt.alloc();
+                "{name} {count}: {found} found, {held} remembered"
+            )?.as_str())?;
+        }
+    }
+    Ok(())
+}
+
+/// Times the calls of both forms.
+///
+/// # Errors
+/// Those of the clock and of printing, and want of memory.
+pub(crate) fn run(rt: &HostRuntime, has_times: bool) -> io::Result<()> {
+    run_form::<ListRecords<Global>>(rt, "list", has_times)?;
+    run_form::<SlabRecords<Global>>(rt, "keys", has_times)
+}
