@@ -40,12 +40,16 @@ struct Forwarding {
 impl Forwarding {
     /// A manager with a peer and the members of its subnet.
     fn new(alloc: Global) -> io::Result<Forwarding> {
-        let managers = [at_port(FIRST), at_port(FIRST + 1)];
+        let own = at_port(FIRST);
+        let managers = [own, at_port(FIRST + 1)];
+        if !managers.as_slice().contains(&own) {
+            return Err(io::Error::from(AllocError));
+        }
         let mut members = Vec::new(alloc);
         for port in FIRST + 2..FIRST + 2 + MEMBERS {
             members.push(at_port(port))?;
         }
-        let Ok(manager) = Bbmd::new(alloc, at_port(FIRST), members.as_slice(), &managers) else {
+        let Ok(manager) = Bbmd::new(alloc, own, members.as_slice(), &managers) else {
             return Err(io::Error::from(AllocError));
         };
         Ok(Forwarding { manager })
