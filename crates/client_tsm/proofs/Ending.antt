@@ -1,5 +1,5 @@
 -- What is told, and left, of transactions when a client wakes.
-use Rattle.std.proofs.Common.{◌≡◌, refl, ℕ, ◌+◌, Bool, true, false, List, [], ◌∷◌, ◌++◌, length, length-append, arith}
+use Rattle.std.proofs.Common.{◌≡◌, refl, ℕ, ◌+◌, Bool, true, false, List, [], ◌∷◌, ◌++◌, length}
 use Rattle.std.specs.Prelude.{◌==◌, ◌-◌, nat_lt, not, suc, Option, Some, None}
 use Rattle.std.specs.List.{AllByRecursion, flat_map}
 use Rattle.std.proofs.lemmas.Bool.{and_parts}
@@ -9,7 +9,7 @@ use Rattle.segments.specs.declared.step.Turn.{Turn}
 use Rattle.segments.specs.declared.step.Turn.TheVariants.{Waits, Sends, Ends}
 use Rattle.client_tsm.specs.Laws.{IsEnded, ToldOrLeft, WokenAreEnded}
 use Rattle.client_tsm.specs.Open.{Open, gathers_still, goes_on, sends_still}
-use Rattle.client_tsm.specs.Waking.{all_left, is_overdue, left_by, told_by, told_of, turn_by, turn_if, turn_of, turn_where}
+use Rattle.client_tsm.specs.Waking.{is_overdue, left_by, told_by, told_of, turn_by, turn_if, turn_of, turn_where}
 use Rattle.client_tsm.specs.declared.gathering.Gathering.{Gathering}
 use Rattle.client_tsm.specs.declared.plan.Told.{Told}
 
@@ -73,10 +73,4 @@ each_by Sends now o = refl
 each_by Ends now o = refl
 
 pub told_or_left : {A : Type 0} → ToldOrLeft A
-told_or_left now [] = refl
-told_or_left {A} now (o ∷ os) =
-    let one = each_by (turn_of now o) now o in
-    let rest = told_or_left {A = A} now os in
-    let told = length-append (told_of now o) (flat_map (told_of now) os) in
-    let left = length-append (left_by (turn_of now o) now o) (all_left now os) in
-    omega (arith, one, rest, told, left)
+told_or_left now o = each_by (turn_of now o) now o

@@ -1,7 +1,7 @@
 -- What is told of what is heard, and when an answer counts.
 use Rattle.std.proofs.Common.{◌≡◌, ◌⊎◌, inl, inr, ◌∙◌, refl, sym, ap, subst, ℕ, ◌+◌, Bool, true, false, List, [], ◌∷◌, arith}
 use Rattle.std.specs.Prelude.{◌==◌, ◌-◌, ◌&&◌, nat_lt, cond, suc, Option, Some, None, slice_get}
-use Rattle.std.specs.List.{AllByRecursion, position_from}
+use Rattle.std.specs.List.{position_from}
 use Rattle.std.proofs.lemmas.Bool.{and_parts, eqb-true, eq-eqb, ltb-true}
 use Rattle.npdu.proofs.Stations.{one_station}
 use Rattle.npdu.specs.Mac.{same_station}
@@ -19,7 +19,7 @@ use Rattle.services.specs.Asked.{service_asked}
 use Rattle.services.specs.Contents.{complex, MeansReply}
 use Rattle.client_tsm.specs.Client.{ClientTsmState}
 use Rattle.client_tsm.specs.Hearing.{Message, answers, answers_in_part, acknowledges, closes, nothing, Heard, Reached, plans, completes, Whole, ack_heard, ack_if, closing, finished, asked_told, is_asked, joined_at, joined_by, of_service, part_heard, place_of, quiet, reached, taken_if, told_at, told_open, told_where, turned_by, whole_heard}
-use Rattle.client_tsm.specs.Laws.{CountsOrNothing, HasService, IsCounted, IsToldOf, JoinedIsGiven, OnePlan, ToldIsOpen, WholeIsGiven}
+use Rattle.client_tsm.specs.Laws.{CountsOrNothing, HasService, IsCounted, IsOutcome, IsTold, JoinedIsGiven, OnePlan, ToldIsOpen, WholeIsGiven}
 use Rattle.client_tsm.specs.Open.{Open, goes_on, takes}
 use Rattle.client_tsm.specs.Steps.{IsFinished, IsFound, IsMeant}
 use Rattle.client_tsm.specs.declared.plan.Change.TheVariants.{Renews, Stays}
@@ -83,53 +83,53 @@ joined_is_given {A} now from id segment octets reply st plan place o ack e f ste
     (ap (λ (x : Plan A). x.told) p, ap (λ (x : Plan A). x.change) p)
 
 -- ---- what is told is told of an open transaction
-abbrev AllTold : {A : Type 0} → ℕ → Station → Heard A → ClientTsmState A → Plan A → Type 0
-AllTold now from h st plan = AllByRecursion (IsToldOf now from h st plan) plan.told
+abbrev OneTold : {A : Type 0} → ℕ → Station → Heard A → ClientTsmState A → Plan A → Type 0
+OneTold now from h st plan = (plan.told ≡ []) ⊎ IsTold now from h st plan
 
 -- a transaction takes what is heard
 abbrev Counts : {A : Type 0} → ℕ → Station → Heard A → ClientTsmState A → ℕ → Open A → Type 0
 Counts now from h st place o = HasService h.message o → IsCounted now from h st place o
 
-closing_told : {A : Type 0} (now : ℕ) (from : Station) (h : Heard A) (st : ClientTsmState A) (place : ℕ) (o : Open A) (says : List (Said A)) (outcome : Outcome A) → Counts now from h st place o → HasService h.message o → AllTold now from h st (closing says place o outcome)
-closing_told now from h st place o says outcome c s =
-    (record { place = place; transaction = o; counted = c s; named = refl; ends = refl }, tt)
+closing_told : {A : Type 0} (now : ℕ) (from : Station) (h : Heard A) (st : ClientTsmState A) (place : ℕ) (o : Open A) (says : List (Said A)) (outcome : Outcome A) → Counts now from h st place o → HasService h.message o → IsOutcome now h.message o outcome → OneTold now from h st (closing says place o outcome)
+closing_told now from h st place o says outcome c s heard =
+    inr (record { place = place; transaction = o; counted = c s; outcome = outcome; heard = heard; told = refl; ends = refl })
 
-completes_told : {A : Type 0} (now : ℕ) (from : Station) (h : Heard A) (st : ClientTsmState A) (w : Whole A) (found : Option (Reply A)) → Counts now from h st w.place w.transaction → HasService h.message w.transaction → AllTold now from h st (finished (completes w) found)
-completes_told now from h st w None c s = tt
-completes_told now from h st w (Some reply) c s = closing_told now from h st w.place w.transaction w.says (Answered reply) c s
+completes_told : {A : Type 0} (now : ℕ) (from : Station) (h : Heard A) (st : ClientTsmState A) (w : Whole A) (found : Option (Reply A)) → Counts now from h st w.place w.transaction → HasService h.message w.transaction → ((reply : Reply A) → MeansReply w.transaction.request w.contents reply → IsOutcome now h.message w.transaction (Answered reply)) → IsMeant w.transaction.request w.contents found → OneTold now from h st (finished (completes w) found)
+completes_told now from h st w None c s heard means = inl refl
+completes_told now from h st w (Some reply) c s heard means = closing_told now from h st w.place w.transaction w.says (Answered reply) c s (heard reply means)
 
-taken_told : {A : Type 0} (now : ℕ) (from : Station) (h : Heard A) (st : ClientTsmState A) (more : Bool) (says : List (Said A)) (place : ℕ) (o : Open A) (j : Joining) (found : Option (Reply A)) → Counts now from h st place o → HasService h.message o → AllTold now from h st (finished (taken_if more now says place o j) found)
-taken_told now from h st true says place o j found c s = tt
-taken_told {A} now from h st false says place o j found c s = completes_told {A = A} now from h st _ found c s
+taken_told : {A : Type 0} (now : ℕ) (from : Station) (h : Heard A) (st : ClientTsmState A) (more : Bool) (says : List (Said A)) (place : ℕ) (o : Open A) (j : Joining) (found : Option (Reply A)) → Counts now from h st place o → HasService h.message o → (more ≡ false → (reply : Reply A) → MeansReply o.request (complex j.octets) reply → IsOutcome now h.message o (Answered reply)) → IsFound (taken_if more now says place o j) found → OneTold now from h st (finished (taken_if more now says place o j) found)
+taken_told now from h st true says place o j found c s heard means = inl refl
+taken_told {A} now from h st false says place o j found c s heard means = completes_told {A = A} now from h st _ found c s (heard refl) means
 
-joined_told : {A : Type 0} (now : ℕ) (from : Station) (h : Heard A) (st : ClientTsmState A) (step : Step) (more : Bool) (place : ℕ) (o : Open A) (j : Joining) (found : Option (Reply A)) → Counts now from h st place o → HasService h.message o → AllTold now from h st (finished (joined_by step more now place o j) found)
-joined_told now from h st (Taken ack) more place o j found c s = taken_told now from h st more (ack_if ack j o) place o j found c s
-joined_told now from h st (Nak number) more place o j found c s = tt
-joined_told now from h st Dropped more place o j found c s = tt
-joined_told now from h st Full more place o j found c s = closing_told now from h st place o [] TimedOut c s
+joined_told : {A : Type 0} (now : ℕ) (from : Station) (h : Heard A) (st : ClientTsmState A) (step : Step) (more : Bool) (place : ℕ) (o : Open A) (j : Joining) (found : Option (Reply A)) → Counts now from h st place o → HasService h.message o → (more ≡ false → (reply : Reply A) → MeansReply o.request (complex j.octets) reply → IsOutcome now h.message o (Answered reply)) → (step ≡ Full → IsOutcome now h.message o TimedOut) → IsFound (joined_by step more now place o j) found → OneTold now from h st (finished (joined_by step more now place o j) found)
+joined_told now from h st (Taken ack) more place o j found c s heard full means = taken_told now from h st more (ack_if ack j o) place o j found c s heard means
+joined_told now from h st (Nak number) more place o j found c s heard full means = inl refl
+joined_told now from h st Dropped more place o j found c s heard full means = inl refl
+joined_told now from h st Full more place o j found c s heard full means = closing_told now from h st place o [] TimedOut c s (full refl)
 
-turned_told : {A : Type 0} (now : ℕ) (from : Station) (h : Heard A) (st : ClientTsmState A) (t : Turn) (place : ℕ) (o : Open A) (c : Cutting) → AllTold now from h st (turned_by t place o c)
-turned_told now from h st turn.Waits place o c = tt
-turned_told now from h st turn.Sends place o c = tt
-turned_told now from h st turn.Ends place o c = tt
+turned_told : {A : Type 0} (now : ℕ) (from : Station) (h : Heard A) (st : ClientTsmState A) (t : Turn) (place : ℕ) (o : Open A) (c : Cutting) → OneTold now from h st (turned_by t place o c)
+turned_told now from h st turn.Waits place o c = inl refl
+turned_told now from h st turn.Sends place o c = inl refl
+turned_told now from h st turn.Ends place o c = inl refl
 
-ack_told : {A : Type 0} (now : ℕ) (from : Station) (h : Heard A) (st : ClientTsmState A) (sending : Option Cutting) (place : ℕ) (o : Open A) (negative : Bool) (number window : ℕ) → AllTold now from h st (ack_heard sending now place o negative number window)
-ack_told now from h st None place o negative number window = tt
+ack_told : {A : Type 0} (now : ℕ) (from : Station) (h : Heard A) (st : ClientTsmState A) (sending : Option Cutting) (place : ℕ) (o : Open A) (negative : Bool) (number window : ℕ) → OneTold now from h st (ack_heard sending now place o negative number window)
+ack_told now from h st None place o negative number window = inl refl
 ack_told now from h st (Some c) place o negative number window =
     turned_told now from h st (hears now number window negative c).turn place o (hears now number window negative c).state
 
 -- an answer to another service tells nothing
-served : {A : Type 0} (now : ℕ) (from : Station) (h : Heard A) (st : ClientTsmState A) (b : Bool) (r : Reached A) (found : Option (Reply A)) → (b ≡ true → AllTold now from h st (finished r found)) → AllTold now from h st (finished (of_service b r) found)
-served now from h st true r found told = told refl
-served now from h st false r found told = tt
+served : {A : Type 0} (now : ℕ) (from : Station) (h : Heard A) (st : ClientTsmState A) (b : Bool) (r : Reached A) (found : Option (Reply A)) → (b ≡ true → IsFound r found → OneTold now from h st (finished r found)) → IsFound (of_service b r) found → OneTold now from h st (finished (of_service b r) found)
+served now from h st true r found told means = told refl means
+served now from h st false r found told means = inl refl
 
-asked_told_of : {A : Type 0} (now : ℕ) (from : Station) (id : ℕ) (m : Message A) (st : ClientTsmState A) (place : ℕ) (o : Open A) (found : Option (Reply A)) → Counts now from (record { invoke_id = id; message = m }) st place o → HasService m o → AllTold now from (record { invoke_id = id; message = m }) st (finished (asked_told now place o m) found)
-asked_told_of {A} now from id (answers service contents) st place o found c s = completes_told {A = A} now from _ st _ found c s
-asked_told_of {A} now from id (answers_in_part service segment octets) st place o found c s =
-    joined_told {A = A} now from _ st (joined_at now o segment octets).step segment.more_follows place o (joined_at now o segment octets).state found c s
-asked_told_of {A} now from id (acknowledges negative number window) st place o found c s = ack_told {A = A} now from _ st o.sending place o negative number window
-asked_told_of {A} now from id (closes outcome) st place o found c s = closing_told {A = A} now from _ st place o [] outcome c s
-asked_told_of {A} now from id nothing st place o found c s = tt
+asked_told_of : {A : Type 0} (now : ℕ) (from : Station) (id : ℕ) (m : Message A) (st : ClientTsmState A) (place : ℕ) (o : Open A) (found : Option (Reply A)) → Counts now from (record { invoke_id = id; message = m }) st place o → HasService m o → IsFound (asked_told now place o m) found → OneTold now from (record { invoke_id = id; message = m }) st (finished (asked_told now place o m) found)
+asked_told_of {A} now from id (answers service contents) st place o found c s means = completes_told {A = A} now from _ st _ found c s (λ reply m. m) means
+asked_told_of {A} now from id (answers_in_part service segment octets) st place o found c s means =
+    joined_told {A = A} now from _ st (joined_at now o segment octets).step segment.more_follows place o (joined_at now o segment octets).state found c s (λ last reply m. (last, m)) (λ full. full) means
+asked_told_of {A} now from id (acknowledges negative number window) st place o found c s means = ack_told {A = A} now from _ st o.sending place o negative number window
+asked_told_of {A} now from id (closes outcome) st place o found c s means = closing_told {A = A} now from _ st place o [] outcome c s refl
+asked_told_of {A} now from id nothing st place o found c s means = inl refl
 
 -- a message that is asked for has the service of the request
 has_service : {A : Type 0} (m : Message A) (o : Open A) → is_asked m o ≡ true → HasService m o
@@ -139,10 +139,10 @@ has_service (acknowledges negative number window) o e = tt
 has_service (closes outcome) o e = tt
 has_service nothing o e = tt
 
-open_told : {A : Type 0} (now : ℕ) (from : Station) (h : Heard A) (st : ClientTsmState A) (place : ℕ) (o : Open A) (found : Option (Reply A)) → Counts now from h st place o → AllTold now from h st (finished (told_open now place o h.message) found)
-open_told now from h st place o found c =
+open_told : {A : Type 0} (now : ℕ) (from : Station) (h : Heard A) (st : ClientTsmState A) (place : ℕ) (o : Open A) (found : Option (Reply A)) → Counts now from h st place o → IsFound (told_open now place o h.message) found → OneTold now from h st (finished (told_open now place o h.message) found)
+open_told now from h st place o found c means =
     served now from h st (is_asked h.message o) (asked_told now place o h.message) found
-    (λ e. asked_told_of now from h.invoke_id h.message st place o found c (has_service h.message o e))
+    (λ e f. asked_told_of now from h.invoke_id h.message st place o found c (has_service h.message o e) f) means
 
 -- ---- the place that is found
 pub record FoundAt {X : Type 0} (t : X → Bool) (i : ℕ) (xs : List X) (place : ℕ) : Type 0 where
@@ -193,17 +193,17 @@ taken_at {A} now from h st place e =
     let at : place ≡ f.after = omega (arith, f.is) in
     record { item = f.item; there = ap (slice_get st.open_ones) at ∙ f.there; passes = f.passes }
 
-where_told : {A : Type 0} (now : ℕ) (from : Station) (h : Heard A) (st : ClientTsmState A) (found : Option (Reply A)) (p : Option ℕ) → place_of now from h.invoke_id st.open_ones ≡ p → AllTold now from h st (finished (told_where p now h.message st.open_ones) found)
-where_told now from h st found None e = tt
-where_told {A} now from h st found (Some place) e =
+where_told : {A : Type 0} (now : ℕ) (from : Station) (h : Heard A) (st : ClientTsmState A) (found : Option (Reply A)) (p : Option ℕ) → place_of now from h.invoke_id st.open_ones ≡ p → IsFound (told_where p now h.message st.open_ones) found → OneTold now from h st (finished (told_where p now h.message st.open_ones) found)
+where_told now from h st found None e means = inl refl
+where_told {A} now from h st found (Some place) e means =
     let f = taken_at now from h st place e in
-    subst (λ (s : Option (Open A)). AllTold now from h st (finished (told_at s now place h.message) found)) (sym f.there)
-    (open_told now from h st place f.item found (counts now from h st place f.item f.there f.passes))
+    subst (λ (s : Option (Open A)). IsFound (told_at s now place h.message) found → OneTold now from h st (finished (told_at s now place h.message) found)) (sym f.there)
+    (open_told now from h st place f.item found (counts now from h st place f.item f.there f.passes)) means
 
 pub told_is_open : {A : Type 0} → ToldIsOpen A
 told_is_open {A} now from h st plan is =
-    subst (λ (p : Plan A). AllTold now from h st p) (sym is.is)
-    (where_told now from h st is.found (place_of now from h.invoke_id st.open_ones) refl)
+    subst (λ (p : Plan A). OneTold now from h st p) (sym is.is)
+    (where_told now from h st is.found (place_of now from h.invoke_id st.open_ones) refl is.means)
 
 -- ---- what is heard counts, or nothing changes
 abbrev Else : {A : Type 0} → ℕ → Station → Heard A → ClientTsmState A → Plan A → Type 0

@@ -5,15 +5,16 @@ use Rattle.apdu.specs.declared.apdu.Segment.{Segment}
 use Rattle.npdu.specs.declared.mac.Station.{Station}
 use Rattle.primitives.specs.declared.plain_data.Reply.{Reply}
 use Rattle.segments.specs.Numbers.{DEADLINE_MS}
-use Rattle.segments.specs.declared.step.Step.TheVariants.{Taken}
+use Rattle.segments.specs.declared.step.Step.TheVariants.{Full, Taken}
 use Rattle.services.specs.Asked.{service_asked}
 use Rattle.services.specs.Contents.{PlainAnswer, complex, MeansReply}
 use Rattle.client_tsm.specs.Client.{ClientTsmState}
 use Rattle.client_tsm.specs.Hearing.{Message, answers, answers_in_part, acknowledges, closes, nothing, Heard, joined_at, place_of, quiet}
 use Rattle.client_tsm.specs.Open.{Open, goes_on}
 use Rattle.client_tsm.specs.Steps.{IsPlan}
-use Rattle.client_tsm.specs.Waking.{all_left, told_of}
+use Rattle.client_tsm.specs.Waking.{left_of, told_of}
 use Rattle.client_tsm.specs.declared.plan.Change.TheVariants.{Stays, Ends}
+use Rattle.client_tsm.specs.declared.plan.Outcome.{Outcome}
 use Rattle.client_tsm.specs.declared.plan.Outcome.TheVariants.{Answered, TimedOut}
 use Rattle.client_tsm.specs.declared.plan.Plan.{Plan}
 use Rattle.client_tsm.specs.declared.plan.Told.{Told}
@@ -37,13 +38,26 @@ pub record IsCounted {A : Type 0} (now : ℕ) (from : Station) (h : Heard A) (st
   pub early : now < o.at + DEADLINE_MS
   pub living : goes_on now o ≡ true
 
--- what is told is told of a transaction for which what is heard counts, and which ends
-pub record IsToldOf {A : Type 0} (now : ℕ) (from : Station) (h : Heard A) (st : ClientTsmState A) (plan : Plan A)
-    (t : Told A) : Type 0 where
+-- this is the outcome that was heard of a transaction: the reply that an answer means, whole or by its segments together;
+-- an end that was said; or a time-out, where a segment would pass a limit (5.4.4)
+abbrev pub IsOutcome : {A : Type 0} → ℕ → Message A → Open A → Outcome A → Type 0
+IsOutcome now (answers service contents) o (Answered reply) = MeansReply o.request contents reply
+IsOutcome now (answers_in_part service segment octets) o (Answered reply) =
+    (segment.more_follows ≡ false)
+    × MeansReply o.request (complex (joined_at now o segment octets).state.octets) reply
+IsOutcome now (answers_in_part service segment octets) o TimedOut = (joined_at now o segment octets).step ≡ Full
+IsOutcome now (closes said) o outcome = outcome ≡ said
+IsOutcome now message o outcome = ⊥
+
+-- what is told is one outcome, that was heard of a transaction for which it counts, and which ends
+pub record IsTold {A : Type 0} (now : ℕ) (from : Station) (h : Heard A) (st : ClientTsmState A) (plan : Plan A) :
+    Type 0 where
   pub place : ℕ
   pub transaction : Open A
   pub counted : IsCounted now from h st place transaction
-  pub named : t.invoke_id ≡ transaction.invoke_id
+  pub outcome : Outcome A
+  pub heard : IsOutcome now h.message transaction outcome
+  pub told : plan.told ≡ record { invoke_id = transaction.invoke_id; outcome = outcome } ∷ []
   pub ends : plan.change ≡ Ends place
 
 -- what is heard counts for a transaction, or nothing is said, told or changed
@@ -52,10 +66,10 @@ CountsOrNothing A = (now : ℕ) (from : Station) (h : Heard A) (st : ClientTsmSt
     IsPlan now from h st plan →
     (plan ≡ quiet Stays) ⊎ ((place : ℕ) × (o : Open A) × IsCounted now from h st place o)
 
--- an outcome is told only of an open transaction that takes what is heard, and closes it
+-- nothing is told, or one outcome of an open transaction that takes what is heard, which it closes
 abbrev pub ToldIsOpen : Type 0 → Type 0
 ToldIsOpen A = (now : ℕ) (from : Station) (h : Heard A) (st : ClientTsmState A) (plan : Plan A) →
-    IsPlan now from h st plan → AllByRecursion (IsToldOf now from h st plan) plan.told
+    IsPlan now from h st plan → (plan.told ≡ []) ⊎ IsTold now from h st plan
 
 -- a whole answer that counts, and means a reply, is given: nothing else is told, and the transaction ends
 abbrev pub WholeIsGiven : Type 0 → Type 0
@@ -96,5 +110,4 @@ WokenAreEnded A = (now : ℕ) (os : List (Open A)) → AllByRecursion (IsEnded n
 
 -- .. and each transaction is told or left, and not both
 abbrev pub ToldOrLeft : Type 0 → Type 0
-ToldOrLeft A = (now : ℕ) (os : List (Open A)) →
-    length (flat_map (told_of now) os) + length (all_left now os) ≡ length os
+ToldOrLeft A = (now : ℕ) (o : Open A) → length (told_of now o) + length (left_of now o) ≡ 1

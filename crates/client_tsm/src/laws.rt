@@ -5,8 +5,8 @@ ghost use Rattle.client_tsm.specs.Laws as spec;
 use std::alloc::Allocator;
 
 /// What is heard counts only from the station addressed, with the invoke ID of an open transaction and, where it has
-/// one, its service, before the deadline and the end of the transaction; all else changes nothing. An outcome is told
-/// only where it counts, and closes the transaction.
+/// one, its service, before the deadline and the end of the transaction; all else changes nothing. One outcome is told
+/// at most, that which was heard, only where it counts, and it closes the transaction.
 pub fn told_is_open<A: Allocator>()
     ensures counts { spec.CountsOrNothing A }
     ensures told { spec.ToldIsOpen A }
