@@ -21,8 +21,9 @@ pub record HasApartTables (now : ℕ) (st : ManagerState) : Type 0 where
 
 -- the tables of each manager are so where those of a network are full
 abbrev pub FullAreApart : Type 0 → Type 0
-FullAreApart A = (now : ℕ) (pre : List (Subnet A)) (members : List Address) (m : ManagerState) (post : List (Subnet A)) →
-    AreFull now (pre ++ record { members = members; manager = Some m } ∷ post) → HasApartTables now m
+FullAreApart A = (now : ℕ) (pre : List (Subnet A)) (members : List Address) (m : ManagerState)
+    (post : List (Subnet A)) → AreFull now (pre ++ record { members = members; manager = Some m } ∷ post) →
+    HasApartTables now m
 
 -- what is said goes neither back to this address nor to the manager itself
 pub record GoesOn (from : Address) (st : ManagerState) (s : Saying) : Type 0 where
@@ -36,8 +37,9 @@ BroadcastGoesOn = (now : ℕ) (from : Address) (st : ManagerState) (npdu : List 
 
 -- what a foreign device has distributed goes on
 abbrev pub DistributedGoesOn : Type 0
-DistributedGoesOn = (now : ℕ) (from : Address) (st : ManagerState) (npdu : List ℕ) (s : Saying) → HasApartTables now st →
-    is_among from (served now st.foreign) ≡ true → said now from st (bvll.distribute npdu) ≡ Some s → GoesOn from st s
+DistributedGoesOn = (now : ℕ) (from : Address) (st : ManagerState) (npdu : List ℕ) (s : Saying) →
+    HasApartTables now st → is_among from (served now st.foreign) ≡ true →
+    said now from st (bvll.distribute npdu) ≡ Some s → GoesOn from st s
 
 -- what another manager forwards goes to no manager, and so is forwarded no further (J.4.5)
 abbrev pub ForwardedStays : Type 0

@@ -60,7 +60,8 @@ broadcast_of origin npdu members = going origin (from_one (is_among origin membe
 
 -- what an origin says in a subnet: as a member to all others of it, as a foreign device to the manager
 abbrev pub begun_in : {A : Type 0} → ℕ → Address → List ℕ → Subnet A → List Going
-begun_in now origin npdu s = broadcast_of origin npdu s.members ++ flat_map (asked_of now origin npdu) (option_to_list s.manager)
+begun_in now origin npdu s =
+    broadcast_of origin npdu s.members ++ flat_map (asked_of now origin npdu) (option_to_list s.manager)
 
 -- what an origin says in a network
 abbrev pub begun : {A : Type 0} → ℕ → Address → List ℕ → List (Subnet A) → List Going
@@ -96,12 +97,14 @@ pub record IsManaged (ms : List ManagerState) (members : List Address) (m : Mana
 -- full tables (J.4.3): managers as above, one in each of several subnets, and no address twice among members and
 -- foreign devices
 pub record AreFull {A : Type 0} (now : ℕ) (ss : List (Subnet A)) : Type 0 where
-  pub managed : AllByRecursion (λ s. AllByRecursion (IsManaged (managers_of ss) s.members) (option_to_list s.manager)) ss
+  pub managed : AllByRecursion (λ s.
+      AllByRecursion (IsManaged (managers_of ss) s.members) (option_to_list s.manager)) ss
   pub several : (length ss ≤ 1) ⊎ AllByRecursion (λ s. is_some s.manager ≡ true) ss
   pub apart : (a : Address) → times a (everyone now ss) ≤ 1
 
 -- each other station hears it once, and nobody else does
-pub record IsReached {A : Type 0} (now : ℕ) (origin : Address) (ss : List (Subnet A)) (heard : List Address) : Type 0 where
+pub record IsReached {A : Type 0} (now : ℕ) (origin : Address) (ss : List (Subnet A)) (heard : List Address) :
+    Type 0 where
   pub once : (a : Address) → times a heard ≡ times a (others origin (stations (managers_of ss) (everyone now ss)))
 
 -- a broadcast of a member or a foreign device over full tables, which isn't too long, reaches each other station once

@@ -11,8 +11,8 @@ pub fn goes_on()
     ensures distributed { DistributedGoesOn }
 {}
 
-/// What another manager forwards goes on octet for octet, and, where members, managers and foreign devices are apart, to
-/// no manager: so it is forwarded no further (J.4.5).
+/// What another manager forwards goes on octet for octet, and, where members, managers and foreign devices are apart,
+/// to no manager: so it is forwarded no further (J.4.5).
 pub fn forwarded_stays()
     ensures stays { ForwardedStays }
     ensures same { ForwardedIsSame }

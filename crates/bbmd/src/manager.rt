@@ -336,7 +336,8 @@ impl<A: Allocator + Copy> Bbmd<A> {
 
     /// The managers of the network, told to who asks (J.2.4).
     fn say_managers(&self, from: Address) -> Result<Items<Sent<A>, A>, Fault>
-        ensures says { IfOk result (λ out. out ≡ sent (back from (bvll.distribution (map two_hops self.now.managers)))) }
+        ensures says { IfOk result (λ out. out ≡
+            sent (back from (bvll.distribution (map two_hops self.now.managers)))) }
         ensures memory { IfErr result (λ e. e ≡ Fault.Memory) }
     {
         let entries = distribution_entries(self.alloc(), self.managers.as_slice())?;

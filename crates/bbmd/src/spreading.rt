@@ -248,7 +248,8 @@ pub fn spread<A: Allocator + Copy>(
 ) -> Result<Items<Address, A>, AllocError>
     ensures heard { IfOk result (λ all. all ≡ hearers tables.now.moment origin [] tables.now.subnets) }
     ensures reached { AreFull tables.now.moment tables.now.subnets →
-        is_among origin (stations (managers_of tables.now.subnets) (everyone tables.now.moment tables.now.subnets)) ≡ true →
+        is_among origin (stations (managers_of tables.now.subnets)
+        (everyone tables.now.moment tables.now.subnets)) ≡ true →
         IfOk result (IsReached tables.now.moment origin tables.now.subnets) }
 {
     let all = hearers_of(alloc, tables, origin)?;

@@ -38,8 +38,8 @@ pub record IsCounted {A : Type 0} (now : ℕ) (from : Station) (h : Heard A) (st
   pub early : now < o.at + DEADLINE_MS
   pub living : goes_on now o ≡ true
 
--- this is the outcome that was heard of a transaction: the reply that an answer means, whole or by its segments together;
--- an end that was said; or a time-out, where a segment would pass a limit (5.4.4)
+-- this is the outcome that was heard of a transaction: the reply that an answer means, whole or by its segments
+-- together; an end that was said; or a time-out, where a segment would pass a limit (5.4.4)
 abbrev pub IsOutcome : {A : Type 0} → ℕ → Message A → Open A → Outcome A → Type 0
 IsOutcome now (answers service contents) o (Answered reply) = MeansReply o.request contents reply
 IsOutcome now (answers_in_part service segment octets) o (Answered reply) =

@@ -71,7 +71,7 @@ pub struct Record<A: Allocator> {
     pub chunk: usize,
     /// The moment of the execution, in milliseconds.
     pub at: u64,
-    /// Where the answer goes: the way of what was heard last of this asker.
+    /// Where the answer goes: the way on which it was said last.
     pub way: Way,
     /// Its segments, where they are being said.
     pub sending: Option<Sender>,

@@ -1,14 +1,14 @@
 //! What a broadcast manager says: `47808 of 47810 with 47808 47809: 47824 81050006003C; @10000; 47830 81060004 ->
-//! 47824 810000060000; 47830 8107000E7F000001BAD0003C0050`, the manager at 47808 with the member 47810 of its subnet and
-//! the managers 47808 and 47809.
+//! 47824 810000060000; 47830 8107000E7F000001BAD0003C0050`, the manager at 47808 with the member 47810 of its subnet
+//! and the managers 47808 and 47809.
 //!
 //! - `@10000`: the moment of what follows. `tick`: it wakes.
 //! - `47824 OCTETS`: these octets come from there. Told is each addressee with the octets that go there, `-` for
 //!   none, or the refusal. Of `47900..47931 OCTETS` from each of these in turn, where the same octets go back to each,
 //!   they are told once: `each OCTETS`.
 //!
-//! Each input is heard again by copies with each allocation refused in turn, with each prefix of its octets and with each
-//! octet changed.
+//! Each input is heard again by copies with each allocation refused in turn, with each prefix of its octets and with
+//! each octet changed.
 
 use crate::addresses::{addresses, at_port, port, ports, push_address};
 use bbmd::{Bbmd, Sent};

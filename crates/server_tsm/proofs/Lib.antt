@@ -7,3 +7,4 @@ pub mod Full
 pub mod Planned
 pub mod Busy
 pub mod Silent
+pub mod Fitted

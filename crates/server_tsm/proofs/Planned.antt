@@ -1,7 +1,7 @@
 -- What is planned is one plan, and of a whole faultless request its execution.
 use Rattle.std.proofs.Common.{◌≡◌, ◌∙◌, refl, sym, ap, subst, ℕ, ◌<◌, Bool, true, false, List, [], arith}
 use Rattle.std.specs.Prelude.{nat_lt, length, filter, Option, Some, None, Result, Ok, Err}
-use Rattle.std.proofs.lemmas.Bool.{le-ltb}
+use Rattle.std.proofs.lemmas.Bool.{eq-eqb, le-ltb}
 use Rattle.apdu.specs.declared.apdu.Segment.{Segment}
 use Rattle.apdu.specs.declared.numbers.RejectReason.{RejectReason}
 use Rattle.npdu.specs.declared.mac.Way.{Way}
@@ -10,6 +10,8 @@ use Rattle.primitives.specs.declared.plain_data.Reply.TheVariants.{Values, Many,
 use Rattle.remembered.specs.Records.{AreAscending, is_full, lives, remembered}
 use Rattle.remembered.specs.declared.record.Record.{Record}
 use Rattle.segments.specs.Cutting.{Cutting, hears}
+use Rattle.segments.specs.Joining.{joins}
+use Rattle.segments.specs.declared.step.Step.{Step}
 use Rattle.segments.specs.Numbers.{MAX_OCTETS, MAX_REMEMBERED}
 use Rattle.segments.specs.declared.step.Turn.{Turn}
 use Rattle.segments.specs.declared.step.Turn.TheVariants as turn
@@ -19,12 +21,15 @@ use Rattle.services.proofs.OneRequest.{one_request}
 use Rattle.services.specs.Asked.{replied}
 use Rattle.server_tsm.proofs.Full.{full_is_living}
 use Rattle.server_tsm.specs.Answering.{answer_of}
-use Rattle.server_tsm.specs.Hearing.{Heard, Message, asks, acknowledges, gives_up, nothing, Reached, Whole, plans, completes, ack_heard, ack_taken, asked_by, asker_of, completed_if, executing, executing_if, finished, is_deaf, is_sending, reached, repeated, repeated_if, request_heard, turned_by, unless, whole_heard}
-use Rattle.server_tsm.specs.Laws.{AnswerIsWhole, ExecutesNothing, IsTaken, OnePlan, RememberedIsNotExecuted, RepeatIsSaidAgain, WholeIsExecuted}
+use Rattle.server_tsm.specs.Hearing.{Heard, Message, asks, acknowledges, gives_up, nothing, Reached, Whole, plans, completes, ack_heard, ack_if, ack_taken, asked_by, asked_on, asker_of, completed_if, executing, executing_if, finished, is_deaf, is_sending, joined, joined_by, of_service, part_heard, part_joined, quiet, reached, repeated, repeated_if, request_heard, taken_if, turned_by, unless, whole_heard}
+use Rattle.server_tsm.specs.Laws.{AnswerIsWhole, DeafDoesNothing, ExecutesNothing, IsTaken, JoinedIsExecuted, OnePlan, RememberedIsNotExecuted, RepeatIsSaidAgain, WholeIsExecuted}
 use Rattle.server_tsm.specs.Server.{ServerTsmState}
 use Rattle.server_tsm.specs.Steps.{IsFinished, IsFound, Means}
 use Rattle.server_tsm.specs.declared.asked.Asked.{Asked}
 use Rattle.server_tsm.specs.declared.asked.Origin.{Origin}
+use Rattle.server_tsm.specs.declared.assembly.Assembly.{Assembly}
+use Rattle.server_tsm.specs.declared.plan.Change.TheVariants.{Stays}
+use Rattle.server_tsm.specs.declared.said.Said.{Said}
 use Rattle.server_tsm.specs.declared.plan.Plan.{Plan}
 
 module _ {A : Type 0} where
@@ -56,9 +61,9 @@ module _ {A : Type 0} where
   fits_if true w e = absurd (cc e)
   fits_if false w e = refl
 
-  place_if : (b : Bool) (now : ℕ) (asked : Asked) (request : Request A) (st : ServerTsmState A) → b ≡ false → executing_if b now [] asked request st ≡ executing now [] asked request (replied st.table request) st
-  place_if true now asked request st e = absurd (cc e)
-  place_if false now asked request st e = refl
+  place_if : (b : Bool) (now : ℕ) (says : List (Said A)) (asked : Asked) (request : Request A) (st : ServerTsmState A) → b ≡ false → executing_if b now says asked request st ≡ executing now says asked request (replied st.table request) st
+  place_if true now says asked request st e = absurd (cc e)
+  place_if false now says asked request st e = refl
 
   not_full : (now : ℕ) (rs : List (Record A)) → AreAscending rs → length (filter (lives now) rs) < MAX_REMEMBERED → is_full now rs ≡ false
   not_full now rs up few = by_test (is_full now rs) refl
@@ -85,7 +90,33 @@ module _ {A : Type 0} where
       ∙ ap (λ (o : Option (Record A)). whole_heard o now asked octets) none
       ∙ fits_if (nat_lt MAX_OCTETS (length octets)) w (le-ltb MAX_OCTETS (length octets) short) in
       found_so now w st plan (Ok request) (planned_by now (reached now from h st) (completes w) st plan is_reached p) spelled
-      ∙ place_if (is_full now st.records) now asked request st (not_full now st.records timely.ascending few)
+      ∙ place_if (is_full now st.records) now [] asked request st (not_full now st.records timely.ascending few)
+
+  pub joined_is_executed : JoinedIsExecuted A
+  joined_is_executed now id from segment limits octets a ack request st plan taken timely none some last step few short spelled p =
+      let h : Heard = record { invoke_id = id; message = asks (Some segment) limits a.asked.service octets } in
+      let asked : Asked = asked_by from (asker_of from h) limits a.asked.service in
+      let on : Asked = asked_on from.way a in
+      let x = joins now segment.sequence_number segment.more_follows octets a.receiver in
+      let w : Whole A = record { asked = on; octets = x.state.octets; says = ack_if ack x.state on } in
+      let is_reached : reached now from h st ≡ completes w =
+      heard_if (is_deaf now from.by_broadcast st) (request_heard (Some segment) now asked octets st) (not_deaf now from st taken)
+      ∙ ap (λ (o : Option (Record A)). part_heard o now asked segment octets st.assemblies) none
+      ∙ ap (λ (o : Option (Assembly A)). part_joined o now asked segment octets st.assemblies) some
+      ∙ ap (λ (b : Bool). of_service b (joined now on a.receiver segment octets)) (eq-eqb a.asked.service a.asked.service refl)
+      ∙ ap (λ (s : Step). joined_by s segment.more_follows now on x.state) step
+      ∙ ap (λ (b : Bool). taken_if b now (ack_if ack x.state on) on x.state) last
+      ∙ fits_if (nat_lt MAX_OCTETS (length x.state.octets)) w (le-ltb MAX_OCTETS (length x.state.octets) short) in
+      found_so now w st plan (Ok request) (planned_by now (reached now from h st) (completes w) st plan is_reached p) spelled
+      ∙ place_if (is_full now st.records) now (ack_if ack x.state on) on request st (not_full now st.records timely.ascending few)
+
+  pub deaf_does_nothing : DeafDoesNothing A
+  deaf_does_nothing now id from segment limits service octets st plan deaf p =
+      let h : Heard = record { invoke_id = id; message = asks segment limits service octets } in
+      let asked : Asked = asked_by from (asker_of from h) limits service in
+      let is_reached : reached now from h st ≡ plans (quiet Stays) =
+      ap (λ (b : Bool). unless b (request_heard segment now asked octets st)) deaf in
+      (planned_by now (reached now from h st) (plans (quiet Stays)) st plan is_reached p).is
 
   repeated_heard : (now : ℕ) (segment : Option Segment) (asked : Asked) (octets : List ℕ) (r : Record A) (st : ServerTsmState A) → remembered now asked.asker st.records ≡ Some r → request_heard segment now asked octets st ≡ plans (repeated now asked.way r)
   repeated_heard now None asked octets r st e = rw e refl

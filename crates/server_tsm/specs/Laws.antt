@@ -3,24 +3,29 @@ use Rattle.std.specs.Prelude.{◌≡◌, ◌≤◌, ◌<◌, ◌⊎◌, ℕ, Boo
 use Rattle.std.specs.List.{AllByRecursion}
 use Rattle.apdu.specs.ApduWriting.{canonical}
 use Rattle.apdu.specs.declared.apdu.Segment.{Segment}
-use Rattle.apdu.specs.declared.numbers.AbortReason.TheVariants.{OutOfResources}
+use Rattle.apdu.specs.declared.numbers.AbortReason.TheVariants.{BufferOverflow, OutOfResources, SegmentationNotSupported}
 use Rattle.npdu.specs.declared.mac.Way.{Way}
 use Rattle.primitives.specs.declared.plain_data.Reply.{Reply}
 use Rattle.primitives.specs.declared.plain_data.Request.{Request}
 use Rattle.remembered.specs.Records.{lives, remembered}
 use Rattle.remembered.specs.declared.record.Record.{Record}
+use Rattle.remembered.specs.declared.record.RememberedAnswer.{RememberedAnswer}
+use Rattle.remembered.specs.declared.record.RememberedAnswer.TheVariants as kept
 use Rattle.segments.specs.Cutting.{Cutting}
+use Rattle.segments.specs.Joining.{joins}
+use Rattle.segments.specs.declared.step.Step.TheVariants.{Taken}
 use Rattle.segments.specs.Numbers.{MAX_ASSEMBLIES, MAX_OCTETS, MAX_REMEMBERED}
 use Rattle.services.specs.Asked.{replied}
 use Rattle.services.specs.Request.{SpellsRequest}
 use Rattle.server_tsm.specs.Answering.{answer_apdu, answer_of, answered_by, number_of}
-use Rattle.server_tsm.specs.Hearing.{Heard, asks, acknowledges, asked_by, asker_of, executing, quiet, repeated}
+use Rattle.server_tsm.specs.Hearing.{Heard, asks, acknowledges, ack_if, asked_by, asked_on, asker_of, assembled, executing, is_deaf, quiet, repeated}
 use Rattle.server_tsm.specs.Said.{answer_octets}
 use Rattle.server_tsm.specs.Server.{AreTimely, ServerTsmState, committed, gathers_still}
 use Rattle.server_tsm.specs.Steps.{IsPlan}
 use Rattle.server_tsm.specs.Waking.{woken}
 use Rattle.server_tsm.specs.declared.asked.AnswerLimits.{AnswerLimits}
 use Rattle.server_tsm.specs.declared.asked.Origin.{Origin}
+use Rattle.server_tsm.specs.declared.assembly.Assembly.{Assembly}
 use Rattle.server_tsm.specs.declared.plan.Change.{Change}
 use Rattle.server_tsm.specs.declared.plan.Change.TheVariants.{Stays, Executes}
 use Rattle.server_tsm.specs.declared.plan.Plan.{Plan}
@@ -51,6 +56,27 @@ WholeIsExecuted A = (now id : ℕ) (from : Origin) (limits : AnswerLimits) (serv
     IsPlan now from h st plan →
     plan ≡ executing now [] (asked_by from (asker_of from h) limits service) request (replied st.table request) st
 
+-- .. and so is one whose last segment is taken, by what its segments are together, behind the SegmentACK that is due
+-- (5.4.5.2)
+abbrev pub JoinedIsExecuted : Type 0 → Type 0
+JoinedIsExecuted A = (now id : ℕ) (from : Origin) (segment : Segment) (limits : AnswerLimits) (octets : List ℕ)
+    (a : Assembly A) (ack : Option ℕ) (request : Request A) (st : ServerTsmState A) (plan : Plan A) →
+    let h : Heard = record { invoke_id = id; message = asks (Some segment) limits a.asked.service octets } in
+    let x = joins now segment.sequence_number segment.more_follows octets a.receiver in
+    let asked = asked_on from.way a in
+    IsTaken now from st → AreTimely st.moment st.records → remembered now (asker_of from h) st.records ≡ None →
+    assembled now (asker_of from h) st.assemblies ≡ Some a → segment.more_follows ≡ false → x.step ≡ Taken ack →
+    living_records now st < MAX_REMEMBERED → length x.state.octets ≤ MAX_OCTETS →
+    SpellsRequest a.asked.service x.state.octets request → IsPlan now from h st plan →
+    plan ≡ executing now (ack_if ack x.state asked) asked request (replied st.table request) st
+
+-- a request that came by a broadcast, or before the end of the quiet time, comes to nothing (5.4)
+abbrev pub DeafDoesNothing : Type 0 → Type 0
+DeafDoesNothing A = (now id : ℕ) (from : Origin) (segment : Option Segment) (limits : AnswerLimits) (service : ℕ)
+    (octets : List ℕ) (st : ServerTsmState A) (plan : Plan A) → is_deaf now from.by_broadcast st ≡ true →
+    IsPlan now from (record { invoke_id = id; message = asks segment limits service octets }) st plan →
+    plan ≡ quiet Stays
+
 -- of a request, or a segment of one, whose answer is remembered, that is said again on the way of what was heard,
 -- unless segments of it are being said (5.4.5.1)
 abbrev pub RepeatIsSaidAgain : Type 0 → Type 0
@@ -70,6 +96,21 @@ abbrev pub RememberedIsNotExecuted : Type 0 → Type 0
 RememberedIsNotExecuted A = (now : ℕ) (from : Origin) (h : Heard) (r : Record A) (st : ServerTsmState A)
     (plan : Plan A) → remembered now (asker_of from h) st.records ≡ Some r → IsPlan now from h st plan →
     (plan.told ≡ None) × ExecutesNothing plan.change
+
+-- an Abort that is remembered in place of an answer has one of two reasons (5.4.5.3)
+abbrev pub IsFitted : {A : Type 0} → RememberedAnswer A → Type 0
+IsFitted (kept.Abort reason) = (reason ≡ BufferOverflow) ⊎ (reason ≡ SegmentationNotSupported)
+IsFitted answer = Unit {0}
+
+-- what is executed is remembered with such an answer
+abbrev pub RemembersFitted : {A : Type 0} → Change A → Type 0
+RemembersFitted (Executes request r) = IsFitted r.answer
+RemembersFitted change = Unit {0}
+
+-- no Abort but these is ever remembered: an Abort for want of resources is no answer (5.4.5.3)
+abbrev pub ExecutedIsFitted : Type 0 → Type 0
+ExecutedIsFitted A = (now : ℕ) (from : Origin) (h : Heard) (st : ServerTsmState A) (plan : Plan A) →
+    IsPlan now from h st plan → RemembersFitted plan.change
 
 -- a request is aborted for want of resources only where so many answers live, or so many requests are assembled
 -- (5.4.5.1)

@@ -4,6 +4,9 @@ ghost use Rattle.server_tsm.specs.Laws.{
   AckOfDeadIsDropped,
   AnswerIsWhole,
   BusyIsFull,
+  DeafDoesNothing,
+  ExecutedIsFitted,
+  JoinedIsExecuted,
   OnePlan,
   RememberedIsNotExecuted,
   RepeatIsSaidAgain,
@@ -19,10 +22,16 @@ pub fn one_plan<A: Allocator>()
     ensures { OnePlan A }
 {}
 
-/// A whole faultless request from a station alone, outside the quiet time, of which no answer is remembered and
-/// for whose answer there is a place, is executed and its answer said.
+/// A faultless request from a station alone, outside the quiet time, of which no answer is remembered and for whose
+/// answer there is a place, is executed and its answer said: one in a whole APDU, and one whose last segment is taken.
 pub fn whole_is_executed<A: Allocator>()
-    ensures { WholeIsExecuted A }
+    ensures whole { WholeIsExecuted A }
+    ensures joined { JoinedIsExecuted A }
+{}
+
+/// A request by a broadcast, or before the end of the quiet time, comes to nothing.
+pub fn deaf_does_nothing<A: Allocator>()
+    ensures { DeafDoesNothing A }
 {}
 
 /// Where an answer is remembered and lives, it is said again to a repeat, unless segments of it are being said,
@@ -33,9 +42,11 @@ pub fn repeat_is_said_again<A: Allocator>()
     ensures nothing { RememberedIsNotExecuted A }
 {}
 
-/// A request is aborted for want of resources only where 64 answers live, or 16 requests are assembled.
+/// A request is aborted for want of resources only where 64 answers live, or 16 requests are assembled; and no such
+/// Abort is remembered as its answer.
 pub fn busy_is_full<A: Allocator>()
-    ensures { BusyIsFull A }
+    ensures busy { BusyIsFull A }
+    ensures fitted { ExecutedIsFitted A }
 {}
 
 /// Nothing is said of an answer once its record is dead.

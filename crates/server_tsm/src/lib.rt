@@ -31,8 +31,8 @@ mod waking;
 pub use asked::{AnswerLimits, Asked, Origin};
 pub use assembly::Assembly;
 pub use laws::{
-    answer_is_whole, busy_is_full, dead_is_silent, one_plan, repeat_is_said_again, stays_timely,
-    whole_is_executed,
+    answer_is_whole, busy_is_full, dead_is_silent, deaf_does_nothing, one_plan,
+    repeat_is_said_again, stays_timely, whole_is_executed,
 };
 pub use plan::{Change, Effects, Executed, Plan, Saying};
 pub use said::Said;

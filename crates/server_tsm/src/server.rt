@@ -201,6 +201,7 @@ impl<E: Executor<A> + Drop, A: Allocator + Copy> ServerTsm<E, A> {
         self.moment = now;
         Ok(())
     }
+
     /// What is too old is forgotten, and answers are said so. It takes no memory.
     fn wake(&mut self, sayings: &[Saying], now: u64)
         requires { self.old.moment ≤ now }
