@@ -140,6 +140,13 @@ impl<A: Allocator + Copy> ClientTsm<A> {
         self.moment
     }
 
+    /// The invoke ID that the next issue gives.
+    pub fn next_invoke_id(&self) -> u8
+        ensures { result ≡ self.now.next }
+    {
+        self.next
+    }
+
     /// An equal client, in the same memory.
     ///
     /// # Errors

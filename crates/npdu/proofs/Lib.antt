@@ -2,3 +2,4 @@ pub mod FieldLaws
 pub mod HeaderLaws
 pub mod SpellingLaws
 pub mod Stations
+pub mod RejectedLaws

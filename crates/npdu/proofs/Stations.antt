@@ -1,6 +1,6 @@
 -- Stations are compared by their networks, then by their addresses.
-use Rattle.std.proofs.Common.{◌≡◌, ◌∙◌, refl, sym, ap, ℕ, Bool, true, false}
-use Rattle.std.specs.Prelude.{◌==◌, ◌&&◌}
+use Rattle.std.proofs.Common.{◌≡◌, ◌≢◌, ◌∙◌, refl, sym, ap, ℕ, Bool, true, false, List, [], ◌∷◌, length, Option, Some, None, ◌≤◌, ◌<◌, arith}
+use Rattle.std.specs.Prelude.{◌==◌, ◌&&◌, slice_index_or}
 use Rattle.std.specs.Cmp.{IsTotalOrder, nat_cmp_total, then_total, on_total}
 use Rattle.std.specs.Cmp.Lexicographic.{bytes_decides, nat_list_cmp_total}
 use Rattle.std.specs.declared.cmp.Ordering.{Ordering}
@@ -11,7 +11,7 @@ use Rattle.std.proofs.lemmas.Bool.{eqb-true, eq-eqb}
 use Rattle.npdu.specs.declared.mac.Mac.{Mac}
 use Rattle.npdu.specs.declared.mac.Mac.TheVariants.{One, Six}
 use Rattle.npdu.specs.declared.mac.Station.{Station}
-use Rattle.npdu.specs.Mac.{same_mac, same_station, mac_cmp, station_cmp, IsSameStation, StationOrder}
+use Rattle.npdu.specs.Mac.{mac_of, six_if, same_mac, same_station, mac_cmp, station_cmp, IsSameStation, StationOrder}
 
 one_mac : (a b : Mac) → same_mac a b ≡ true → a ≡ b
 one_mac (One a) (One b) e = ap One (eqb-true a b e)
@@ -84,3 +84,34 @@ station_order = record {
   total = then_total (on_total (λ (s : Station). s.net) nat_cmp_total) (on_total (λ (s : Station). s.mac) mac_total);
   apart = exact_station;
 }
+
+-- six octets, one by one
+pub six_at : (octets : List ℕ) → 6 ≤ length octets → length octets < 7 → (slice_index_or octets 0 0 ∷ slice_index_or octets 1 0 ∷ slice_index_or octets 2 0 ∷ slice_index_or octets 3 0 ∷ slice_index_or octets 4 0 ∷ slice_index_or octets 5 0 ∷ []) ≡ octets
+six_at [] low high = absurd (omega (arith, low))
+six_at (a ∷ []) low high = absurd (omega (arith, low))
+six_at (a ∷ b ∷ []) low high = absurd (omega (arith, low))
+six_at (a ∷ b ∷ c ∷ []) low high = absurd (omega (arith, low))
+six_at (a ∷ b ∷ c ∷ d ∷ []) low high = absurd (omega (arith, low))
+six_at (a ∷ b ∷ c ∷ d ∷ e ∷ []) low high = absurd (omega (arith, low))
+six_at (a ∷ b ∷ c ∷ d ∷ e ∷ f ∷ []) low high = refl
+six_at (a ∷ b ∷ c ∷ d ∷ e ∷ f ∷ g ∷ rest) low high = absurd (omega (arith, high))
+
+-- .. are an address
+pub six_octets : (octets x : List ℕ) → 6 ≤ length octets → length octets < 7 → x ≡ octets → Some (Six x) ≡ mac_of octets
+six_octets [] x low high e = absurd (omega (arith, low))
+six_octets (a ∷ []) x low high e = absurd (omega (arith, low))
+six_octets (a ∷ (b ∷ rest)) x low high e =
+    ap (λ (o : List ℕ). Some (Six o)) e
+    ∙ ap (λ (t : Bool). six_if t (a ∷ (b ∷ rest))) (sym (eq-eqb (length (a ∷ (b ∷ rest))) 6 (omega (arith, low, high))))
+
+-- another count of octets is none
+pub no_mac : (octets : List ℕ) → length octets ≢ 1 → length octets ≢ 6 → None ≡ mac_of octets
+no_mac [] one six = refl
+no_mac (a ∷ []) one six = absurd (one refl)
+no_mac (a ∷ (b ∷ rest)) one six = not_six (length (a ∷ (b ∷ rest)) == 6) refl
+  where
+    not_six : (t : Bool) → (length (a ∷ (b ∷ rest)) == 6) ≡ t → None ≡ six_if t (a ∷ (b ∷ rest))
+    not_six true e = absurd (six (eqb-true (length (a ∷ (b ∷ rest))) 6 e))
+    not_six false e = refl
+
+pub ruleset mac_rules = (no_mac)

@@ -5,3 +5,4 @@ pub mod Mac
 pub mod Message
 pub mod Priority
 pub mod Refusals
+pub mod Rejected

@@ -1,5 +1,5 @@
 -- The octets of link addresses, when stations are one, and in which order they stand.
-use Rattle.std.specs.Prelude.{◌≡◌, ℕ, ◌==◌, ◌&&◌, Bool, true, false, List, [], ◌∷◌, nat_eq}
+use Rattle.std.specs.Prelude.{◌≡◌, ℕ, ◌==◌, ◌&&◌, Bool, true, false, List, [], ◌∷◌, length, nat_eq, Option, Some, None}
 use Rattle.std.specs.Cmp.{IsTotalOrder}
 use Rattle.std.specs.Cmp.Lexicographic.{pointwise, slice_cmp}
 use Rattle.std.specs.declared.cmp.Ordering.{Ordering}
@@ -13,6 +13,16 @@ use Rattle.npdu.specs.declared.mac.Station.{Station}
 abbrev pub mac_octets : Mac → List ℕ
 mac_octets (One octet) = octet ∷ []
 mac_octets (Six octets) = octets
+
+-- six octets, or none
+abbrev pub six_if : (six : Bool) → List ℕ → Option Mac
+six_if true octets = Some (Six octets)
+six_if false octets = None
+
+-- the address whose octets these are: one or six, and no other count (Table 6-2)
+abbrev pub mac_of : List ℕ → Option Mac
+mac_of (octet ∷ []) = Some (One octet)
+mac_of octets = six_if (length octets == 6) octets
 
 -- two addresses have the same octets (Table 6-2)
 abbrev pub same_mac : Mac → Mac → Bool

@@ -15,6 +15,7 @@ mod mac;
 mod message;
 mod parcel;
 mod priority;
+mod rejected;
 mod view;
 
 pub use header::write;
@@ -23,4 +24,5 @@ pub use mac::{Mac, Station, Target, Way};
 pub use message::{Message, RejectReason};
 pub use parcel::Parcel;
 pub use priority::Priority;
+pub use rejected::Rejected;
 pub use view::{Destination, Dnet, INITIAL_HOP_COUNT, Source, View};

@@ -1,7 +1,7 @@
 //! Link addresses, and the stations and targets that they name.
 
 ghost use Rattle.std.specs.Prelude.{◌≡◌, ◌≢◌, ◌⊎◌, IfSome, IfNone, length};
-ghost use Rattle.npdu.specs.Mac.{mac_octets};
+ghost use Rattle.npdu.specs.Mac.{mac_octets, mac_of};
 
 /// The address of a station on its own network: one octet on MS/TP, six on BACnet/IP (Table 6-2).
 #[derive(Clone, Copy, Debug, PartialEq, Eq, PartialOrd, Ord)]
@@ -22,7 +22,9 @@ fn six_octets(octets: &[u8; 6]) -> &[u8]
 
 impl Mac {
     /// The address whose octets these are: one octet or six, and no other count.
+    #[tactic(auto, using(crate::proofs::Stations::mac_rules))]
     pub fn from_octets(octets: &[u8]) -> Option<Mac>
+        ensures is { result ≡ mac_of octets.now }
         ensures octets { IfSome result (λ mac. mac_octets mac ≡ octets.now) }
         ensures other { IfNone result ((length octets.now ≢ 1) × (length octets.now ≢ 6)) }
     {
