@@ -1,0 +1,19 @@
+//! What a station's application hears and says through the network layer (ANSI/ASHRAE 135, clauses 5.1 and 6.1, the
+//! service N-UNITDATA).
+//!
+//! `hear` gives what an NPDU brings to a station: who says it, how an answer goes there, whether it came to this
+//! station alone, and the APDU, or that a router refused a message. `begin` begins the NPDU of an APDU, and
+//! `begin_global` that of one to all stations of all networks; the octets of the APDU are written behind it.
+//!
+//! To the layer above it promises: what is heard is the one thing that the octets bring there, and nothing is heard
+//! where they bring nothing; what is said has the header that its way asks for.
+//!
+//! - `hearing`: what an NPDU brings.
+//! - `saying`: the header that an APDU is said behind.
+#![tactic(auto)]
+
+mod hearing;
+mod saying;
+
+pub use hearing::{Content, Heard, hear};
+pub use saying::{begin, begin_global, is_spelled};
