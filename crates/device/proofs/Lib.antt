@@ -1,0 +1,4 @@
+pub mod SiteLaws
+pub mod HeardLaws
+pub mod ServerLaws
+pub mod ServeLaws

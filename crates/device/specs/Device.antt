@@ -1,0 +1,54 @@
+-- A device on its network: what it knows (5.4.5, 12.11, 16.10.3).
+use Rattle.std.specs.Prelude.{ℕ}
+use Rattle.apdu.specs.Sizes.{apdu_taken}
+use Rattle.apdu.specs.declared.sizes.MaxApdu.{MaxApdu}
+use Rattle.apdu.specs.declared.sizes.MaxApdu.TheVariants.{UpTo480, UpTo1476}
+use Rattle.apdu.specs.declared.unconfirmed.IAm.{IAm}
+use Rattle.apdu.specs.declared.unconfirmed.Segmentation.TheVariants.{Both}
+use Rattle.npdu.specs.declared.mac.Mac.{Mac}
+use Rattle.npdu.specs.declared.mac.Station.{Station}
+use Rattle.objects.specs.Objects.{PlainTable}
+use Rattle.objects.specs.Site.{opening_table}
+use Rattle.objects.specs.declared.site.DataLink.{DataLink}
+use Rattle.objects.specs.declared.site.DataLink.TheVariants.{BacnetIp, MsTp}
+use Rattle.objects.specs.declared.site.SiteObjects.{SiteObjects}
+use Rattle.server_tsm.specs.Server.{ServerTsmState, new_server, restarted}
+
+-- its server of transactions, which has its objects; the instance and the vendor of its Device object; its network and
+-- its address there
+pub record DeviceState (A : Type 0) : Type 0 where
+  pub server : ServerTsmState A
+  pub instance : ℕ
+  pub vendor : ℕ
+  pub net : ℕ
+  pub mac : Mac
+
+-- the longest APDU that a data link carries (9, J.1)
+abbrev pub size_of : DataLink → MaxApdu
+size_of BacnetIp = UpTo1476
+size_of MsTp = UpTo480
+
+-- a device at an address, as it opens with the objects of its site
+abbrev pub new_device : {A : Type 0} → SiteObjects A → Station → DeviceState A
+new_device site address =
+    record {
+      server = new_server (opening_table site) (size_of site.data_link);
+      instance = site.instance;
+      vendor = site.vendor;
+      net = address.net;
+      mac = address.mac;
+    }
+
+-- what it says of itself: it takes and sends segments (16.10.3)
+abbrev pub i_am_of : {A : Type 0} → DeviceState A → IAm
+i_am_of d =
+    record {
+      instance = d.instance;
+      max_apdu = apdu_taken d.server.max_apdu;
+      segmentation = Both;
+      vendor = d.vendor;
+    }
+
+-- it restarts at this moment with these objects
+abbrev pub restarts : {A : Type 0} → ℕ → PlainTable A → DeviceState A → DeviceState A
+restarts now table d = record d { server = restarted now table d.server }

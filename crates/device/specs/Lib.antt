@@ -1,0 +1,4 @@
+pub mod Device
+pub mod Saying
+pub mod Hearing
+pub mod Laws

@@ -1,0 +1,183 @@
+//! A device on its network: its wake and its restart.
+
+ghost use Rattle.std.specs.Prelude.{◌≡◌};
+ghost use Rattle.device.specs.Device.{i_am_of, size_of};
+
+use crate::saying::parcels_of;
+use npdu::{Mac, Parcel, Station};
+use objects::{DataLink, SiteObjects, Table};
+use server_tsm::{Executed, Plan, ServerTsm};
+use services::{IAm, MaxApdu, ObjectExecutor, Segmentation};
+use std::alloc::{AllocError, Allocator};
+use std::marker::Model;
+use tags::{Fault, Items};
+
+/// What comes of an input.
+#[derive(Drop)]
+pub struct Told<A: Allocator> {
+    /// What is said, in order.
+    pub said: Items<Parcel<A>, A>,
+    /// The request that was executed, if one was: its asker, and what the objects replied.
+    pub executed: Option<Executed<A>>,
+}
+
+/// A device on its network.
+#[derive(Drop)]
+pub struct Device<A: Allocator + Copy> {
+    pub(crate) alloc: A,
+    pub(crate) server: ServerTsm<ObjectExecutor<A>, A>,
+    pub(crate) instance: u32,
+    pub(crate) vendor: u16,
+    pub(crate) max_apdu: MaxApdu,
+    pub(crate) net: u16,
+    pub(crate) mac: Mac,
+}
+
+impl<A: Allocator + Copy> Model for Device<A> {
+    ghost use Rattle.std.specs.Prelude.{◌≡◌, ◌<◌, ◌^◌};
+    ghost use Rattle.device.specs.Device.{DeviceState};
+
+    ghost Value = { DeviceState A };
+
+    ghost view = { λ d. record {
+      server = d.server;
+      instance = d.instance;
+      vendor = d.vendor;
+      net = d.net;
+      mac = d.mac;
+    } };
+
+    ghost invariant = { λ d. (d.instance < 2 ^ 22) × (d.max_apdu ≡ d.server.max_apdu) };
+}
+
+/// The longest APDU that a data link carries.
+fn size_of(data_link: DataLink) -> MaxApdu
+    ensures { result ≡ size_of data_link }
+{
+    match data_link {
+        DataLink::BacnetIp => MaxApdu::UpTo1476,
+        DataLink::MsTp => MaxApdu::UpTo480,
+    }
+}
+
+impl<A: Allocator + Copy> Device<A> {
+    ghost use Rattle.std.specs.Prelude.{◌≡◌, ◌⊎◌, ◌≤◌, ◌^◌, IfOk, IfErr, OnOk, OnErr};
+    ghost use Rattle.objects.specs.Site.{IsFaultySite};
+    ghost use Rattle.server_tsm.specs.Server.{committed};
+    ghost use Rattle.server_tsm.specs.Steps.{effects_of};
+    ghost use Rattle.server_tsm.specs.Waking.{woken};
+    ghost use Rattle.device.specs.Device.{i_am_of, new_device, restarts};
+    ghost use Rattle.device.specs.Saying.{told_of};
+
+    /// A device at this address as it opens with the objects of its site, whose memory will be that of `alloc`.
+    ///
+    /// # Errors
+    /// `BadSite` for objects that no device has, as `Table::new` tells; or `Memory`.
+    #[tactic(auto, using(crate::proofs::SiteLaws::site_instance))]
+    pub fn new(alloc: A, site: SiteObjects<A>, address: Station) -> Result<Self, Fault>
+        ensures opened { IfOk result (λ device. device ≡ new_device site address) }
+        ensures refused { IfErr result (λ fault. (fault ≡ Fault.Memory) ⊎
+            ((fault ≡ Fault.BadSite) × IsFaultySite site)) }
+    {
+        let instance = site.instance;
+        let vendor = site.vendor;
+        let max_apdu = size_of(site.data_link);
+        let table = Table::new(alloc, site)?;
+        Ok(Device {
+            alloc,
+            server: ServerTsm::new(alloc, ObjectExecutor { table }, max_apdu),
+            instance,
+            vendor,
+            max_apdu,
+            net: address.net,
+            mac: address.mac,
+        })
+    }
+
+    /// The moment of the last call that went to its server of transactions and was not refused, in milliseconds.
+    pub fn moment(&self) -> u64
+        ensures { result ≡ self.now.server.moment }
+    {
+        self.server.moment()
+    }
+
+    /// Its address on its network.
+    pub fn mac(&self) -> Mac
+        ensures { result ≡ self.now.mac }
+    {
+        self.mac
+    }
+
+    /// Its objects.
+    pub fn table(&self) -> &Table<A>
+        ensures { result.now ≡ self.now.server.table }
+    {
+        &self.server.executor().table
+    }
+
+    /// An equal device, in the same memory.
+    ///
+    /// # Errors
+    /// Want of memory.
+    pub fn copy(&self) -> Result<Self, AllocError>
+        ensures { IfOk result (λ copy. copy ≡ self.now) }
+    {
+        Ok(Device {
+            alloc: self.alloc,
+            server: self.server.copy()?,
+            instance: self.instance,
+            vendor: self.vendor,
+            max_apdu: self.max_apdu,
+            net: self.net,
+            mac: self.mac,
+        })
+    }
+
+    /// What it says of itself (16.10.3).
+    pub fn i_am(&self) -> IAm
+        ensures { result ≡ i_am_of self.now }
+    {
+        IAm {
+            instance: self.instance,
+            max_apdu: u32::from(self.max_apdu.octets()),
+            segmentation: Segmentation::Both,
+            vendor: u32::from(self.vendor),
+        }
+    }
+
+    /// Wakes at the moment `now`, in milliseconds: says again what is due of its answers, and forgets what is too
+    /// old.
+    ///
+    /// # Errors
+    /// `Memory` alone. The device is then as it was.
+    #[tactic(auto, using(crate::proofs::ServerLaws::size_rules))]
+    pub fn on_tick(&mut self, now: u64) -> Result<Told<A>, Fault>
+        requires greatest { now ≤ 2 ^ 62 }
+        requires order { self.old.server.moment ≤ now }
+        ensures told { IfOk result (λ told. told ≡
+            told_of now self.old.mac (effects_of (woken now self.old.server.records))) }
+        ensures left { OnOk result (self.new ≡ record self.old {
+          server = committed now (woken now self.old.server.records).change self.old.server;
+        }) }
+        ensures cause { IfErr result (λ fault. fault ≡ Fault.Memory) }
+        ensures unchanged { OnErr result (self.new ≡ self.old) }
+    {
+        let Plan { said, told, change } = self.server.plan_tick(now)?;
+        let said = parcels_of(self.alloc, self.mac, now, said.as_slice())?;
+        self.server.commit(change, now)?;
+        Ok(Told {
+            said,
+            executed: told,
+        })
+    }
+
+    /// Restarts at the moment `now`, in milliseconds, with these objects: it forgets all that it remembers and
+    /// assembles, and takes no request for 13000. It takes no memory, and says nothing.
+    pub fn restart(&mut self, opening: Table<A>, now: u64)
+        requires greatest { now ≤ 2 ^ 62 }
+        requires order { self.old.server.moment ≤ now }
+        ensures { self.new ≡ restarts now opening self.old }
+    {
+        self.server.restart(ObjectExecutor { table: opening }, now);
+    }
+}

@@ -1,0 +1,129 @@
+//! What a device does with a parcel that it hears.
+
+ghost use Rattle.std.specs.Prelude.{◌≡◌, IsTrue, IsFalse};
+ghost use Rattle.device.specs.Hearing.{AsksOther, AsksWho, origin_of, silence};
+ghost use Rattle.unitdata.specs.Heard.{heard_of};
+
+use crate::device::{Device, Told};
+use crate::saying::{i_am_parcel, parcels_of};
+use npdu::Parcel;
+use server_tsm::{Origin, Plan};
+use services::{Apdu, UnconfirmedService, who_is_from};
+use std::alloc::Allocator;
+use tags::{Fault, Items};
+use unitdata::{Content, Heard, hear};
+
+/// Nothing is said, and nothing executed.
+fn silence<A: Allocator + Copy>(alloc: A) -> Told<A>
+    ensures { result ≡ silence }
+{
+    Told {
+        said: Items::new(alloc),
+        executed: None,
+    }
+}
+
+/// Where a message comes from.
+fn origin_of(heard: &Heard<'_>) -> Origin
+    ensures { result ≡ origin_of (heard_of heard.now) }
+{
+    Origin {
+        station: heard.station,
+        way: heard.way,
+        by_broadcast: !heard.alone,
+    }
+}
+
+/// Whether an unconfirmed request is a Who-Is that asks for the device of this instance.
+fn asks_who(instance: u32, service: u8, data: &[u8]) -> bool
+    ensures asks { IsTrue result → AsksWho instance service data.now }
+    ensures other { IsFalse result → AsksOther instance service data.now }
+{
+    if service != u8::from(UnconfirmedService::WhoIs) {
+        return false;
+    }
+    match who_is_from(data) {
+        Some(who_is) => who_is.covers(instance),
+        None => false,
+    }
+}
+
+impl<A: Allocator + Copy> Device<A> {
+    ghost use Rattle.std.specs.Prelude.{◌≡◌, ◌≤◌, ◌^◌, IfOk, IfErr, OnErr};
+    ghost use Rattle.apdu.specs.Apdu.{HasNamedNumbers, apdu_of};
+    ghost use Rattle.device.specs.Hearing.{AnswersWho, DeviceHears, Does, Serves};
+    ghost use Rattle.unitdata.specs.Hearing.{says};
+
+    /// Hears a parcel at the moment `now`, in milliseconds, and answers what is said and executed. A parcel that
+    /// brings nothing to the device is dropped without memory (5.4.5, 6.5, 16.10.2).
+    ///
+    /// # Errors
+    /// `Memory` alone. The device is then as it was.
+    pub fn on_parcel(&mut self, parcel: &Parcel<A>, now: u64) -> Result<Told<A>, Fault>
+        requires greatest { now ≤ 2 ^ 62 }
+        requires order { self.old.server.moment ≤ now }
+        ensures step { IfOk result (λ told.
+            DeviceHears now parcel.now.from parcel.now.to parcel.now.npdu self.old told self.new) }
+        ensures cause { IfErr result (λ fault. fault ≡ Fault.Memory) }
+        ensures unchanged { OnErr result (self.new ≡ self.old) }
+    {
+        let Some(heard) = hear(self.net, parcel.from, parcel.to, parcel.npdu.as_slice()) else {
+            return Ok(silence(self.alloc));
+        };
+        let origin = origin_of(&heard);
+        match heard.content {
+            Content::Apdu(apdu) => self.on_apdu(&origin, &apdu, now),
+            Content::Rejected(_) => Ok(silence(self.alloc)),
+        }
+    }
+
+    /// What it does on an APDU from there.
+    fn on_apdu(&mut self, origin: &Origin, apdu: &Apdu<'_>, now: u64) -> Result<Told<A>, Fault>
+        requires greatest { now ≤ 2 ^ 62 }
+        requires order { self.old.server.moment ≤ now }
+        requires named { HasNamedNumbers apdu.now }
+        ensures does { IfOk result (λ told. Does now origin.now (says (apdu_of apdu.now)) self.old told self.new) }
+        ensures cause { IfErr result (λ fault. fault ≡ Fault.Memory) }
+        ensures unchanged { OnErr result (self.new ≡ self.old) }
+    {
+        match apdu {
+            Apdu::UnconfirmedRequest { service, data } => self.answer_who(*service, data, now),
+            _ => self.serve(origin, apdu, now),
+        }
+    }
+
+    /// What it says to an unconfirmed request.
+    fn answer_who(&self, service: u8, data: &[u8], now: u64) -> Result<Told<A>, Fault>
+        ensures answers { IfOk result (AnswersWho now self.now service data.now) }
+        ensures cause { IfErr result (λ fault. fault ≡ Fault.Memory) }
+    {
+        if !asks_who(self.instance, service, data) {
+            return Ok(silence(self.alloc));
+        }
+        let mut said = Items::new(self.alloc);
+        said.push(i_am_parcel(self.alloc, self.mac, now, &self.i_am())?)?;
+        Ok(Told {
+            said,
+            executed: None,
+        })
+    }
+
+    /// What its server does on an APDU. Nothing takes memory once the server has changed.
+    #[tactic(auto, using(crate::proofs::ServerLaws::size_rules, crate::proofs::ServeLaws::serve_rules))]
+    fn serve(&mut self, origin: &Origin, apdu: &Apdu<'_>, now: u64) -> Result<Told<A>, Fault>
+        requires greatest { now ≤ 2 ^ 62 }
+        requires order { self.old.server.moment ≤ now }
+        requires named { HasNamedNumbers apdu.now }
+        ensures serves { IfOk result (λ told. Serves now origin.now (apdu_of apdu.now) self.old told self.new) }
+        ensures cause { IfErr result (λ fault. fault ≡ Fault.Memory) }
+        ensures unchanged { OnErr result (self.new ≡ self.old) }
+    {
+        let Plan { said, told, change } = self.server.plan(origin, apdu, now)?;
+        let said = parcels_of(self.alloc, self.mac, now, said.as_slice())?;
+        self.server.commit(change, now)?;
+        Ok(Told {
+            said,
+            executed: told,
+        })
+    }
+}
