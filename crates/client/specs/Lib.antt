@@ -1,0 +1,6 @@
+pub mod Binding
+pub mod Client
+pub mod Hearing
+pub mod Issuing
+pub mod Laws
+pub mod Saying

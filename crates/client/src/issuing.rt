@@ -1,0 +1,64 @@
+//! What a client asks.
+
+use crate::client::{Client, Issued};
+use crate::saying::{parcels_of, who_is_parcel};
+use client_tsm::Plan;
+use npdu::Parcel;
+use objects::Request;
+use services::Limits;
+use std::alloc::Allocator;
+use tags::Fault;
+
+impl<A: Allocator + Copy> Client<A> {
+    ghost use Rattle.std.specs.Prelude.{◌≡◌, ◌≤◌, ◌^◌, ◌⊎◌, Some, None, IfOk, IfErr, OnOk, OnErr};
+    ghost use Rattle.primitives.specs.Sound.{IsSoundRequest};
+    ghost use Rattle.client.specs.Issuing.{Issues, refusal};
+    ghost use Rattle.client.specs.Saying as saying;
+
+    /// Asks all devices, or those with an instance within limits, who they are: what is said at the moment `now`, in
+    /// milliseconds (16.10.1).
+    ///
+    /// # Errors
+    /// `Memory` alone.
+    pub fn who_is(&self, limits: Option<Limits>, now: u64) -> Result<Parcel<A>, Fault>
+        ensures parcel { IfOk result (λ parcel. parcel ≡ saying.who_is_parcel now self.now.mac limits) }
+        ensures cause { IfErr result (λ fault. fault ≡ Fault.Memory) }
+    {
+        who_is_parcel(self.alloc, self.mac, now, limits)
+    }
+
+    /// Issues a request to the device of this instance at the moment `now`, in milliseconds, and answers the invoke
+    /// ID given and what is said (5.4.4.1).
+    ///
+    /// # Errors
+    /// The first that holds: `Unbound` where the device is not bound; `NoRoute` where a router said since that it has
+    /// no route to its network; `TooLong` and `NoInvokeId` as the client of transactions tells. `Memory` also in
+    /// their place. The client is then as it was.
+    pub fn issue(
+        &mut self,
+        instance: u32,
+        request: &Request<A>,
+        now: u64,
+    ) -> Result<Issued<A>, Fault>
+        requires sound { IsSoundRequest request.now }
+        requires greatest { now ≤ 2 ^ 62 }
+        requires order { self.old.machine.moment ≤ now }
+        ensures issued { IfOk result (λ issued. Issues now instance request.now self.old issued self.new) }
+        ensures free { OnOk result (refusal now instance request.now self.old ≡ None) }
+        ensures refused { IfErr result (λ fault. (fault ≡ Fault.Memory) ⊎
+            (refusal now instance request.now self.old ≡ Some fault)) }
+        ensures unchanged { OnErr result (self.new ≡ self.old) }
+    {
+        let Some(binding) = self.binding(instance) else {
+            return Err(Fault::Unbound);
+        };
+        if binding.refused {
+            return Err(Fault::NoRoute);
+        }
+        let Plan { said, change, .. } = self.machine.plan_issue(request, &binding.bound, now)?;
+        let said = parcels_of(self.alloc, self.mac, now, said.as_slice())?;
+        let invoke_id = self.machine.next_invoke_id();
+        self.machine.commit(change, now)?;
+        Ok(Issued { invoke_id, said })
+    }
+}
