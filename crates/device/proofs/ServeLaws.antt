@@ -9,7 +9,7 @@ use Rattle.server_tsm.specs.Steps.{IsPlan, effects_of}
 use Rattle.server_tsm.specs.declared.asked.Origin.{Origin}
 use Rattle.server_tsm.specs.declared.plan.Plan.{Plan}
 use Rattle.device.specs.Device.{DeviceState}
-use Rattle.device.specs.Hearing.{DeviceHears, Does, Serves, origin_of, silence}
+use Rattle.device.specs.Hearing.{DeviceHears, Does, IsHeard, Serves, origin_of, silence}
 use Rattle.device.specs.declared.device.Told.{Told}
 use Rattle.npdu.specs.declared.mac.Mac.{Mac}
 use Rattle.npdu.specs.declared.mac.Target.{Target}
@@ -42,5 +42,11 @@ ignored now from to npdu heard rejected d told brings only refused silent = inl 
   only = only;
   does = subst (λ (c : Content). Does now (origin_of heard) c d told d) (sym refused) (silent, refl);
 })
+
+-- what brings something is heard
+pub is_heard : (net : ℕ) (from : Mac) (to : Target) (npdu : List ℕ) (heard : Heard) → Brings net from to npdu heard → IsHeard net from to npdu
+is_heard net from to npdu heard brings = record { heard = heard; brings = brings }
+
+pub ruleset heard_rules = (is_heard)
 
 pub ruleset serve_rules = (served)

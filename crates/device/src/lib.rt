@@ -3,7 +3,7 @@
 //! To the layer above it promises: each call is one step of a relation on plain data, whose witness is what the parcel
 //! brings and what the server of transactions does on it; what would be refused for want of memory leaves the device
 //! as it was. A confirmed request is executed by the server alone; a Who-Is for this device is answered by an I-Am to
-//! all; all else is dropped, without memory.
+//! all; what brings nothing to it is dropped, and never refused.
 //!
 //! - `device`: the device, its wake and its restart.
 //! - `hearing`: what it does on a parcel.
