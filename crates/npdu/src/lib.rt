@@ -5,7 +5,8 @@
 //! To the layer above it promises: what is read is the one header that the octets spell, each field being its
 //! own slice; what is written is spelled by the octets appended, and read again to the same fields.
 //! Modules: `mac` (link addresses, stations, targets, ways), `parcel`, `priority`, `message` (types of network
-//! messages), `view` (a header and its parts), `fields` and `header` (reading and writing them), `laws`.
+//! messages), `rejected` (the contents of a Reject-Message-To-Network), `view` (a header and its parts), `fields`
+//! and `header` (reading and writing them), `laws`.
 #![tactic(auto)]
 
 mod fields;
