@@ -39,6 +39,20 @@ pub(crate) fn append_others<A: Allocator>(
     Ok(())
 }
 
+/// Appends the foreign devices that hear what one of them has distributed: all but that one (J.4.5).
+///
+/// # Errors
+/// Want of memory.
+pub(crate) fn append_other_devices<A: Allocator>(
+    out: &mut Vec<Address, A>,
+    from: Address,
+    served: &[Address],
+) -> Result<(), AllocError>
+    ensures { OnOk result (out.new.items ≡ out.old.items ++ others from served.now) }
+{
+    append_others(out, from, served)
+}
+
 /// These addresses, or none.
 pub(crate) fn or_nobody<A: Allocator>(
     alloc: A,

@@ -1,7 +1,7 @@
 //! The entries of a manager's two tables, as it tells them.
 
 ghost use Rattle.std.specs.Prelude.{◌≡◌, ◌≤◌, length, map, IfOk};
-ghost use Rattle.bbmd.specs.Tables.{living, told, two_hops};
+ghost use Rattle.bbmd.specs.Tables.{lives, living, told, two_hops};
 
 use crate::registration::Registration;
 use bvll::{Address, DistributionEntry, ForeignDevice};
@@ -35,6 +35,13 @@ pub(crate) fn distribution_entries<A: Allocator>(
     Ok(all)
 }
 
+/// Whether a manager tells of this registration: while it lives (J.2.8).
+fn is_told(registration: Registration, now: u64) -> bool
+    ensures { result ≡ lives now registration }
+{
+    registration.lives(now)
+}
+
 /// The entries of the foreign devices that are served at the moment `now`, in milliseconds, in order.
 ///
 /// # Errors
@@ -49,7 +56,7 @@ pub(crate) fn foreign_entries<A: Allocator>(
 {
     let mut all = Vec::new(alloc);
     for registration in registrations {
-        if registration.lives(now) {
+        if is_told(*registration, now) {
             all.push(registration.told(now))?;
         }
     }

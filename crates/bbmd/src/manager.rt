@@ -3,10 +3,10 @@
 ghost use Rattle.std.specs.Prelude.{◌≡◌, ◌≤◌, ◌^◌, ◌⊎◌, true, false, IfOk, IfErr, OnOk, OnErr, length, map, option_map, ◌++◌};
 ghost use Rattle.bvll.specs.Datagram as bvll;
 ghost use Rattle.bvll.specs.Datagram.{datagram_of};
-ghost use Rattle.bbmd.specs.Tables.{ManagerState, has_few_peers, is_among, living, members_of, new_manager, peers_of, served, told, two_hops, without, woken};
+ghost use Rattle.bbmd.specs.Tables.{ManagerState, has_few_peers, is_among, living, members_of, new_manager, others, peers_of, served, told, two_hops, without, woken};
 ghost use Rattle.bbmd.specs.Manager.{IsCause, IsHeard, IsTooLong, all_but, back, carried_to, code_if, has_place, is_too_long, left, listed, registered, said, sent};
 
-use crate::addresses::{append_others, is_among, or_nobody};
+use crate::addresses::{append_other_devices, append_others, is_among, or_nobody};
 use crate::entries::{distribution_entries, foreign_entries};
 use crate::registration::{Registration, count_without, keep_living, keep_others, served};
 use crate::saying::{Sent, forward, say_to};
@@ -214,6 +214,15 @@ impl<A: Allocator + Copy> Bbmd<A> {
         Ok(Some(to))
     }
 
+    /// The members of its subnet and the foreign devices that are served: whom no other manager says it to.
+    fn own_addressees(&self, now: u64) -> Result<Vec<Address, A>, AllocError>
+        ensures { IfOk result (λ to. to.items ≡ members_of self.now ++ served now self.now.foreign) }
+    {
+        let mut addressees = self.members()?;
+        addressees.extend_from_slice(self.served(now)?.as_slice())?;
+        Ok(addressees)
+    }
+
     /// To whom a broadcast goes that comes from another manager, where it does (J.4.5).
     fn forwarded_to(&self, from: Address, now: u64) -> Result<Option<Vec<Address, A>>, AllocError>
         ensures { IfOk result (λ to. option_map (λ v. v.items) to ≡
@@ -222,9 +231,17 @@ impl<A: Allocator + Copy> Bbmd<A> {
         if !is_among(from, self.peers()?.as_slice()) {
             return Ok(None);
         }
+        Ok(Some(self.own_addressees(now)?))
+    }
+
+    /// To whom a broadcast goes that one of the foreign devices that are served asks for: to all but itself.
+    fn all_but(&self, from: Address, served: &[Address]) -> Result<Vec<Address, A>, AllocError>
+        ensures { IfOk result (λ to. to.items ≡ members_of self.now ++ (peers_of self.now ++ others from served.now)) }
+    {
         let mut to = self.members()?;
-        to.extend_from_slice(self.served(now)?.as_slice())?;
-        Ok(Some(to))
+        to.extend_from_slice(self.peers()?.as_slice())?;
+        append_other_devices(&mut to, from, served)?;
+        Ok(to)
     }
 
     /// To whom a broadcast goes that a foreign device asks for, where it is served (J.2.10, J.4.5).
@@ -236,10 +253,7 @@ impl<A: Allocator + Copy> Bbmd<A> {
         if !is_among(from, served.as_slice()) {
             return Ok(None);
         }
-        let mut to = self.members()?;
-        to.extend_from_slice(self.peers()?.as_slice())?;
-        append_others(&mut to, from, served.as_slice())?;
-        Ok(Some(to))
+        Ok(Some(self.all_but(from, served.as_slice())?))
     }
 
     /// To whom the NPDU of a datagram is forwarded at the moment `now`, in milliseconds: to nobody, where it isn't.

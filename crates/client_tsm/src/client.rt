@@ -6,6 +6,7 @@ ghost use Rattle.client_tsm.specs.Accepts.{accepts_of};
 ghost use Rattle.client_tsm.specs.Client.{changed_at, gathers_on, never_given, renews, sends_on};
 
 use crate::gathering::Gathering;
+use crate::moments::is_free;
 use crate::plan::Change;
 use crate::said::Accepts;
 use crate::transaction::Transaction;
@@ -184,7 +185,7 @@ impl<A: Allocator + Copy> ClientTsm<A> {
     pub(crate) fn may_issue(&self, now: u64) -> bool
         ensures { result ≡ may_issue now self.now }
     {
-        self.free_from[self.next as usize] <= now && !self.is_open(self.next)
+        is_free(self.free_from[self.next as usize], now) && !self.is_open(self.next)
     }
 
     /// Makes a change that was planned, at the moment `now`, in milliseconds. It was planned at that moment, with

@@ -11,6 +11,7 @@ use crate::plan::{Change, Effects, Outcome, Plan, Told};
 use crate::said::Said;
 use crate::transaction::Transaction;
 use npdu::Station;
+use objects::Reply;
 use segments::{Receiver, Sender, Step, Turn, granted_window};
 use services::{Answer, Apdu, Segment, decode_reply};
 use std::alloc::{AllocError, Allocator};
@@ -41,6 +42,13 @@ fn quiet<A: Allocator + Copy>(alloc: A, change: Change<A>) -> Plan<A>
         told: Items::new(alloc),
         change,
     }
+}
+
+/// A whole answer that means a reply ends its transaction with that.
+fn answered_with<A: Allocator>(reply: Reply<A>) -> Outcome<A>
+    ensures { result ≡ Outcome.Answered reply }
+{
+    Outcome::Answered(reply)
 }
 
 /// What joins the segments of an answer, where this window is proposed.
@@ -116,7 +124,7 @@ impl<A: Allocator + Copy> Taker<'_, A> {
                 told: Items::new(self.alloc),
                 change: otherwise,
             }),
-            Some(reply) => self.closing(said, Outcome::Answered(reply)),
+            Some(reply) => self.closing(said, answered_with(reply)),
         }
     }
 

@@ -2,12 +2,11 @@
 
 use crate::gathering::Gathering;
 use crate::limits::begun;
+use crate::moments::{is_in_time, is_same_station};
 use crate::said::Accepts;
 use npdu::{Station, Way};
 use objects::Request;
-use segments::numbers::{
-    APDU_TIMEOUT_MS, ASSEMBLY_TIMEOUT_MS, DEADLINE_MS, NUMBER_OF_APDU_RETRIES,
-};
+use segments::numbers::{APDU_TIMEOUT_MS, ASSEMBLY_TIMEOUT_MS, NUMBER_OF_APDU_RETRIES};
 use segments::{Sender, Turn};
 use services::service_of;
 use std::alloc::{AllocError, Allocator};
@@ -101,16 +100,14 @@ impl<A: Allocator> Transaction<A> {
     fn goes_on(&self, now: u64) -> bool
         ensures { result ≡ goes_on now self.now }
     {
-        now.saturating_sub(self.at) < DEADLINE_MS
-            && self.gathers_still(now)
-            && self.sends_still(now)
+        is_in_time(self.at, now) && self.gathers_still(now) && self.sends_still(now)
     }
 
     /// Whether it takes what this station says under this invoke ID.
     pub(crate) fn takes(&self, now: u64, from: Station, invoke_id: u8) -> bool
         ensures { result ≡ takes now from invoke_id self.now }
     {
-        self.invoke_id == invoke_id && self.station == from && self.goes_on(now)
+        self.invoke_id == invoke_id && is_same_station(self.station, from) && self.goes_on(now)
     }
 
     /// Whether no answer came in time, and it may be said again.

@@ -7,8 +7,9 @@ ghost use Rattle.server_tsm.specs.Server.{still_gathered};
 ghost use Rattle.tags.specs.Number.{bit};
 
 use crate::assembly::Assembly;
+use crate::moments::gathers_still;
 use remembered::Asker;
-use segments::numbers::{ASSEMBLY_TIMEOUT_MS, MAX_ASSEMBLIES};
+use segments::numbers::MAX_ASSEMBLIES;
 use std::alloc::{AllocError, Allocator};
 
 impl<A: Allocator> Assembly<A> {
@@ -19,7 +20,7 @@ impl<A: Allocator> Assembly<A> {
     pub(crate) fn gathers_still(&self, now: u64) -> bool
         ensures { result ≡ gathers_still now self.now }
     {
-        now.saturating_sub(self.at) < ASSEMBLY_TIMEOUT_MS
+        gathers_still(self.at, now)
     }
 
     /// Whether the request is this asker's.

@@ -20,13 +20,14 @@ use crate::asked::{AnswerLimits, Asked, Origin};
 use crate::assembling::{assembled, is_crowded};
 use crate::assembly::Assembly;
 use crate::limits::{answer_chunk, fitted};
+use crate::moments::{has_no_place, lives};
 use crate::plan::{Change, Effects, Executed, Plan};
 use crate::said::Said;
 use crate::sending::{Ack, ack_heard, given_up, quiet, repeated};
 use crate::server::ServerTsm;
 use objects::{Reply, Request};
 use remembered::{Asker, Record, Records};
-use segments::numbers::{KEEP_MS, MAX_OCTETS, MAX_REMEMBERED};
+use segments::numbers::MAX_OCTETS;
 use segments::{Receiver, Step, granted_window};
 use services::{AbortReason, Apdu, Executor, RejectReason, Segment, decode_request};
 use std::alloc::{AllocError, Allocator};
@@ -179,7 +180,6 @@ fn gathered<A: Allocator + Copy>(
     }
 }
 
-#[tactic(auto, using(crate::proofs::Names::reply_name))]
 impl<E: Executor<A> + Drop, A: Allocator + Copy> ServerTsm<E, A> {
     ghost use Rattle.std.specs.Prelude.{◌≡◌, ◌≤◌, ◌^◌, ◌==◌, IfOk, OnErr, Some, Ok, Err, length, option_copied};
     ghost use Rattle.primitives.specs.Sound.{IsSoundRequest};
@@ -210,7 +210,7 @@ impl<E: Executor<A> + Drop, A: Allocator + Copy> ServerTsm<E, A> {
         ensures { option_copied result ≡ remembered now asker self.now.records }
     {
         let entry = self.records.find(asker)?;
-        if entry.at < now.saturating_sub(KEEP_MS) {
+        if !lives(entry.at, now) {
             return None;
         }
         Some(entry)
@@ -220,10 +220,11 @@ impl<E: Executor<A> + Drop, A: Allocator + Copy> ServerTsm<E, A> {
     fn is_full(&self, now: u64) -> bool
         ensures { result ≡ is_full now self.now.records }
     {
-        self.records.len() >= MAX_REMEMBERED && !self.records.begins_dead(now)
+        has_no_place(self.records.len(), self.records.begins_dead(now))
     }
 
     /// A request is executed, and its answer said behind this and remembered.
+    #[tactic(auto, using(crate::proofs::Names::reply_name))]
     fn executing(
         &self,
         now: u64,

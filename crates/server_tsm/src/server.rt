@@ -6,10 +6,10 @@ ghost use Rattle.server_tsm.specs.Waking.{all_said_so};
 
 use crate::assembling::{copied, keep_gathered};
 use crate::assembly::Assembly;
+use crate::moments::end_of_quiet;
 use crate::plan::{Change, Saying};
 use objects::Request;
 use remembered::{Asker, Record, Records, SlabRecords};
-use segments::numbers::KEEP_MS;
 use services::{Executor, MaxApdu};
 use std::alloc::{AllocError, Allocator};
 use std::marker::Model;
@@ -123,7 +123,7 @@ impl<E: Executor<A> + Drop, A: Allocator + Copy> ServerTsm<E, A> {
         self.records.clear();
         self.assemblies.clear();
         self.executor = executor;
-        self.quiet_until = now + KEEP_MS;
+        self.quiet_until = end_of_quiet(now);
         self.moment = now;
     }
 

@@ -5,11 +5,11 @@ ghost use Rattle.std.specs.List.{flat_map};
 ghost use Rattle.server_tsm.specs.Waking.{again, said_of, saying_of, turn_of};
 
 use crate::answering::answer;
+use crate::moments::lives;
 use crate::plan::{Change, Effects, Plan, Saying};
 use crate::said::Said;
 use crate::server::ServerTsm;
 use remembered::{Record, Records, SlabRecords};
-use segments::numbers::KEEP_MS;
 use segments::{Sender, Turn};
 use services::Executor;
 use std::alloc::{AllocError, Allocator};
@@ -19,7 +19,7 @@ use tags::Items;
 fn turn_of<A: Allocator>(entry: &Record<A>, now: u64) -> Turn
     ensures { result ≡ turn_of now entry.now }
 {
-    if entry.at < now.saturating_sub(KEEP_MS) {
+    if !lives(entry.at, now) {
         return Turn::Waits;
     }
     match entry.sending {
