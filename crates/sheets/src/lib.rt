@@ -7,6 +7,7 @@
 //! - `row`: the files with rows where a program runs, and the rows of a file.
 //! - `given`: memory that is always there, and memory that can be refused.
 //! - `digits`: numbers and octets in words.
+//! - `parsed`: requests and replies in words.
 //! - `stop`: why a row is none that holds.
 //! - `trial`: the runs of a row: as it stands, with each allocation refused in turn, with each
 //!   prefix of its octets, and with each of its octets changed.
@@ -17,6 +18,7 @@
 
 mod digits;
 mod given;
+mod parsed;
 mod program;
 mod report;
 mod row;
@@ -26,6 +28,7 @@ mod written;
 
 pub use digits::{number, octets, octets_in_words, push_octets, small, two_words};
 pub use given::{Given, Memory};
+pub use parsed::{reply_in, request_in};
 pub use program::{Bench, run_files};
 pub use report::Report;
 pub use row::{Row, names, rows};

@@ -1,1 +1,6 @@
+pub mod Groups
+pub mod Lists
+pub mod Marks
+pub mod Replies
+pub mod Requests
 pub mod Unsaid

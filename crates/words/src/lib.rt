@@ -11,11 +11,12 @@
 //! Words are parted by single spaces. Numbers are decimal digits, and leading zeros are read;
 //! octets are pairs of hexadecimal digits without spaces, `-` where there are none.
 //!
-//! To the layers above it promises: numbers, octets, objects, properties and values are read exactly,
-//! and a request that is read has a spelling in octets. Which request or reply words say, and that
-//! what is printed is read again, is tested and not proved.
+//! To the layers above it promises: what is read is what the words say, and words that are refused,
+//! but for want of memory, say nothing; a request that `parse_request` reads has a spelling in octets
+//! and one value for each write. That what is printed is read again is tested and not proved.
 //!
 //! - `octets`: numbers and octets.
+//! - `parts`: words cut at a mark.
 //! - `reference`: objects, and properties or elements of them.
 //! - `value`, `request`, `reply`: what their names say, each read and printed.
 //! - `shown`: what is printed in words, for `write!`.
@@ -23,6 +24,7 @@
 #![tactic(auto)]
 
 mod octets;
+mod parts;
 mod reference;
 mod reply;
 mod request;

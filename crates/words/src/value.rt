@@ -1,12 +1,15 @@
 //! Values: `null`, `bool true`, `unsigned 7`, `signed -7`, `enum 1`, `object 5:1`, `text 6F6E`,
 //! `text/4 0041`, `bits 4 F0`, `other 10 7C0C1601`, `built 0901`; several are parted by `, `.
 
-ghost use Rattle.std.specs.Prelude.{◌≡◌, ◌⊎◌, IfOk, IfErr};
+ghost use Rattle.std.specs.Prelude.{◌≡◌, ◌⊎◌, IfOk, IfErr, option_map};
 ghost use Rattle.tags.specs.Value.{IsSound};
 ghost use Rattle.words.specs.Says.{SaysBool, SaysNumbered, SaysSet, SaysValue};
+ghost use Rattle.words.specs.Requests.{SaysGiven, SaysValues};
+ghost use Rattle.words.specs.NoRequests.{NoGiven, NoValues};
 ghost use Rattle.words.specs.Unsaid.{NoBool, NoNumbered, NoSet, NoValue, SaysUnsound};
 
 use crate::octets::{Hex, parse_i32, parse_octets, parse_u8, parse_u32};
+use crate::parts::cut_first;
 use crate::reference::parse_object;
 use crate::shown::Words;
 use crate::unread::Unread;
@@ -37,13 +40,32 @@ pub fn parse_value<A: Allocator + Copy>(alloc: A, words: &str) -> Result<Value<A
 ///
 /// # Errors
 /// `Memory`, or what is missing of the words.
-pub fn parse_values<A: Allocator + Copy>(alloc: A, words: &str) -> Result<Values<A>, Unread> {
-    let mut all = Items::new(alloc);
+#[tactic(auto, using(crate::proofs::Lists::values_laws))]
+pub fn parse_values<A: Allocator + Copy>(alloc: A, words: &str) -> Result<Values<A>, Unread>
+    ensures read { IfOk result (SaysValues words.now) }
+    ensures refused { IfErr result (λ e. (e ≡ Unread.Memory) ⊎ NoValues A words.now) }
+{
     if words.is_empty() {
-        return Ok(all);
+        return Ok(Items::new(alloc));
     }
-    for one in words.split(", ") {
+    given_values(alloc, Some(words))
+}
+
+/// The values that words say, if there are words.
+#[tactic(auto, using(crate::proofs::Lists::list_laws))]
+pub(crate) fn given_values<A: Allocator + Copy>(
+    alloc: A,
+    words: Option<&str>,
+) -> Result<Values<A>, Unread>
+    ensures read { IfOk result (SaysGiven (option_map (λ w. w.now) words.entry)) }
+    ensures refused { IfErr result (λ e. (e ≡ Unread.Memory) ⊎ NoGiven A (option_map (λ w. w.now) words.entry)) }
+{
+    let mut all = Items::new(alloc);
+    let mut rest = words;
+    while let Some(here) = rest {
+        let (one, others) = cut_first(here, ", ");
         all.push(any_value(alloc, one)?)?;
+        rest = others;
     }
     Ok(all)
 }

@@ -1,0 +1,10 @@
+use Rattle.std.proofs.Common.{option_map, Some}
+use Rattle.words.proofs.Lists.{left_in}
+use Rattle.words.proofs.Replies.{ReadsObjects}
+use Rattle.words.proofs.reply.all_results.Given as goal
+
+abbrev pub invariant-loop-rest : goal.invariant-loop-rest
+invariant-loop-rest g l = ReadsObjects (Some l.words) l.all (option_map (λ w. w.now) l.rest)
+
+abbrev pub decreases-loop-rest : goal.decreases-loop-rest
+decreases-loop-rest g l = left_in (option_map (λ w. w.now) l.rest)
