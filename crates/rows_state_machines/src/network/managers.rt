@@ -10,7 +10,7 @@
 //! Each input is heard again by copies with each allocation refused in turn, with each prefix of its octets and with
 //! each octet changed.
 
-use crate::addresses::{addresses, at_port, port, ports, push_address};
+use crate::network::addresses::{addresses, at_port, port, ports, push_address};
 use bbmd::{Bbmd, Sent};
 use bvll::Address;
 use sheets::{

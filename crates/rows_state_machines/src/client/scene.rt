@@ -9,20 +9,19 @@
 //! Before each step a copy takes the client's place. Each allocation of the client is refused in turn: the call is then
 //! made again, and the row goes on as without.
 
-use crate::asked::{OTHER, client_and_device, unfolded};
-use crate::effects::{push_said, push_told};
+use crate::client::asked::{OTHER, client_and_device, unfolded};
+use crate::client::effects::{push_said, push_told};
 use client_tsm::{Bound, ClientTsm, Effects, Issued};
 use npdu::Station;
 use objects::Request;
 use segments::numbers::{MAX_MOMENT_MS, WINDOW};
 use services::{Apdu, Segment};
 use sheets::{
-    Counts, Given, Part, Row, Stop, Trial, compare, number, octets, refusal, small, try_row,
+    Counts, Given, Part, Stop, Trial, compare, number, octets, refusal, request_in, small, try_row,
     two_words,
 };
 use std::alloc::{AllocError, Allocator, Global};
 use tags::Fault;
-use words::parse_request;
 
 /// The steps of a row.
 #[derive(Clone, Copy)]
@@ -110,7 +109,7 @@ impl<A: Allocator + Copy> Scene<A> {
     /// Issues a request in words, and answers what comes of it.
     fn issue_words(&mut self, words: &str) -> Result<String, Stop> {
         let words = unfolded(self.alloc, words)?;
-        let request = parse_request(self.other, words.as_str())?;
+        let request = request_in(self.other, words.as_str())?;
         self.issued_words(&request)
     }
 
@@ -128,7 +127,7 @@ impl<A: Allocator + Copy> Scene<A> {
     /// Issues a request as often as its number says, and answers what comes of the last.
     fn issues_words(&mut self, words: &str) -> Result<String, Stop> {
         let (count, words) = two_words(words);
-        let request = parse_request(self.other, words)?;
+        let request = request_in(self.other, words)?;
         let mut out = String::new(self.alloc);
         for _ in 0..number(count)? {
             out = self.issued_words(&request)?;
@@ -235,9 +234,8 @@ impl<'w, 'a> Trial<'a> for Steps<'w> {
 }
 
 /// Runs a row.
-pub(crate) fn run(given: Given<'_>, row: &Row<'_>) -> Result<Counts, Stop> {
-    let wanted = row.wanted()?;
-    let Some((head, words)) = row.asked.split_once(": ") else {
+pub(crate) fn run(given: Given<'_>, asked: &str, wanted: &str) -> Result<Counts, Stop> {
+    let Some((head, words)) = asked.split_once(": ") else {
         return Err(Stop::Unread(Part::Asked));
     };
     let steps = Steps {

@@ -4,18 +4,19 @@
 //! told how many were executed, and what came of the last. Besides `read REQUEST`, `moment`, `copy`, which goes on
 //! with the copy. Each allocation of an input is refused in turn: the same input then comes again.
 
-use crate::opened::{Opened, Served, executor};
-use crate::told::in_words;
+use crate::server::opened::{Opened, Served, executor};
+use crate::server::told::in_words;
 use npdu::{Mac, Station, Way};
 use segments::numbers::MAX_MOMENT_MS;
 use server_tsm::{Effects, Origin};
 use services::{Apdu, Executor};
 use sheets::{
-    Counts, Given, Part, Stop, compare, differs, number, octets, run_text, small, two_words,
+    Counts, Given, Part, Stop, compare, differs, number, octets, request_in, run_text, small,
+    two_words,
 };
 use std::alloc::{Allocator, Global};
 use tags::Octets;
-use words::{Words, parse_any_request};
+use words::Words;
 
 /// How many runs have an allocation refused at most.
 const MANY: u64 = 1000;
@@ -217,7 +218,7 @@ fn run_read<A: Allocator + Copy>(
     request: &str,
     wanted: &str,
 ) -> Result<Counts, Stop> {
-    let request = parse_any_request(other, request)?;
+    let request = request_in(other, request)?;
     let reply = server.executor().reply(&request)?;
     run_text(format!(in given.alloc; "{}", Words(&reply))?, wanted)
 }

@@ -2,7 +2,7 @@
 //! the member at 47810 in two subnets. In each stand its members, behind `by` its manager, behind `serving` the foreign
 //! devices that have registered there.
 
-use crate::addresses::{addresses, at_port, port, push_address};
+use crate::network::addresses::{addresses, at_port, port, push_address};
 use bbmd::{Bbmd, SiteTables, Subnet, spread};
 use bvll::Address;
 use sheets::{Counts, Given, Part, Stop, compare, differs};
