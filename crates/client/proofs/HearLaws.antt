@@ -14,6 +14,7 @@ use Rattle.client.specs.Binding.{has_place, introduced, put}
 use Rattle.client.specs.Client.{ClientState}
 use Rattle.client.specs.Hearing.{IsIAm, IsNoIAm, Learnt, Transacts, silence}
 use Rattle.client.specs.Saying.{told_of}
+use Rattle.unitdata.proofs.HearLaws.{something}
 use Rattle.client.specs.declared.client.Told.{Told}
 
 pub other_service : (service : ℕ) (octets : List ℕ) → service ≢ 0 → IsNoIAm service octets
@@ -54,5 +55,7 @@ transacted now from a old new plan told named planned said left =
       told_is = said;
       new_is = left;
     }
+
+pub ruleset heard_rules = (something)
 
 pub ruleset transact_rules = (transacted)

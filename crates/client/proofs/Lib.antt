@@ -1,3 +1,4 @@
 pub mod Places
 pub mod HearLaws
 pub mod BindingLaws
+pub mod HeardLaws

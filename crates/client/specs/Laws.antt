@@ -1,5 +1,8 @@
--- What holds of the bindings of any client (6.4.4, 16.10.3).
+-- What holds of any client and its bindings, for the proofs of the layers above (6.4.4, 16.10.3, 20.1).
 use Rattle.std.specs.Prelude.{◌≡◌, ◌≢◌, ℕ, List, [], ◌∷◌, map, option_map, Some, None}
+use Rattle.apdu.specs.Apdu.{apdu_of, HasNamedNumbers}
+use Rattle.apdu.specs.declared.apdu.Apdu.{Apdu}
+use Rattle.client_tsm.specs.Hearing.{heard_of}
 use Rattle.client.specs.Binding.{binding_of, marked, put}
 use Rattle.client.specs.declared.binding.Binding.{Binding}
 
@@ -29,3 +32,8 @@ PutIsOnce = (b : Binding) (bs : List Binding) → IsOnce bs → IsOnce (put b bs
 -- .. or a router refused a network
 abbrev pub MarkedIsOnce : Type 0
 MarkedIsOnce = (net : ℕ) (bs : List Binding) → IsOnce bs → IsOnce (map (marked net) bs)
+
+-- what an APDU says to a client of transactions doesn't hang on where its octets lie (20.1)
+abbrev pub OneHeard : Type 0 → Type 0
+OneHeard A = (a b : Apdu) → HasNamedNumbers a → HasNamedNumbers b → apdu_of a ≡ apdu_of b →
+    heard_of {A = A} a ≡ heard_of {A = A} b

@@ -38,13 +38,14 @@ impl<A: Allocator + Copy> Client<A> {
     ghost use Rattle.apdu.specs.Apdu.{HasNamedNumbers, apdu_of};
     ghost use Rattle.client.specs.Binding.{has_place, introduced, marked_by, put};
     ghost use Rattle.client.specs.Hearing.{BringsTooMany, ClientHears, Does, IsTooMany, Learnt, Overflows, Transacts};
-    ghost use Rattle.unitdata.specs.Hearing.{says};
+    ghost use Rattle.unitdata.specs.Hearing.{BringsSomething, says};
 
     /// Hears a parcel at the moment `now`, in milliseconds, and answers what is said and told. A parcel that brings
     /// nothing to the client is dropped without memory (5.4.4, 6.4.4, 16.10.3).
     ///
     /// # Errors
     /// `TableFull` for an I-Am for whose device there is no place, or `Memory`. The client is then as it was.
+    #[tactic(auto, using(crate::proofs::HearLaws::heard_rules))]
     pub fn on_parcel(&mut self, parcel: &Parcel<A>, now: u64) -> Result<Told<A>, Fault>
         requires greatest { now ≤ 2 ^ 62 }
         requires order { self.old.machine.moment ≤ now }
@@ -52,6 +53,7 @@ impl<A: Allocator + Copy> Client<A> {
             ClientHears now parcel.now.from parcel.now.to parcel.now.npdu self.old told self.new) }
         ensures cause { IfErr result (λ fault. (fault ≡ Fault.Memory) ⊎ ((fault ≡ Fault.TableFull) ×
             BringsTooMany self.old.net parcel.now.from parcel.now.to parcel.now.npdu self.old.bindings)) }
+        ensures heard { OnErr result (BringsSomething self.old.net parcel.now.from parcel.now.to parcel.now.npdu) }
         ensures unchanged { OnErr result (self.new ≡ self.old) }
     {
         let Some(heard) = hear(self.net, parcel.from, parcel.to, parcel.npdu.as_slice()) else {

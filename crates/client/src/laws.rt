@@ -1,4 +1,4 @@
-//! What holds of the bindings of any client, for the proofs of the layers above. A function without a body is a law:
+//! What holds of any client and its bindings, for the proofs of the layers above. A function without a body is a law:
 //! its contract.
 
 ghost use Rattle.client.specs.Laws as spec;
@@ -18,4 +18,10 @@ pub fn marked_alone()
 pub fn once()
     ensures put { spec.PutIsOnce }
     ensures marked { spec.MarkedIsOnce }
+{}
+
+/// What an APDU says to a client of transactions doesn't hang on where its octets lie: so a parcel is heard in one way.
+#[tactic(auto, using(crate::proofs::HeardLaws::one_heard))]
+pub fn one_heard<A>()
+    ensures { spec.OneHeard A }
 {}

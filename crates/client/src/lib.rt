@@ -10,7 +10,7 @@
 //! - `client`: the client, and its wake.
 //! - `issuing`, `hearing`: what it asks, and what it does on a parcel.
 //! - `saying`: what it says, in parcels.
-//! - `laws`: what holds of the bindings of any client, for the proofs of the layers above.
+//! - `laws`: what holds of any client and its bindings, for the proofs of the layers above.
 #![tactic(auto)]
 
 mod binding;
@@ -22,4 +22,4 @@ mod saying;
 
 pub use binding::Binding;
 pub use client::{Client, Issued, Told};
-pub use laws::{marked_alone, once, put_is_held};
+pub use laws::{marked_alone, once, one_heard, put_is_held};

@@ -9,13 +9,14 @@ use Rattle.server_tsm.specs.Steps.{IsPlan, effects_of}
 use Rattle.server_tsm.specs.declared.asked.Origin.{Origin}
 use Rattle.server_tsm.specs.declared.plan.Plan.{Plan}
 use Rattle.device.specs.Device.{DeviceState}
-use Rattle.device.specs.Hearing.{DeviceHears, Does, IsHeard, Serves, origin_of, silence}
+use Rattle.device.specs.Hearing.{DeviceHears, Does, Serves, origin_of, silence}
 use Rattle.device.specs.declared.device.Told.{Told}
 use Rattle.npdu.specs.declared.mac.Mac.{Mac}
 use Rattle.npdu.specs.declared.mac.Target.{Target}
 use Rattle.npdu.specs.declared.rejected.Rejected.{Rejected}
 use Rattle.unitdata.specs.Hearing.{Brings, Content, Heard, OnlyBrings, refuses}
 use Rattle.device.specs.Saying.{parcels_of}
+use Rattle.unitdata.proofs.HearLaws.{something}
 
 pub served : {A : Type 0} (now : ℕ) (from : Origin) (apdu : Apdu) (old new : DeviceState A) (plan : Plan A) (left : ServerTsmState A) (said : List (Parcel A)) →
     HasNamedNumbers apdu → IsPlan now from (heard_of apdu) old.server plan → left ≡ committed now plan.change old.server →
@@ -43,10 +44,6 @@ ignored now from to npdu heard rejected d told brings only refused silent = inl 
   does = subst (λ (c : Content). Does now (origin_of heard) c d told d) (sym refused) (silent, refl);
 })
 
--- what brings something is heard
-pub is_heard : (net : ℕ) (from : Mac) (to : Target) (npdu : List ℕ) (heard : Heard) → Brings net from to npdu heard → IsHeard net from to npdu
-is_heard net from to npdu heard brings = record { heard = heard; brings = brings }
-
-pub ruleset heard_rules = (is_heard)
+pub ruleset heard_rules = (something)
 
 pub ruleset serve_rules = (served)

@@ -79,11 +79,6 @@ pub record Drops {A : Type 0} (from : Mac) (to : Target) (npdu : List ℕ) (old 
   pub silent : told ≡ silence
   pub same : new ≡ old
 
--- an NPDU brings it something: it isn't dropped for its header or its destination
-pub record IsHeard (net : ℕ) (from : Mac) (to : Target) (npdu : List ℕ) : Type 0 where
-  pub heard : Heard
-  pub brings : Brings net from to npdu heard
-
 -- what a device says and executes, and what it is then, where an NPDU comes at this moment from an address to a target
 -- on its network
 abbrev pub DeviceHears : {A : Type 0} → ℕ → Mac → Target → List ℕ → DeviceState A → Told A → DeviceState A → Type 0

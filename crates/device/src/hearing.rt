@@ -51,8 +51,8 @@ fn asks_who(instance: u32, service: u8, data: &[u8]) -> bool
 impl<A: Allocator + Copy> Device<A> {
     ghost use Rattle.std.specs.Prelude.{◌≡◌, ◌≤◌, ◌^◌, IfOk, IfErr, OnErr};
     ghost use Rattle.apdu.specs.Apdu.{HasNamedNumbers, apdu_of};
-    ghost use Rattle.device.specs.Hearing.{AnswersWho, DeviceHears, Does, IsHeard, Serves};
-    ghost use Rattle.unitdata.specs.Hearing.{says};
+    ghost use Rattle.device.specs.Hearing.{AnswersWho, DeviceHears, Does, Serves};
+    ghost use Rattle.unitdata.specs.Hearing.{BringsSomething, says};
 
     /// Hears a parcel at the moment `now`, in milliseconds, and answers what is said and executed (5.4.5, 6.5,
     /// 16.10.2). A parcel that brings nothing to the device, for its header or its destination, is never refused.
@@ -66,7 +66,7 @@ impl<A: Allocator + Copy> Device<A> {
         ensures step { IfOk result (λ told.
             DeviceHears now parcel.now.from parcel.now.to parcel.now.npdu self.old told self.new) }
         ensures cause { IfErr result (λ fault. fault ≡ Fault.Memory) }
-        ensures heard { OnErr result (IsHeard self.old.net parcel.now.from parcel.now.to parcel.now.npdu) }
+        ensures heard { OnErr result (BringsSomething self.old.net parcel.now.from parcel.now.to parcel.now.npdu) }
         ensures unchanged { OnErr result (self.new ≡ self.old) }
     {
         let Some(heard) = hear(self.net, parcel.from, parcel.to, parcel.npdu.as_slice()) else {

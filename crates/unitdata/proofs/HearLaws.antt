@@ -1,8 +1,7 @@
 -- An NPDU brings one thing to a station, or none.
-use Rattle.std.proofs.Common.{◌≡◌, ◌≢◌, ◌∙◌, refl, sym, ap, subst, List, ℕ, Bool, true, false, Option, Some, None}
+use Rattle.std.proofs.Common.{◌≡◌, ◌≢◌, ◌∙◌, refl, sym, ap, subst, List, ℕ, Bool, true, false, Some, None}
 use Rattle.apdu.specs.Apdu.{PlainApdu, OnlyApdu, NoApdu}
 use Rattle.npdu.specs.Header.{Header, OnlyHeader, NoHeader}
-use Rattle.npdu.specs.Mac.{same_station, IsSameStation}
 use Rattle.npdu.specs.Rejected.{OnlyRejected, NoRejected}
 use Rattle.npdu.specs.declared.mac.Mac.{Mac}
 use Rattle.npdu.specs.declared.mac.Station.{Station}
@@ -11,7 +10,7 @@ use Rattle.npdu.specs.declared.mac.Way.{Way}
 use Rattle.npdu.specs.declared.message.Message.{Message}
 use Rattle.npdu.specs.declared.message.Message.TheVariants.{WhoIsRouterToNetwork, IAmRouterToNetwork, RejectMessageToNetwork, Other, Proprietary}
 use Rattle.npdu.specs.declared.rejected.Rejected.{Rejected}
-use Rattle.unitdata.specs.Hearing.{Content, says, refuses, Heard, Brings, OnlyBrings, BringsNothing, OnlyContent, NoContent, SpellsContent, is_here, is_alone, sender, way_to}
+use Rattle.unitdata.specs.Hearing.{Content, says, refuses, Heard, Brings, OnlyBrings, BringsNothing, BringsSomething, OnlyContent, NoContent, SpellsContent, is_here, is_alone, sender, way_to}
 
 some_same : {X : Type 0} (x y : X) → Some x ≡ Some y → x ≡ y
 some_same x y e = cc
@@ -101,3 +100,7 @@ pub no_header : (net : ℕ) (from : Mac) (to : Target) (npdu : List ℕ) → NoH
 no_header net from to npdu lacks = record { none = λ y b. lacks.none b.header b.spelled }
 
 pub ruleset hear_rules = (only_brings, not_here, no_sender, no_content, no_header)
+
+-- what brings a thing brings something
+pub something : (net : ℕ) (from : Mac) (to : Target) (npdu : List ℕ) (h : Heard) → Brings net from to npdu h → BringsSomething net from to npdu
+something net from to npdu h brings = record { heard = h; brings = brings }

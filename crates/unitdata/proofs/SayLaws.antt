@@ -1,9 +1,7 @@
 -- A header and an APDU behind it are the NPDU of that APDU.
-use Rattle.std.proofs.Common.{◌≡◌, ◌∙◌, refl, sym, ap, List, [], ◌∷◌, ◌++◌, length, ℕ, ◌<◌, Bool, true, false, Option, Some, None, append_assoc, arith}
-use Rattle.std.specs.Prelude.{option_map, IfSome, ◌&&◌, nat_lt}
-use Rattle.npdu.specs.Header.{IsDestination, PlainDestination, canonical, control_of, dnet_octets}
-use Rattle.npdu.specs.declared.mac.Station.{Station}
-use Rattle.unitdata.specs.Saying.{destination_to, everywhere, global_npdu, header_to, is_spelled, npdu_to}
+use Rattle.std.proofs.Common.{◌≡◌, ◌∙◌, ap, List, [], ◌∷◌, ◌++◌, ℕ, Bool, Option, Some, None, append_assoc}
+use Rattle.npdu.specs.Header.{PlainDestination, canonical, control_of, dnet_octets}
+use Rattle.unitdata.specs.Saying.{header_to}
 
 -- the octets of a header without an APDU, and an APDU behind them
 pub begun : (expects_reply : Bool) (d : Option PlainDestination) (out apdu : List ℕ) → out ≡ canonical (header_to expects_reply d []) → out ++ apdu ≡ canonical (header_to expects_reply d apdu)

@@ -1,5 +1,5 @@
 -- What an NPDU brings to a station of a network (5.1, 6.2, 6.5.2).
-use Rattle.std.specs.Prelude.{◌≡◌, ℕ, Bool, true, false, List, Option, Some, None, is_none, option_map}
+use Rattle.std.specs.Prelude.{◌≡◌, ℕ, Bool, true, false, List, Option, Some, None, is_none}
 use Rattle.apdu.specs.Apdu.{PlainApdu}
 use Rattle.apdu.specs.Apdu as application
 use Rattle.npdu.specs.Header.{Header, PlainDestination, PlainSource}
@@ -95,3 +95,8 @@ pub record OnlyBrings (net : ℕ) (from : Mac) (to : Target) (npdu : List ℕ) (
 -- it brings nothing there
 pub record BringsNothing (net : ℕ) (from : Mac) (to : Target) (npdu : List ℕ) : Type 0 where
   pub none : (h : Heard) → Brings net from to npdu h → ⊥
+
+-- it brings something there: it isn't dropped for its header or its destination
+pub record BringsSomething (net : ℕ) (from : Mac) (to : Target) (npdu : List ℕ) : Type 0 where
+  pub heard : Heard
+  pub brings : Brings net from to npdu heard
