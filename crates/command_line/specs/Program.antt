@@ -6,7 +6,7 @@ use Rattle.clap.specs.declared.error.Error.{Error}
 use Rattle.clap.specs.declared.error.kind.ErrorKind.{ErrorKind}
 use Rattle.clap.specs.declared.error.kind.ErrorKind.TheVariants.{OutOfMemory, DisplayHelp, DisplayVersion}
 use Rattle.console.specs.Answer.{Known, text_of, PrintsAnswer}
-use Rattle.console.specs.Builtin.{builtin_table}
+use Rattle.console.specs.Builtin.{builtin_device}
 use Rattle.console.specs.Explain.{PrintsExplained}
 use Rattle.command_line.specs.declared.order.Order.{Order}
 use Rattle.command_line.specs.declared.order.Order.TheVariants.{Answer, Explain}
@@ -33,7 +33,7 @@ IsDone (Err e) status old new = IsStatusOf (kind_of e) status
 IsDone (Ok None) status old new = status ≡ 2
 IsDone (Ok (Some (Answer words))) status old new =
     (status ≤ 1)
-    × (status ≡ 0 → PrintsAnswer (builtin_table {A = Global}) (text_of (map string_bytes words.items)) old new)
+    × (status ≡ 0 → PrintsAnswer (builtin_device {A = Global}) (text_of (map string_bytes words.items)) old new)
 IsDone (Ok (Some (Explain words))) status old new =
     (status ≤ 1) × (status ≡ 0 → PrintsExplained (text_of (map string_bytes words.items)) old new)
 

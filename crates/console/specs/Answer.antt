@@ -4,7 +4,7 @@ use Rattle.std.specs.List.{join_with_byte}
 use Rattle.std.specs.Io.KnownBytes.{Appends}
 use Rattle.npdu.specs.declared.mac.Mac.{Mac}
 use Rattle.npdu.specs.declared.mac.Mac.TheVariants.{Six}
-use Rattle.objects.specs.Objects.{PlainTable}
+use Rattle.device.specs.Device.{DeviceState}
 use Rattle.console.specs.HexText.{SpellsHex, OnlyHex, pairs_of}
 use Rattle.console.specs.Respond.{Said, Responds}
 
@@ -25,16 +25,16 @@ printed (d ∷ ds) = flat_map (λ octets. pairs_of octets ++ 10 ∷ []) (d ∷ d
 abbrev pub sender : Mac
 sender = Six (127 ∷ 0 ∷ 0 ∷ 1 ∷ 186 ∷ 193 ∷ [])
 
--- the device responds to a datagram from there, and leaves some objects
-pub record SomeResponse {A : Type 0} (datagram : List ℕ) (table : PlainTable A) (said : Said) : Type 0 where
-  pub left : PlainTable A
-  pub responds : Responds sender datagram table left said
+-- the device responds to a datagram from there, and is something then
+pub record SomeResponse {A : Type 0} (datagram : List ℕ) (device : DeviceState A) (said : Said) : Type 0 where
+  pub left : DeviceState A
+  pub responds : Responds sender datagram device left said
 
 -- the text spells a datagram and no other, and what the device says to it is printed
-pub record PrintsAnswer {A : Type 0} (table : PlainTable A) (text : List ℕ) (old new : Known) : Type 0 where
+pub record PrintsAnswer {A : Type 0} (device : DeviceState A) (text : List ℕ) (old new : Known) : Type 0 where
   pub datagram : List ℕ
   pub said : Said
   pub spelled : SpellsHex text datagram
   pub only : OnlyHex text datagram
-  pub response : SomeResponse datagram table said
+  pub response : SomeResponse datagram device said
   pub appended : Appends old new (printed said)

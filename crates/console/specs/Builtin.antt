@@ -5,10 +5,9 @@ use Rattle.objects.specs.declared.object.ValueKind.TheVariants as kind
 use Rattle.objects.specs.declared.site.DataLink.TheVariants.{BacnetIp}
 use Rattle.objects.specs.declared.site.SiteObject.{SiteObject}
 use Rattle.objects.specs.declared.site.SiteObjects.{SiteObjects}
-use Rattle.objects.specs.Objects.{PlainTable, max_apdu_of}
-use Rattle.objects.specs.Site.{opening_table}
-use Rattle.apdu.specs.declared.unconfirmed.IAm.{IAm}
-use Rattle.apdu.specs.declared.unconfirmed.Segmentation.TheVariants.{Both}
+use Rattle.npdu.specs.declared.mac.Mac.TheVariants.{Six}
+use Rattle.npdu.specs.declared.mac.Station.{Station}
+use Rattle.device.specs.Device.{DeviceState, new_device}
 
 -- Binary Value 1, named BV1, whose Relinquish_Default is active
 abbrev pub builtin_value : {A : Type 0} → SiteObject A
@@ -34,18 +33,10 @@ builtin_site = record {
   objects = builtin_value ∷ [];
 }
 
--- the network that it is on, where a station of another shows in SNET (6.2.2)
-abbrev pub builtin_network : ℕ
-builtin_network = 1
+-- where it is: network 1, at 127.0.0.1:47808
+abbrev pub builtin_address : Station
+builtin_address = record { net = 1; mac = Six (127 ∷ 0 ∷ 0 ∷ 1 ∷ 186 ∷ 192 ∷ []) }
 
--- the longest APDU on its data link, in octets (J.1)
-abbrev pub longest_apdu : ℕ
-longest_apdu = max_apdu_of BacnetIp
-
--- its table as it opens
-abbrev pub builtin_table : {A : Type 0} → PlainTable A
-builtin_table = opening_table builtin_site
-
--- what it says of itself: its instance, the longest APDU, segments both ways, and its vendor (16.10.3)
-abbrev pub builtin_i_am : IAm
-builtin_i_am = record { instance = builtin_instance; max_apdu = longest_apdu; segmentation = Both; vendor = 0 }
+-- the device as it opens
+abbrev pub builtin_device : {A : Type 0} → DeviceState A
+builtin_device = new_device builtin_site builtin_address

@@ -3,10 +3,9 @@
 ghost use Rattle.std.specs.Prelude.{◌≡◌, ◌≤◌, IfOk, IfErr, OnOk, map, string_bytes};
 ghost use Rattle.console.specs.Answer.{printed, sender, text_of, PrintsAnswer, SomeResponse};
 ghost use Rattle.std.specs.Io.KnownBytes.{Appends};
-ghost use Rattle.console.specs.Builtin.{builtin_table};
-ghost use Rattle.console.specs.Respond.{Responds};
+ghost use Rattle.console.specs.Builtin.{builtin_device};
 
-use crate::device::{Builtin, respond};
+use crate::builtin::{Builtin, respond};
 use crate::hex_text::{push_pairs, read_hex};
 use crate::refusal::say_failed;
 use npdu::Mac;
@@ -29,7 +28,7 @@ pub fn answer_line<A: Allocator + Copy, W: Write, E: Write>(
 ) -> u8
     ensures status { result ≤ 1 }
     ensures answered { result ≡ 0
-        → PrintsAnswer (builtin_table {A = A}) (text_of (map string_bytes words.now))
+        → PrintsAnswer (builtin_device {A = A}) (text_of (map string_bytes words.now))
         (W.contents out.old) (W.contents out.new) }
 {
     match answer(alloc, words, out, err) {
@@ -46,7 +45,7 @@ fn answer<A: Allocator + Copy, W: Write, E: Write>(
 ) -> io::Result<u8>
     ensures status { IfOk result (λ status. status ≤ 1) }
     ensures answered { IfOk result (λ status. status ≡ 0
-        → PrintsAnswer (builtin_table {A = A}) (text_of (map string_bytes words.now))
+        → PrintsAnswer (builtin_device {A = A}) (text_of (map string_bytes words.now))
         (W.contents out.old) (W.contents out.new)) }
 {
     let Some(datagram) = read_hex(alloc, words)? else {
@@ -62,11 +61,11 @@ fn answer<A: Allocator + Copy, W: Write, E: Write>(
 
 /// What the built-in device says to a datagram, as it opens.
 fn said_to<A: Allocator + Copy>(alloc: A, datagram: &[u8]) -> Result<Items<Octets<A>, A>, Fault>
-    ensures responds { IfOk result (λ said. SomeResponse datagram.now (builtin_table {A = A}) said) }
+    ensures responds { IfOk result (λ said. SomeResponse datagram.now (builtin_device {A = A}) said) }
     ensures memory { IfErr result (λ fault. fault ≡ Fault.Memory) }
 {
     let mut device = Builtin::new(alloc)?;
-    let said = respond(alloc, &mut device, FROM, datagram)?;
+    let said = respond(&mut device, FROM, datagram)?;
     Ok(said)
 }
 

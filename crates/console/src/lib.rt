@@ -6,21 +6,20 @@
 //! to it, or its fields and tags, each on a line.
 //!
 //! - `answer`, `hex_text`: one datagram as hexadecimal digits, and what is said to it.
-//! - `hearing`, `device`, `saying`: the built-in device, from octets to octets.
+//! - `hearing`, `builtin`: the built-in device, from octets to octets.
 //! - `explain`, `lines`: one datagram taken apart, line by line.
 //! - `refusal`: what ends a program before its time.
 #![tactic(auto)]
 
 mod answer;
-mod device;
+mod builtin;
 mod explain;
 mod hearing;
 mod hex_text;
 mod lines;
 mod refusal;
-mod saying;
 
 pub use answer::answer_line;
-pub use device::{Builtin, respond};
+pub use builtin::{Builtin, respond};
 pub use explain::explain_line;
 pub use refusal::{say_failed, say_refused};

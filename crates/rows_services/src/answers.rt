@@ -7,11 +7,11 @@ use services::{
     Answer, Apdu, ObjectPropertyReference, ServiceError, answer_of, decode_reply, encode_reply,
 };
 use sheets::{
-    Counts, Given, Part, Stop, Trial, buffer_in, differs, octets, push_written, run_text,
-    run_trial, try_row, two_words, written_octets,
+    Counts, Given, Part, Stop, Trial, buffer_in, differs, octets, push_written, request_in,
+    run_text, run_trial, try_row, two_words, written_octets,
 };
 use std::alloc::Allocator;
-use words::{Words, parse_any_request, parse_number, parse_object, parse_reference};
+use words::{Words, parse_number, parse_object, parse_reference};
 
 /// What the octets of an answer are.
 #[derive(Clone, Copy)]
@@ -51,7 +51,7 @@ fn told<A: Allocator + Copy>(
     request: &str,
     answer: &Answer<'_>,
 ) -> Result<String, Stop> {
-    let request = parse_any_request(other, request)?;
+    let request = request_in(other, request)?;
     given.other.refuse_all();
     let found = decode_reply(memory, &request, answer);
     given.other.refuse_only(0);
@@ -181,7 +181,7 @@ fn told_bare<A: Allocator + Copy>(
     request: &str,
     answer: &Answer<'_>,
 ) -> Result<String, Stop> {
-    let request = parse_any_request(other, request)?;
+    let request = request_in(other, request)?;
     given.memory.refuse_all();
     let found = decode_reply(memory, &request, answer);
     given.memory.refuse_only(0);

@@ -6,12 +6,12 @@
 use objects::{DataLink, SiteObject, SiteObjects, Table, ValueKind};
 use services::{Executor, ObjectExecutor};
 use sheets::{
-    Counts, Given, Memory, Part, Report, Row, Stop, Trial, compare, differs, run_text, try_row,
-    two_words,
+    Counts, Given, Memory, Part, Report, Row, Stop, Trial, compare, differs, request_in, run_text,
+    try_row, two_words,
 };
 use std::alloc::{AllocError, Allocator};
 use tags::Items;
-use words::{Words, parse_any_request, parse_number, parse_octets, parse_value};
+use words::{Words, parse_number, parse_octets, parse_value};
 
 /// What executes the requests of rows.
 type Opened<'a> = ObjectExecutor<Memory<'a>>;
@@ -55,7 +55,7 @@ fn replied<A: Allocator + Copy, E: Executor<A>>(
     executor: &E,
     request: &str,
 ) -> Result<String, Stop> {
-    let request = parse_any_request(other, request)?;
+    let request = request_in(other, request)?;
     given.other.refuse_all();
     let reply = executor.reply(&request);
     given.other.refuse_only(0);
@@ -69,7 +69,7 @@ fn ran<A: Allocator + Copy, E: Executor<A>>(
     executor: &mut E,
     request: &str,
 ) -> Result<bool, Stop> {
-    let request = parse_any_request(other, request)?;
+    let request = request_in(other, request)?;
     given.other.refuse_all();
     let is_done = executor.run(&request).is_ok();
     given.other.refuse_only(0);

@@ -8,7 +8,7 @@
 //! - `tool`: what `answer` and `explain` print; `said` has it in words.
 //! - `lines`: command lines, what they print, and their exit status.
 //! - `headers`: what datagrams carry.
-//! - `device`: what a device says to datagrams in turn.
+//! - `in_turn`: what a device says to datagrams in turn.
 //! - `writers`: the exit status where a writer fails.
 //!
 //! What holds memory is owned by functions over any allocator, and rows keep their words: a function
@@ -17,9 +17,9 @@
 
 mod answers;
 mod bodies;
-mod device;
 mod executor;
 mod headers;
+mod in_turn;
 mod lines;
 mod said;
 mod tool;
@@ -42,7 +42,7 @@ impl Bench for Services {
     ) -> Result<(), AllocError> {
         match name {
             "services_executor.txt" => executor::run(given, rows, report),
-            "device_in_turn.txt" => device::run(given, rows, report),
+            "device_in_turn.txt" => in_turn::run(given, rows, report),
             _ => {
                 for row in rows {
                     report.add(row, run_row(given, name, row))?;

@@ -10,9 +10,9 @@ use tags::{Fault, Items, Octets};
 /// Where datagrams come from: 127.0.0.1:47809.
 const FROM: Mac = Mac::Six([127, 0, 0, 1, 0xBA, 0xC1]);
 
-/// ReadPropertyMultiple of all properties of both objects.
+/// ReadPropertyMultiple of all properties of both objects, under an invoke ID that no row has.
 const ALL: &str =
-    "81 0A 00 1C 01 04 02 65 00 0E 0C 02 00 00 63 1E 09 08 1F 0C 01 40 00 01 1E 09 08 1F";
+    "81 0A 00 1C 01 04 02 65 FF 0E 0C 02 00 00 63 1E 09 08 1F 0C 01 40 00 01 1E 09 08 1F";
 
 /// How many runs have an allocation refused at most.
 const MANY: u64 = 1000;
@@ -45,15 +45,15 @@ fn run_row<'a>(
     let wanted = row.wanted()?;
     let datagram = octets_of(given.alloc, row.asked)?;
     let all = octets_of(given.alloc, ALL)?;
-    let before = said(given.alloc, given.memory, device, all.as_slice())?;
+    let before = held(given.alloc, device, all.as_slice())?;
     for refused in 0..MANY {
         given.memory.refuse_only(refused.saturating_add(1));
-        let answer = said(given.alloc, given.memory, device, datagram.as_slice());
+        let answer = said(given.alloc, device, datagram.as_slice());
         let is_waiting = given.memory.is_waiting();
         given.memory.refuse_only(0);
         match answer {
             Err(Stop::Memory) if !is_waiting => {
-                let now = said(given.alloc, given.memory, device, all.as_slice())?;
+                let now = held(given.alloc, device, all.as_slice())?;
                 compare(now, before.as_str())?;
             }
             Ok(found) if is_waiting => {
@@ -79,14 +79,22 @@ fn counts(refused: u64) -> Counts {
     }
 }
 
+/// What an equal device says to a datagram, in words.
+fn held<A: Allocator + Copy>(
+    alloc: Global,
+    device: &Builtin<A>,
+    datagram: &[u8],
+) -> Result<String, Stop> {
+    said(alloc, &mut device.copy()?, datagram)
+}
+
 /// What the device says to a datagram, in words.
 fn said<A: Allocator + Copy>(
     alloc: Global,
-    memory: A,
     device: &mut Builtin<A>,
     datagram: &[u8],
 ) -> Result<String, Stop> {
-    match respond(memory, device, FROM, datagram) {
+    match respond(device, FROM, datagram) {
         Ok(said) => in_words(alloc, &said),
         Err(Fault::Memory) => Err(Stop::Memory),
         Err(_) => Err(differs(alloc, "another refusal than want of memory")),
