@@ -1,8 +1,7 @@
 //! Whether a reply answers a request: `read 5:1 85 | done -> no answer`.
 
-use sheets::{Counts, Part, Stop, run_text};
+use sheets::{Counts, Part, Stop, reply_in, request_in, run_text};
 use std::alloc::{Allocator, Global};
-use words::{parse_any_reply, parse_any_request};
 
 /// Runs a row.
 pub(crate) fn run(alloc: Global, asked: &str, wanted: &str) -> Result<Counts, Stop> {
@@ -19,7 +18,7 @@ pub(crate) fn run(alloc: Global, asked: &str, wanted: &str) -> Result<Counts, St
 
 /// Whether a reply answers a request, both in words.
 fn is_answer<A: Allocator + Copy>(alloc: A, request: &str, reply: &str) -> Result<bool, Stop> {
-    let request = parse_any_request(alloc, request)?;
-    let reply = parse_any_reply(alloc, reply)?;
+    let request = request_in(alloc, request)?;
+    let reply = reply_in(alloc, reply)?;
     Ok(reply.answers(&request))
 }

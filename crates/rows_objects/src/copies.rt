@@ -3,10 +3,10 @@
 
 use crate::text::{expanded, is_reply};
 use primitives::{CopyIn, copy_all};
-use sheets::{Counts, Given, Stop, Trial, try_row};
+use sheets::{Counts, Given, Stop, Trial, reply_in, request_in, try_row};
 use std::alloc::{AllocError, Allocator};
 use tags::Items;
-use words::{parse_any_reply, parse_any_request, parse_number};
+use words::parse_number;
 
 /// What is copied, in words. It lies in memory of its own, which is refused during the copy.
 #[derive(Clone, Copy)]
@@ -32,7 +32,7 @@ fn is_request_copied<A: Allocator + Copy>(
     to: A,
     words: &str,
 ) -> Result<bool, Stop> {
-    let request = parse_any_request(from, words)?;
+    let request = request_in(from, words)?;
     given.other.refuse_all();
     let copy = request.copy(to);
     given.other.refuse_only(0);
@@ -46,7 +46,7 @@ fn is_reply_copied<A: Allocator + Copy>(
     to: A,
     words: &str,
 ) -> Result<bool, Stop> {
-    let reply = parse_any_reply(from, words)?;
+    let reply = reply_in(from, words)?;
     given.other.refuse_all();
     let copy = reply.copy(to);
     given.other.refuse_only(0);

@@ -6,10 +6,11 @@ use crate::sites::Described;
 use crate::text::expanded;
 use objects::Table;
 use sheets::{
-    Counts, Given, Memory, Part, Report, Row, Stop, Trial, compare, differs, try_row, two_words,
+    Counts, Given, Memory, Part, Report, Row, Stop, Trial, compare, differs, request_in, try_row,
+    two_words,
 };
 use std::alloc::{AllocError, Allocator, Global};
-use words::{Words, parse_any_request};
+use words::Words;
 
 /// How many runs have an allocation refused at most.
 const MANY: u64 = 1000;
@@ -79,7 +80,7 @@ pub(crate) fn replied<A: Allocator + Copy>(
     table: &Table<A>,
     request: &str,
 ) -> Result<String, Stop> {
-    let request = parse_any_request(other, request)?;
+    let request = request_in(other, request)?;
     let reply = table.reply(&request)?;
     Ok(format!(in alloc; "{}", Words(&reply))?)
 }
@@ -92,7 +93,7 @@ fn applied<A: Allocator + Copy>(
     table: &mut Table<A>,
     request: &str,
 ) -> Result<String, Stop> {
-    let request = parse_any_request(other, request)?;
+    let request = request_in(other, request)?;
     given.other.refuse_all();
     let reply = table.apply(&request);
     given.other.refuse_only(0);
@@ -183,7 +184,7 @@ fn meets_refusal<A: Allocator + Copy>(
     request: &str,
     n: u64,
 ) -> Result<bool, Stop> {
-    let request = parse_any_request(other, request)?;
+    let request = request_in(other, request)?;
     given.memory.refuse_only(n);
     let is_refused = table.apply(&request).is_err();
     let is_waiting = given.memory.is_waiting();

@@ -7,10 +7,10 @@ use objects::{DataLink, Request, SiteObject, SiteObjects, Table, ValueKind};
 use remembered::Asker;
 use segments::numbers::{KEEP_MS, MAX_REMEMBERED};
 use services::{Executor, ObjectExecutor};
-use sheets::{Given, Stop, differs};
+use sheets::{Given, Stop, differs, request_in};
 use std::alloc::{AllocError, Allocator};
 use tags::{Items, Value};
-use words::{Words, parse_any_request};
+use words::Words;
 
 /// How many allocations of an execution are refused at most.
 const MANY: u64 = 100;
@@ -234,7 +234,7 @@ impl<A: Allocator + Copy> Device<A> {
 
     /// Appends the Present_Value of Integer Value 1.
     pub(crate) fn push_value(&self, run: &Run<'_, A>, out: &mut String) -> Result<(), Stop> {
-        let request = parse_any_request(run.other, "read 45:1 85")?;
+        let request = request_in(run.other, "read 45:1 85")?;
         let reply = self.executor.reply(&request)?;
         write!(out, "{}", Words(&reply))?;
         Ok(())
@@ -244,5 +244,5 @@ impl<A: Allocator + Copy> Device<A> {
 /// The request that writes a value to Integer Value 1.
 fn write_of<A: Allocator + Copy>(run: &Run<'_, A>, value: &str) -> Result<Request<A>, Stop> {
     let words = format!(in run.given.alloc; "write 45:1 85 signed {value}")?;
-    Ok(parse_any_request(run.other, words.as_str())?)
+    request_in(run.other, words.as_str())
 }
