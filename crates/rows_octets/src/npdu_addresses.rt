@@ -1,10 +1,14 @@
 //! Link addresses and parcels of the network layer: `mac 05 -> 05`, `mac 0506 -> none`,
-//! `parcel 7F000001BAC0 05 01001008 13000` and its copy.
+//! `parcel 7F000001BAC0 05 01001008 13000` and its copy; and what a router says that it didn't pass on, written again:
+//! `rejected 010002 -> NoRoute 2`.
 
-use npdu::{Mac, Parcel, Target};
-use sheets::{Counts, Given, Part, Stop, Trial, differs, octets, push_octets, run_octets, try_row};
+use npdu::{Mac, Parcel, Rejected, Target};
+use sheets::{
+    Counts, Given, Part, Stop, Trial, buffer, differs, octets, push_octets, push_written,
+    run_octets, try_row, written_octets,
+};
 use std::alloc::Global;
-use tags::Items;
+use tags::{Fault, Items};
 use words::parse_number;
 
 /// Octets that are an address, or none.
@@ -17,6 +21,23 @@ impl<'a> Trial<'a> for Addresses {
             Some(mac) => push_octets(mac.as_octets(), &mut text)?,
             None => text.push_str("none")?,
         }
+        Ok(text)
+    }
+}
+
+/// Octets that are the contents of a Reject-Message-To-Network, and that are written of them.
+struct Refusals;
+
+impl<'a> Trial<'a> for Refusals {
+    fn answer(&self, given: Given<'a>, octets: &[u8]) -> Result<String, Stop> {
+        let Some(rejected) = Rejected::read(octets) else {
+            return Ok(String::from_str(given.alloc, "none")?);
+        };
+        let mut text = format!(in given.alloc; "{:?} {}", rejected.reason, rejected.net)?;
+        let mut out = buffer(given)?;
+        let came = rejected.write(&mut out).map_err(Fault::from);
+        let again = written_octets(given, came, out.as_slice())?;
+        push_written(octets, again, &mut text)?;
         Ok(text)
     }
 }
@@ -95,6 +116,7 @@ fn run_parcel(given: Given<'_>, rest: &str, wanted: &str) -> Result<Counts, Stop
 pub(crate) fn run(given: Given<'_>, asked: &str, wanted: &str) -> Result<Counts, Stop> {
     match asked.split_once(' ') {
         Some(("mac", word)) => run_octets(given, &Addresses, word, wanted),
+        Some(("rejected", word)) => run_octets(given, &Refusals, word, wanted),
         Some(("parcel", rest)) => run_parcel(given, rest, wanted),
         _ => Err(Stop::Unread(Part::Asked)),
     }
