@@ -4,12 +4,14 @@
 //! and prints the nanoseconds of one call in the best of several runs.
 //!
 //! - `clock`: the time of a call.
+//! - `devices`: what a device decodes and answers.
 //! - `frames`: the check of data, and hearing a frame, over 500 octets.
 //! - `managers`: what a broadcast manager forwards.
 //! - `remembered_answers`: finding and executing, with 1, 8 and 64 remembered answers.
 #![tactic(auto)]
 
 mod clock;
+mod devices;
 mod frames;
 mod managers;
 mod remembered_answers;
@@ -24,5 +26,6 @@ fn main(rt: HostRuntime) -> io::Result<()> {
         .any(|word| word.as_str() == "--times");
     remembered_answers::run(&rt, has_times)?;
     frames::run(&rt, has_times)?;
-    managers::run(&rt, has_times)
+    managers::run(&rt, has_times)?;
+    devices::run(&rt, has_times)
 }

@@ -1,0 +1,134 @@
+//! A device on BACnet/IP (ANSI/ASHRAE 135, clauses 5.4.5, 15.5 and 15.7): decoding a request, answering it, and what its
+//! objects take.
+
+use crate::clock::{Work, time};
+use calls::{Answering, Reading, decode};
+use std::alloc::{AllocError, Global};
+use std::io;
+
+/// How often a call is made in a run without words, and in one that is timed.
+const FEW: u64 = 256;
+
+const OFTEN: u64 = 1_000_000;
+
+/// How many objects the device has.
+const OBJECTS: u16 = 8;
+
+/// ReadProperty of the present value of Binary Value 1, from a client that takes segments.
+const READ_PROPERTY: [u8; 17] = [
+    0x81, 0x0A, 0x00, 0x11, 0x01, 0x04, 0x02, 0x65, 0x00, 0x0C, 0x0C, 0x01, 0x40, 0x00, 0x01, 0x19,
+    0x55,
+];
+
+/// ReadPropertyMultiple of fourteen properties of it, seven twice.
+const READ_MANY: [u8; 45] = [
+    0x81, 0x0A, 0x00, 0x2D, 0x01, 0x04, 0x02, 0x65, 0x00, 0x0E, 0x0C, 0x01, 0x40, 0x00, 0x01, 0x1E,
+    0x09, 0x4B, 0x09, 0x4D, 0x09, 0x4F, 0x09, 0x55, 0x09, 0x6F, 0x09, 0x24, 0x09, 0x51, 0x09, 0x4B,
+    0x09, 0x4D, 0x09, 0x4F, 0x09, 0x55, 0x09, 0x6F, 0x09, 0x24, 0x09, 0x51, 0x1F,
+];
+
+/// ms between requests of which one answer is remembered.
+const RARE: u64 = 13_001;
+
+/// ms between requests of which 64 answers are remembered.
+const DENSE: u64 = 205;
+
+/// Decoding a datagram.
+#[derive(Drop)]
+struct Decoding {
+    alloc: Global,
+    datagram: [u8; 17],
+}
+
+impl Work for Decoding {
+    fn go(&mut self, times: u64) -> Result<u64, AllocError> {
+        Ok(decode(self.alloc, self.datagram.as_mut_slice(), times))
+    }
+}
+
+/// Answering a datagram.
+#[derive(Drop)]
+struct Answers(Answering<Global>);
+
+impl Work for Answers {
+    fn go(&mut self, times: u64) -> Result<u64, AllocError> {
+        self.0.go(times).map_err(|_| AllocError)
+    }
+}
+
+/// Reading present values.
+#[derive(Drop)]
+struct Reads(Reading<Global>);
+
+impl Work for Reads {
+    fn go(&mut self, times: u64) -> Result<u64, AllocError> {
+        self.0.go(times)
+    }
+}
+
+/// Times work, and prints what came of it or what it took.
+fn run_work<W: Work>(
+    rt: &HostRuntime,
+    has_times: bool,
+    name: &str,
+    unit: &str,
+    work: &mut W,
+) -> io::Result<()> {
+    let timed = time(rt, work, if has_times { OFTEN } else { FEW })?;
+    if has_times {
+        let took = timed.text(rt.alloc())?;
+        rt.println(format!(in rt.alloc(); "{name}: {took}")?.as_str())?;
+    } else {
+        let came = timed.came;
+        rt.println(format!(in rt.alloc(); "{name}: {came} {unit}")?.as_str())?;
+    }
+    Ok(())
+}
+
+/// Times the answer of a device of so many objects to a datagram each `gap` ms.
+fn run_answer(
+    rt: &HostRuntime,
+    has_times: bool,
+    name: &str,
+    datagram: &[u8],
+    gap: u64,
+) -> io::Result<()> {
+    let Ok(answering) = Answering::new(rt.alloc(), OBJECTS, datagram, gap) else {
+        return Err(io::Error::from(AllocError));
+    };
+    run_work(rt, has_times, name, "octets said", &mut Answers(answering))
+}
+
+/// Times the reads of a table of so many objects.
+fn run_reads(rt: &HostRuntime, has_times: bool, objects: u16) -> io::Result<()> {
+    let Ok(reading) = Reading::new(rt.alloc(), objects) else {
+        return Err(io::Error::from(AllocError));
+    };
+    let name = format!(in rt.alloc(); "read of one of {objects} objects")?;
+    run_work(rt, has_times, name.as_str(), "values", &mut Reads(reading))
+}
+
+/// Times a device's calls, and prints them.
+///
+/// # Errors
+/// Those of the clock and of printing, and want of memory.
+pub(crate) fn run(rt: &HostRuntime, has_times: bool) -> io::Result<()> {
+    let mut decoding = Decoding {
+        alloc: rt.alloc(),
+        datagram: READ_PROPERTY,
+    };
+    run_work(
+        rt,
+        has_times,
+        "ReadProperty decoded",
+        "in sum",
+        &mut decoding,
+    )?;
+    run_answer(rt, has_times, "ReadProperty answered", &READ_PROPERTY, RARE)?;
+    let remembering = "ReadProperty answered, 64 remembered";
+    run_answer(rt, has_times, remembering, &READ_PROPERTY, DENSE)?;
+    let many = "ReadPropertyMultiple of fourteen answered";
+    run_answer(rt, has_times, many, &READ_MANY, RARE)?;
+    run_reads(rt, has_times, 8)?;
+    run_reads(rt, has_times, 512)
+}

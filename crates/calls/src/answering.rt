@@ -1,0 +1,99 @@
+//! A device hears a datagram and answers (ANSI/ASHRAE 135, clauses 5.4.5, 6 and J.2).
+
+use crate::decoding::INVOKE_ID;
+use crate::opened::{OWN, device};
+use bvll::Bvll;
+use device::Device;
+use npdu::{Mac, Parcel, Target};
+use segments::numbers::MAX_MOMENT_MS;
+use std::alloc::Allocator;
+use tags::{Fault, Octets};
+
+/// From where the datagram comes.
+const FROM: Mac = Mac::Six([127, 0, 0, 1, 0xBA, 0xC2]);
+
+/// The longest NPDU on the link, in octets.
+const LONGEST_NPDU: usize = 1497;
+
+/// A device that hears one datagram again and again, each time with another invoke ID, and so many ms later.
+#[derive(Drop)]
+pub struct Answering<A: Allocator + Copy> {
+    alloc: A,
+    device: Device<A>,
+    datagram: Vec<u8, A>,
+    gap: u64,
+    now: u64,
+    turn: u8,
+}
+
+impl<A: Allocator + Copy> Answering<A> {
+    /// A device with so many Binary Values that will hear this datagram each `gap` ms: of what it executes, as many
+    /// answers are remembered as 13000 ms hold.
+    ///
+    /// # Errors
+    /// `BadSite` for more than 512 objects, or `Memory`.
+    pub fn new(alloc: A, objects: u16, datagram: &[u8], gap: u64) -> Result<Self, Fault> {
+        Ok(Answering {
+            alloc,
+            device: device(alloc, objects)?,
+            datagram: Vec::from_slice(alloc, datagram)?,
+            gap,
+            now: 0,
+            turn: 0,
+        })
+    }
+
+    /// Hears it so many times, and answers how many octets were said to it.
+    ///
+    /// # Errors
+    /// `Memory`.
+    pub fn go(&mut self, times: u64) -> Result<u64, Fault> {
+        let mut octets = 0u64;
+        for _ in 0..times {
+            octets = octets.saturating_add(self.hear()?);
+        }
+        Ok(octets)
+    }
+
+    /// Hears it once.
+    fn hear(&mut self) -> Result<u64, Fault> {
+        self.turn = self.turn.wrapping_add(1);
+        if let Some(octet) = self.datagram.as_mut_slice().get_mut(INVOKE_ID) {
+            *octet = self.turn;
+        }
+        self.now = self.now.saturating_add(self.gap);
+        if self.now > MAX_MOMENT_MS || self.now < self.device.moment() {
+            return Ok(0);
+        }
+        let Ok(Bvll::OriginalUnicastNpdu(npdu)) = Bvll::read(self.datagram.as_slice()) else {
+            return Ok(0);
+        };
+        let parcel = Parcel {
+            from: FROM,
+            to: Target::One(OWN),
+            npdu: Octets::from_slice(self.alloc, npdu)?,
+            stamp: self.now,
+        };
+        let told = self.device.on_parcel(&parcel, self.now)?;
+        say_all(self.alloc, told.said.as_slice())
+    }
+}
+
+/// Writes the datagram of each parcel, and answers how many octets they have.
+fn say_all<A: Allocator + Copy>(alloc: A, parcels: &[Parcel<A>]) -> Result<u64, Fault> {
+    let mut octets = 0u64;
+    for parcel in parcels {
+        octets = octets.saturating_add(say(alloc, parcel.npdu.as_slice())?);
+    }
+    Ok(octets)
+}
+
+/// Writes the datagram of an NPDU to one station.
+fn say<A: Allocator + Copy>(alloc: A, npdu: &[u8]) -> Result<u64, Fault> {
+    if npdu.len() > LONGEST_NPDU {
+        return Ok(0);
+    }
+    let mut out = Vec::new(alloc);
+    Bvll::OriginalUnicastNpdu(npdu).write(&mut out)?;
+    Ok(out.len() as u64)
+}
