@@ -1,5 +1,5 @@
 -- Octets spell the contents of one Reject-Message-To-Network, or of none.
-use Rattle.std.proofs.Common.{◌≡◌, ◌≢◌, ◌∙◌, ℕ, List, [], ◌∷◌, ◌++◌, length, refl, sym, ap, arith}
+use Rattle.std.proofs.Common.{◌≡◌, ◌≢◌, ◌∙◌, ℕ, List, [], ◌∷◌, length, refl, sym, ap, arith}
 use Rattle.npdu.specs.Message.{reason_number}
 use Rattle.npdu.specs.Rejected.{NoRejected, OnlyRejected, SpellsRejected, rejected_octets}
 use Rattle.npdu.specs.declared.message.RejectReason.{RejectReason}
