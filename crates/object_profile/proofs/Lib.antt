@@ -1,0 +1,4 @@
+pub mod Sizes
+pub mod Pieces
+pub mod Refining
+pub mod Speaking

@@ -1,0 +1,5 @@
+pub mod Bodies
+pub mod Speaking
+pub mod Profile
+pub mod Refined
+pub mod Laws

@@ -1,0 +1,4 @@
+pub mod Safe
+pub mod Keeping
+pub mod Refines
+pub mod Laws

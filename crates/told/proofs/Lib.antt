@@ -1,0 +1,11 @@
+pub mod Places
+pub mod Saying
+pub mod Acting
+pub mod Sending
+pub mod Joined
+pub mod Hearing
+pub mod Waking
+pub mod Issuing
+pub mod Learning
+pub mod Hears
+pub mod Laws

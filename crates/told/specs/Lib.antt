@@ -1,0 +1,5 @@
+pub mod Safe
+pub mod Told
+pub mod Heard
+pub mod Kept
+pub mod Laws
