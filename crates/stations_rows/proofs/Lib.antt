@@ -1,0 +1,4 @@
+pub mod Silence
+pub mod Lost
+pub mod Restart
+pub mod Segments
