@@ -2,3 +2,4 @@ pub mod Silence
 pub mod Lost
 pub mod Restart
 pub mod Segments
+pub mod Begins

@@ -3,7 +3,6 @@ use Rattle.std.proofs.Common.{◌≡◌, refl, false, List, [], ◌∷◌, Some,
 use Rattle.client_tsm.specs.Client.{never_given}
 use Rattle.history.proofs.Lists.{has}
 use Rattle.history.specs.declared.Entry.TheVariants.{Issue, Executed, Answered}
-use Rattle.objects.specs.Site.{opening_table}
 use Rattle.server_tsm.specs.Answering.{answer_of}
 use Rattle.services.proofs.CanonicalBody.{request_spelled}
 use Rattle.services.proofs.Contents.{reply_is_meant}
@@ -12,7 +11,7 @@ use Rattle.tags.specs.Canonical as canonical
 use Rattle.tags.specs.Number as number
 use Rattle.stations.specs.Fair.{AreFair}
 use Rattle.stations.specs.World.{Event, Passes, Issues, Client_hears, Client_learns, Client_wakes, Device_hears, Announces, steps}
-use Rattle.stations_rows.specs.Small.{begun, client, i_am, objects, own, reads_name, says_i_am, site, to_client, to_device}
+use Rattle.stations_rows.specs.Small.{begun, client, i_am, own, reads_name, says_i_am, site, to_client, to_device}
 use Rattle.stations_rows.specs.Heard.{answer, asks, name_read, request, tells}
 
 abbrev lost : (A : Type 0) → List (Event A)

@@ -30,7 +30,10 @@ long_objects = record { name = replicate 60 68; instance = 10; vendor = 1; data_
 
 abbrev pub long_site : (A : Type 0) → ObjectSite A
 long_site A =
-    record { instance_of = λ x. cond (same_station x device) (Some 10) None; opening = λ x. opening_table (long_objects {A = A}) }
+    record {
+      instance_of = λ x. cond (same_station x device) (Some 10) None;
+      opening = λ x. opening_table (long_objects {A = A});
+    }
 
 abbrev pub long_begun : (A : Type 0) → World A
 long_begun A =

@@ -1,5 +1,5 @@
 -- A site of one client and one device on one network, and what they begin with.
-use Rattle.std.specs.Prelude.{ℕ, cond, List, [], ◌∷◌, Some, None, true, false}
+use Rattle.std.specs.Prelude.{cond, [], ◌∷◌, Some, None, true}
 use Rattle.apdu.specs.declared.sizes.MaxApdu.{MaxApdu}
 use Rattle.apdu.specs.declared.sizes.MaxApdu.TheVariants.{UpTo1476}
 use Rattle.apdu.specs.declared.unconfirmed.IAm.{IAm}
@@ -14,7 +14,6 @@ use Rattle.npdu.specs.declared.mac.Station.{Station}
 use Rattle.npdu.specs.declared.mac.Way.{Way}
 use Rattle.object_profile.specs.Profile.{object_profile}
 use Rattle.object_profile.specs.Refined.{ObjectSite}
-use Rattle.objects.specs.Objects.{PlainTable}
 use Rattle.objects.specs.Site.{opening_table}
 use Rattle.objects.specs.declared.site.DataLink.TheVariants.{BacnetIp}
 use Rattle.objects.specs.declared.site.SiteObjects.{SiteObjects}
@@ -34,7 +33,11 @@ abbrev pub objects : {A : Type 0} → SiteObjects A
 objects = record { name = 68 ∷ []; instance = 10; vendor = 1; data_link = BacnetIp; objects = [] }
 
 abbrev pub site : (A : Type 0) → ObjectSite A
-site A = record { instance_of = λ x. cond (same_station x device) (Some 10) None; opening = λ x. opening_table (objects {A = A}) }
+site A =
+    record {
+      instance_of = λ x. cond (same_station x device) (Some 10) None;
+      opening = λ x. opening_table (objects {A = A});
+    }
 
 -- all take APDUs of 1476 octets
 abbrev pub own : Station → MaxApdu
