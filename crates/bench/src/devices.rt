@@ -1,5 +1,5 @@
-//! A device on BACnet/IP (ANSI/ASHRAE 135, clauses 5.4.5, 15.5 and 15.7): decoding a request, answering it, and what its
-//! objects take.
+//! A device on BACnet/IP (ANSI/ASHRAE 135, clauses 5.4.5, 15.5 and 15.7): decoding a request, answering it, and what
+//! its objects take.
 
 use crate::clock::{Work, time};
 use calls::{Answering, Reading, decode};

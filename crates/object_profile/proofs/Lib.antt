@@ -2,3 +2,4 @@ pub mod Sizes
 pub mod Pieces
 pub mod Refining
 pub mod Speaking
+pub mod Places

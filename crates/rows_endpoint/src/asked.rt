@@ -1,6 +1,6 @@
-//! The rows of a client: inputs, `often COUNT INSTANCE REQUEST` for as many issues, and `introduce FIRST LAST` for I-Ams
-//! of all devices with an instance from the first to the last. Besides `binding INSTANCE`, `bindings`, which tells their
-//! number, `moment`, `copy`, which goes on with the copy.
+//! The rows of a client: inputs, `often COUNT INSTANCE REQUEST` for as many issues, and `introduce FIRST LAST` for
+//! I-Ams of all devices with an instance from the first to the last. Besides `binding INSTANCE`, `bindings`, which
+//! tells their number, `moment`, `copy`, which goes on with the copy.
 
 ghost use Rattle.std.specs.Prelude.{◌<◌};
 ghost use Rattle.apdu.specs.Sizes.{apdu_code};

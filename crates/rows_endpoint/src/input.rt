@@ -1,7 +1,7 @@
 //! What a station hears or does at a moment, in words, and what comes of it. `MOMENT one ADDRESS NPDU` is an NPDU that
 //! was sent from this address to the station alone, `MOMENT all ADDRESS NPDU` one that was sent to all; `MOMENT wake`.
-//! Of a client also `MOMENT issue INSTANCE REQUEST` and `MOMENT who-is`, or `MOMENT who-is LOW HIGH`. Each allocation of
-//! an input is refused in turn: the same input then comes again.
+//! Of a client also `MOMENT issue INSTANCE REQUEST` and `MOMENT who-is`, or `MOMENT who-is LOW HIGH`. Each allocation
+//! of an input is refused in turn: the same input then comes again.
 
 use npdu::{Mac, Parcel, Target};
 use objects::Request;

@@ -1,5 +1,5 @@
-//! The program `rows_endpoint`: what a device and a client on their network say, execute and tell over time (ANSI/ASHRAE
-//! 135, clauses 5.4.4, 5.4.5, 6 and 16.10), run on the rows of its `data/`.
+//! The program `rows_endpoint`: what a device and a client on their network say, execute and tell over time
+//! (ANSI/ASHRAE 135, clauses 5.4.4, 5.4.5, 6 and 16.10), run on the rows of its `data/`.
 //!
 //! - `opened`: the device of the rows.
 //! - `input`: what they hear and do at a moment, with each allocation refused in turn.

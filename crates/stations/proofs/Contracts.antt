@@ -1,14 +1,14 @@
 -- What a station does on an NPDU by its contract goes well.
 use Rattle.std.proofs.Common.{refl}
-use Rattle.deeds.proofs.Doing.{hearing_is_done}
-use Rattle.deeds.specs.Devices.{deed_in}
-use Rattle.told.proofs.Laws.{hearing}
-use Rattle.told.proofs.Places.{all_at}
-use Rattle.told.specs.Heard.{said_in}
-use Rattle.told.specs.Laws.{IsClient}
-use Rattle.told.specs.Safe.{safe_client, station_of}
-use Rattle.told.specs.Told.{acts}
-use Rattle.deeds.specs.Devices.{IsDevice}
+use Rattle.stations_device.proofs.Doing.{hearing_is_done}
+use Rattle.stations_device.specs.Devices.{deed_in}
+use Rattle.stations_client.proofs.Laws.{hearing}
+use Rattle.stations_client.proofs.Places.{all_at}
+use Rattle.stations_client.specs.Heard.{said_in}
+use Rattle.stations_client.specs.Laws.{IsClient}
+use Rattle.stations_client.specs.Safe.{safe_client, station_of}
+use Rattle.stations_client.specs.Told.{acts}
+use Rattle.stations_device.specs.Devices.{IsDevice}
 use Rattle.stations.specs.Laws.{ClientHearingGoes, DeviceHearingGoes}
 use Rattle.stations.proofs.Standing.{client_goes, deed_goes}
 

@@ -1,7 +1,7 @@
 -- What a device executes was issued to it.
 use Rattle.std.proofs.Common.{◌≡◌, refl, sym, subst, [], ◌∷◌, ◌++◌, Some, None}
 use Rattle.apdu.specs.declared.sizes.MaxApdu.{MaxApdu}
-use Rattle.deeds.specs.Devices.{IsDevice, station_of}
+use Rattle.stations_device.specs.Devices.{IsDevice, station_of}
 use Rattle.headline.proofs.Laws.{executed_issues}
 use Rattle.headline.proofs.Whole.{Inv}
 use Rattle.headline.specs.Honest.{IsExecuted, MayExecute}
@@ -15,11 +15,11 @@ use Rattle.object_profile.specs.Profile.{object_profile}
 use Rattle.object_profile.specs.Refined.{ObjectSite, Stations}
 use Rattle.objects.specs.Objects.{PlainTable}
 use Rattle.primitives.specs.declared.plain_data.Request.{Request}
-use Rattle.served.proofs.Executing.{told_may_be_executed}
-use Rattle.served.specs.Laws.{IsHeardFrom, MayBeExecuted}
+use Rattle.stations_server.proofs.Executing.{told_may_be_executed}
+use Rattle.stations_server.specs.Laws.{IsHeardFrom, MayBeExecuted}
 use Rattle.server_tsm.specs.declared.asked.Origin.{Origin}
 use Rattle.services.specs.Asked.{left_by}
-use Rattle.told.proofs.Places.{all_at}
+use Rattle.stations_client.proofs.Places.{all_at}
 use Rattle.stations.specs.Fair.{Stands}
 use Rattle.stations.specs.Laws.{Always, ExecutedIsIssued}
 use Rattle.stations.specs.World.{World, asked_plan, steps}

@@ -15,14 +15,14 @@ use Rattle.object_profile.specs.Laws.{object_laws}
 use Rattle.object_profile.specs.Profile.{object_profile}
 use Rattle.object_profile.specs.Refined.{ObjectSite}
 use Rattle.primitives.specs.declared.plain_data.Request.{Request}
-use Rattle.told.proofs.Acting.{IsAt}
-use Rattle.told.proofs.Hearing.{plan_arm}
-use Rattle.told.proofs.Hears.{body_is}
-use Rattle.told.proofs.Places.{all_at, all_weaken, split_at, split_map}
-use Rattle.told.proofs.Waking.{wake}
-use Rattle.told.specs.Laws.{ClosesHonestly, IsClient}
-use Rattle.told.specs.Safe.{safe_transaction, station_of}
-use Rattle.told.specs.Told.{outcome_of}
+use Rattle.stations_client.proofs.Acting.{IsAt}
+use Rattle.stations_client.proofs.Hearing.{plan_arm}
+use Rattle.stations_client.proofs.Hears.{body_is}
+use Rattle.stations_client.proofs.Places.{all_at, all_weaken, split_at, split_map}
+use Rattle.stations_client.proofs.Waking.{wake}
+use Rattle.stations_client.specs.Laws.{ClosesHonestly, IsClient}
+use Rattle.stations_client.specs.Safe.{safe_transaction, station_of}
+use Rattle.stations_client.specs.Told.{outcome_of}
 use Rattle.stations.specs.Fair.{Stands}
 use Rattle.stations.specs.Laws.{HeardIsOfIssues, IsOfItsIssue, OutcomesAreOfIssues, WokenIsOfIssues}
 use Rattle.stations.specs.World.{World, heard_plan, steps}

@@ -1,7 +1,7 @@
 -- What is promised over every fair list of events.
 use Rattle.std.proofs.Common.{sym, ap, subst, ◌∙◌, List, [], ◌∷◌, ◌++◌}
 use Rattle.std.specs.List.{AllByRecursion}
-use Rattle.deeds.specs.Devices.{IsDevice, station_of}
+use Rattle.stations_device.specs.Devices.{IsDevice, station_of}
 use Rattle.device.specs.Device.{DeviceState}
 use Rattle.headline.proofs.Laws.{executed_issues, outcome_issues, said_stays, tables_of, transaction_issues, whole_answers, whole_requests}
 use Rattle.headline.proofs.Whole.{Inv, from_start}

@@ -1,39 +1,31 @@
 -- The core stays what safety sees of each station, where one of them makes a step.
-use Rattle.std.proofs.Common.{◌≡◌, ◌≢◌, refl, sym, ap, subst, ◌∙◌, ℕ, ◌≤◌, Bool, true, false, cond, Some, arith}
+use Rattle.std.proofs.Common.{◌≡◌, ◌≢◌, refl, sym, ap, subst, ◌∙◌, ℕ, ◌≤◌, Some, arith}
 use Rattle.std.specs.Prelude.{slice_get}
-use Rattle.std.proofs.lemmas.Bool.{false_from_ne_true}
 use Rattle.apdu.specs.declared.sizes.MaxApdu.{MaxApdu}
 use Rattle.client.specs.Client.{ClientState}
-use Rattle.deeds.proofs.Doing.{others_stand}
-use Rattle.deeds.specs.Devices.{Deed, IsDevice, after_deed, announces, idles, left_of_deed, serves}
-use Rattle.deeds.specs.Devices as deeds
+use Rattle.stations_device.proofs.Doing.{others_stand}
+use Rattle.stations_device.specs.Devices.{Deed, IsDevice, after_deed, announces, idles, left_of_deed, serves}
+use Rattle.stations_device.specs.Devices as deeds
 use Rattle.device.specs.Device.{DeviceState}
 use Rattle.headline.proofs.Puts.{put_here}
 use Rattle.headline.specs.Happenings.{put}
 use Rattle.headline.specs.Stations.{Client}
-use Rattle.npdu.proofs.Stations.{one_station}
 use Rattle.npdu.specs.Mac.{same_station}
 use Rattle.npdu.specs.declared.mac.Station.{Station}
 use Rattle.object_profile.specs.Laws.{object_laws}
+use Rattle.object_profile.proofs.Places.{put_other}
 use Rattle.object_profile.specs.Refined.{ObjectSite, Refined, Stations}
 use Rattle.primitives.specs.declared.plain_data.Request.{Request}
-use Rattle.served.specs.Keeping.{AreDistinct}
-use Rattle.served.specs.Refines.{begun_anew}
-use Rattle.told.proofs.Places.{all_weaken}
-use Rattle.told.specs.Kept.{IsWellKept}
-use Rattle.told.specs.Laws.{IsClient}
-use Rattle.told.specs.Safe.{safe_client, station_of}
+use Rattle.stations_server.specs.Keeping.{AreDistinct}
+use Rattle.stations_server.specs.Refines.{begun_anew}
+use Rattle.stations_client.proofs.Places.{all_weaken}
+use Rattle.stations_client.specs.Kept.{IsWellKept}
+use Rattle.stations_client.specs.Laws.{IsClient}
+use Rattle.stations_client.specs.Safe.{safe_client, station_of}
 use Rattle.stations.specs.Fair.{Stands}
 use Rattle.stations.specs.Laws.{Goes}
 use Rattle.stations.specs.World.{World, device_does, with_client, with_device}
 use Rattle.stations.proofs.Lists.{all_replaced, stations_stay}
-
-put_other_at : {X : Type 0} (f : Station → X) (x : Station) (u : X) (b : Bool) → b ≡ false → cond b u (f x) ≡ f x
-put_other_at f x u true e = absurd (cc e)
-put_other_at f x u false e = refl
-
-put_other : {X : Type 0} (f : Station → X) (d x : Station) (u : X) → x ≢ d → put same_station f d u x ≡ f x
-put_other f d x u apart = put_other_at f x u (same_station x d) (false_from_ne_true _ (λ e. apart ((one_station x d).same e)))
 
 module _ {A : Type 0} (own : Station → MaxApdu) (s : ObjectSite A) (w : World A) (at : Stands own s w) where
   -- the clients change at one station, and nothing else that a station is seen by

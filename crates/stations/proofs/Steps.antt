@@ -19,9 +19,9 @@ use Rattle.client_tsm.specs.Hearing.{heard_of}
 use Rattle.client_tsm.specs.Issuing.{issued}
 use Rattle.client_tsm.specs.Waking.{woken}
 use Rattle.client_tsm.specs.declared.plan.Plan.{Plan}
-use Rattle.deeds.proofs.Doing.{opens_at_start, restart_is_done, waking_is_done}
-use Rattle.deeds.specs.Devices.{IsDevice, announces}
-use Rattle.deeds.specs.Devices as deeds
+use Rattle.stations_device.proofs.Doing.{opens_at_start, restart_is_done, waking_is_done}
+use Rattle.stations_device.specs.Devices.{IsDevice, announces}
+use Rattle.stations_device.specs.Devices as deeds
 use Rattle.device.specs.Device.{DeviceState, restarts}
 use Rattle.headline.specs.Happenings.{Says_other, Ticks, start}
 use Rattle.headline.specs.Happenings as core
@@ -34,26 +34,26 @@ use Rattle.object_profile.specs.Profile.{object_profile}
 use Rattle.object_profile.specs.Refined.{ObjectSite, Refined, Stations}
 use Rattle.primitives.specs.declared.plain_data.Reply.{Reply}
 use Rattle.primitives.specs.declared.plain_data.Request.{Request}
-use Rattle.served.proofs.Executing.{step_keeps, step_refines}
-use Rattle.served.proofs.Waking.{announce_refines}
-use Rattle.served.specs.Laws.{IsHeardFrom}
+use Rattle.stations_server.proofs.Executing.{step_keeps, step_refines}
+use Rattle.stations_server.proofs.Waking.{announce_refines}
+use Rattle.stations_server.specs.Laws.{IsHeardFrom}
 use Rattle.server_tsm.specs.Steps as server_steps
 use Rattle.server_tsm.specs.Steps.{effects_of}
 use Rattle.server_tsm.specs.Server as server
 use Rattle.server_tsm.specs.Waking as server_waking
 use Rattle.server_tsm.specs.Hearing as server_hearing
 use Rattle.server_tsm.specs.declared.asked.Origin.{Origin}
-use Rattle.told.proofs.Acting.{IsActed, IsAt}
-use Rattle.told.proofs.Hearing.{plan_arm}
-use Rattle.told.proofs.Hears.{accepts_stay, body_is}
-use Rattle.told.proofs.Laws.{issuing, starts}
-use Rattle.told.proofs.Learning.{holds, introduces, marked_by_leads, marked_by_same, put_leads}
-use Rattle.told.proofs.Places.{all_at}
-use Rattle.told.proofs.Waking.{wake}
-use Rattle.told.specs.Kept.{Leads}
-use Rattle.told.specs.Laws.{IsClient}
-use Rattle.told.specs.Safe.{safe_client, station_of}
-use Rattle.told.specs.Told.{acts, issues, row_of}
+use Rattle.stations_client.proofs.Acting.{IsActed, IsAt}
+use Rattle.stations_client.proofs.Hearing.{plan_arm}
+use Rattle.stations_client.proofs.Hears.{accepts_stay, body_is}
+use Rattle.stations_client.proofs.Laws.{issuing, starts}
+use Rattle.stations_client.proofs.Learning.{holds, introduces, marked_by_leads, marked_by_same, put_leads}
+use Rattle.stations_client.proofs.Places.{all_at}
+use Rattle.stations_client.proofs.Waking.{wake}
+use Rattle.stations_client.specs.Kept.{Leads}
+use Rattle.stations_client.specs.Laws.{IsClient}
+use Rattle.stations_client.specs.Safe.{safe_client, station_of}
+use Rattle.stations_client.specs.Told.{acts, issues, row_of}
 use Rattle.stations.specs.Fair.{AreFair, ClientMayHear, ClientMayLearn, DeviceMayHear, IsNewClient, IsNewDevice, MayIssue, OfOne, Stands}
 use Rattle.stations.specs.Laws.{BeginsWell, Goes, StepRefines}
 use Rattle.stations.specs.World.{Event, Passes, Issues, Asks_who, Client_hears, Client_learns, Client_marks, Client_wakes, Device_hears, Announces, Device_wakes, Restarts, World, asked_plan, client_does, client_holds, client_issues, deed_by, device_does, device_restarts, heard_plan, step, steps, to_one}

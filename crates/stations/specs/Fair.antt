@@ -11,8 +11,8 @@ use Rattle.client.specs.Client.{ClientState, new_client}
 use Rattle.client.specs.Issuing.{refusal}
 use Rattle.client_tsm.specs.Hearing as client_hearing
 use Rattle.client_tsm.specs.Steps as client_steps
-use Rattle.deeds.specs.Devices.{IsDevice}
-use Rattle.deeds.specs.Devices as deeds
+use Rattle.stations_device.specs.Devices.{IsDevice}
+use Rattle.stations_device.specs.Devices as deeds
 use Rattle.device.specs.Device.{DeviceState, new_device}
 use Rattle.headline.specs.Happenings.{start}
 use Rattle.headline.specs.Honest.{IsHeard}
@@ -27,11 +27,11 @@ use Rattle.objects.specs.declared.site.SiteObjects.{SiteObjects}
 use Rattle.primitives.specs.Sound.{IsSoundRequest}
 use Rattle.primitives.specs.declared.plain_data.Reply.{Reply}
 use Rattle.primitives.specs.declared.plain_data.Request.{Request}
-use Rattle.served.specs.Keeping.{AreDistinct}
+use Rattle.stations_server.specs.Keeping.{AreDistinct}
 use Rattle.server_tsm.specs.Hearing as server_hearing
 use Rattle.server_tsm.specs.Steps as server_steps
-use Rattle.told.specs.Laws.{IsClient}
-use Rattle.told.specs.Safe.{station_of}
+use Rattle.stations_client.specs.Laws.{IsClient}
+use Rattle.stations_client.specs.Safe.{station_of}
 use Rattle.stations.specs.World.{Event, Passes, Issues, Asks_who, Client_hears, Client_learns, Client_marks, Client_wakes, Device_hears, Announces, Device_wakes, Restarts, World, now, step}
 
 -- a sound request is issued, which isn't refused (5.4.4.1)

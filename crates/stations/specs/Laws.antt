@@ -10,7 +10,7 @@ use Rattle.client.specs.declared.client.Told as client_told
 use Rattle.client_tsm.specs.Open.{Open}
 use Rattle.client_tsm.specs.Waking.{woken}
 use Rattle.client_tsm.specs.declared.plan.Told.{Told}
-use Rattle.deeds.specs.Devices.{BringsWhatWasSaid, deed_in, left_of_deed, station_of}
+use Rattle.stations_device.specs.Devices.{BringsWhatWasSaid, deed_in, left_of_deed, station_of}
 use Rattle.device.specs.Device.{DeviceState}
 use Rattle.device.specs.Hearing.{DeviceHears}
 use Rattle.device.specs.declared.device.Told as device_told
@@ -32,11 +32,11 @@ use Rattle.primitives.specs.declared.plain_data.Reply.{Reply}
 use Rattle.primitives.specs.declared.plain_data.Request.{Request}
 use Rattle.server_tsm.specs.declared.plan.Executed.{Executed}
 use Rattle.services.specs.Asked.{left_by, replied}
-use Rattle.told.specs.Heard.{said_in}
-use Rattle.told.specs.Laws as client_laws
-use Rattle.told.specs.Safe as client
-use Rattle.told.specs.Safe.{safe_client}
-use Rattle.told.specs.Told.{acts, outcome_of}
+use Rattle.stations_client.specs.Heard.{said_in}
+use Rattle.stations_client.specs.Laws as client_laws
+use Rattle.stations_client.specs.Safe as client
+use Rattle.stations_client.specs.Safe.{safe_client}
+use Rattle.stations_client.specs.Told.{acts, outcome_of}
 use Rattle.stations.specs.Fair.{AreFair, ClientMayHear, DeviceMayHear, IsBegun, IsFair, Stands}
 use Rattle.stations.specs.World.{Event, World, asked_plan, device_does, heard_plan, now, step, steps, with_client}
 

@@ -13,8 +13,8 @@ use Rattle.client_tsm.specs.Hearing as client_hearing
 use Rattle.client_tsm.specs.Issuing.{issued}
 use Rattle.client_tsm.specs.Waking as client_waking
 use Rattle.client_tsm.specs.declared.plan.Plan as client_plan
-use Rattle.deeds.specs.Devices.{Deed, after_deed, announces, left_of_deed, serves}
-use Rattle.deeds.specs.Devices as deeds
+use Rattle.stations_device.specs.Devices.{Deed, after_deed, announces, left_of_deed, serves}
+use Rattle.stations_device.specs.Devices as deeds
 use Rattle.device.specs.Device.{DeviceState, restarts}
 use Rattle.headline.specs.Happenings as core
 use Rattle.history.specs.Book.{Broadcast, Message, Other}
@@ -24,15 +24,15 @@ use Rattle.npdu.specs.declared.message.RejectReason as network
 use Rattle.object_profile.specs.Refined.{ObjectSite, Stations}
 use Rattle.primitives.specs.declared.plain_data.Reply.{Reply}
 use Rattle.primitives.specs.declared.plain_data.Request.{Request}
-use Rattle.served.specs.Refines.{begun_anew}
+use Rattle.stations_server.specs.Refines.{begun_anew}
 use Rattle.server_tsm.specs.Hearing as server_hearing
 use Rattle.server_tsm.specs.Server as server
 use Rattle.server_tsm.specs.Steps.{effects_of}
 use Rattle.server_tsm.specs.Waking as server_waking
 use Rattle.server_tsm.specs.declared.asked.Origin.{Origin}
 use Rattle.server_tsm.specs.declared.plan.Plan as server_plan
-use Rattle.told.specs.Safe.{safe_client, station_of}
-use Rattle.told.specs.Told.{acts, issues, row_of}
+use Rattle.stations_client.specs.Safe.{safe_client, station_of}
+use Rattle.stations_client.specs.Told.{acts, issues, row_of}
 
 -- core: the book, and what safety sees of each station
 pub record World (A : Type 0) : Type 0 where

@@ -1,0 +1,56 @@
+-- A device stays what safety sees of its server, which keeps its answers well, whatever changes of it.
+use Rattle.std.proofs.Common.{◌≡◌, refl, sym, ap, subst, ℕ, List, Some, None, arith}
+use Rattle.std.specs.Prelude.{Option}
+use Rattle.headline.proofs.Puts.{put_here}
+use Rattle.headline.specs.Profile.{Site}
+use Rattle.history.specs.Book.{Book}
+use Rattle.npdu.specs.declared.mac.Station.{Station}
+use Rattle.objects.specs.Objects.{PlainTable}
+use Rattle.object_profile.specs.Laws.{object_laws}
+use Rattle.primitives.specs.declared.plain_data.Reply.{Reply}
+use Rattle.primitives.specs.declared.plain_data.Request.{Request}
+use Rattle.stations_server.proofs.Keeping.{Fits, changed_well}
+use Rattle.stations_server.specs.Keeping.{IsWellKept}
+use Rattle.stations_server.specs.Laws.{IsServed}
+use Rattle.object_profile.specs.Refined.{Stations}
+use Rattle.stations_server.specs.Refines.{served, with_effects}
+use Rattle.stations_server.specs.Safe.{safe_device}
+use Rattle.server_tsm.specs.Server.{ServerTsmState, committed}
+use Rattle.server_tsm.specs.declared.plan.Change.{Change}
+use Rattle.server_tsm.specs.declared.plan.Change.TheVariants.{Stays, Says, Gathers, GivesUp, Executes, Wakes}
+use Rattle.server_tsm.specs.declared.plan.Effects.{Effects}
+use Rattle.server_tsm.specs.declared.plan.Executed as told
+use Rattle.server_tsm.specs.declared.said.Said.{Said}
+
+-- a site where no station is a device
+abbrev pub no_site : {A : Type 0} → ServerTsmState A → Site Station (PlainTable A)
+no_site st = record { instance_of = λ d. None; opening = λ d. st.table }
+
+module _ {A : Type 0} where
+  -- a change has its moment
+  changed_at : (now : ℕ) (change : Change A) (st : ServerTsmState A) → (committed now change st).moment ≡ now
+  changed_at now Stays st = refl
+  changed_at now (Says x) st = refl
+  changed_at now (Gathers a) st = refl
+  changed_at now (GivesUp asker) st = refl
+  changed_at now (Executes request r) st = refl
+  changed_at now (Wakes xs) st = refl
+
+  -- no moment passes while a server says and executes
+  told_moment : (d : Station) (says : List (Said A)) (o : Option (told.Executed A)) (b : Book Station (Request A) (Reply A)) → (with_effects d (record { said = says; told = o }) b).moment ≡ b.moment
+  told_moment d says None b = refl
+  told_moment d says (Some x) b = refl
+
+  pub same_moment : (w : Stations A) (d : Station) (effects : Effects A) → (with_effects d effects w.book).moment ≡ w.book.moment
+  same_moment w d effects = told_moment d effects.said effects.told w.book
+
+  pub still_served : (w : Stations A) (d : Station) (st left : ServerTsmState A) (effects : Effects A) (change : Change A) → IsServed w d st → left ≡ committed w.book.moment change st → Fits d.net w.book.moment st change → IsServed (served d effects left w) d left
+  still_served w d st left effects change v is fits =
+      let at = ap (λ (z : ServerTsmState A). z.moment) is in
+      let moment = changed_at w.book.moment change st in
+      let same = same_moment w d effects in
+      record {
+        device = put_here (object_laws A).test w.devices d (safe_device left);
+        well = subst (λ (z : ServerTsmState A). IsWellKept d.net z) (sym is) (changed_well d.net w.book.moment change st v.order v.well fits);
+        order = omega (arith, at, moment, same);
+      }

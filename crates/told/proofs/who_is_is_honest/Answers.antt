@@ -1,5 +1,0 @@
-use Rattle.told.proofs.Laws.{who_is}
-use Rattle.told.proofs.who_is_is_honest.Goals as goal
-
-pub returns : goal.returns
-returns g c = who_is
