@@ -2,6 +2,5 @@ pub mod Tables
 pub mod Times
 pub mod Reaching
 pub mod Reached
-pub mod Carried
 pub mod Worked
 pub mod Apart

@@ -4,8 +4,8 @@ use Rattle.std.proofs.lemmas.List.Folds.{list_any-append}
 use Rattle.bvll.specs.declared.address.Address.{Address}
 use Rattle.bvll.specs.Datagram.{canonical}
 use Rattle.bvll.specs.Datagram as bvll
-use Rattle.bbmd.specs.Tables.{ManagerState, is_among, same_address, others, members_of, peers_of, served}
-use Rattle.bbmd.specs.Manager.{Saying, all_but, distributed, from_one}
+use Rattle.broadcast_manager.specs.Tables.{ManagerState, is_among, same_address, others, members_of, peers_of, served}
+use Rattle.broadcast_manager.specs.Manager.{Saying, all_but, distributed, from_one}
 use Rattle.bbmd.specs.Laws.{AreApart, BroadcastGoesOn, DistributedGoesOn, ForwardedIsSame, ForwardedStays}
 
 pub or_false : (p q : Bool) → (p || q) ≡ false → (p ≡ false) × (q ≡ false)

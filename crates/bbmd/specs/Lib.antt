@@ -1,5 +1,3 @@
-pub mod Tables
-pub mod Manager
 pub mod Reach
 pub mod Passing
 pub mod Laws

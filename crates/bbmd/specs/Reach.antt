@@ -5,8 +5,8 @@ use Rattle.bvll.specs.declared.address.Address.{Address}
 use Rattle.bvll.specs.Datagram.{Datagram}
 use Rattle.bvll.specs.Datagram as bvll
 use Rattle.bbmd.specs.declared.spreading.Subnet.{Subnet}
-use Rattle.bbmd.specs.Tables.{ManagerState, is_among, others, peers_of, same_address, served}
-use Rattle.bbmd.specs.Manager.{Saying, carrying, from_one, said}
+use Rattle.broadcast_manager.specs.Tables.{ManagerState, is_among, others, peers_of, same_address, served}
+use Rattle.broadcast_manager.specs.Manager.{Saying, carrying, from_one, said}
 
 -- a datagram on its way between two addresses
 pub record Going : Type 0 where

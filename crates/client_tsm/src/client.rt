@@ -6,7 +6,6 @@ ghost use Rattle.client_tsm.specs.Accepts.{accepts_of};
 ghost use Rattle.client_tsm.specs.Client.{changed_at, gathers_on, never_given, renews, sends_on};
 
 use crate::gathering::Gathering;
-use crate::moments::is_free;
 use crate::plan::Change;
 use crate::said::Accepts;
 use crate::transaction::Transaction;
@@ -16,6 +15,7 @@ use segments::numbers::REUSE_MS;
 use services::{MaxApdu, MaxSegments};
 use std::alloc::{AllocError, Allocator};
 use std::marker::Model;
+use transaction_rules::client::is_free;
 
 /// The moment from which each invoke ID may be given, where none was given yet.
 #[tactic(auto, unfolding(crate::specs::Client::never_given))]

@@ -10,7 +10,6 @@
 //! - `issuing`, `hearing`, `waking`: an issue, an APDU that is heard, a wake: what is planned, and the whole step.
 //! - `transaction`, `gathering`: a request that has no end yet, and the segments of its answer.
 //! - `asking`, `limits`: what is said of a request, how long one may be, and how it is cut.
-//! - `moments`: what a moment and a station decide.
 //! - `said`, `plan`: what is said, told and changed.
 //! - `laws`: what holds of any client, for the proofs of the layers above.
 #![tactic(auto)]
@@ -22,7 +21,6 @@ mod hearing;
 mod issuing;
 pub mod laws;
 mod limits;
-mod moments;
 mod plan;
 mod said;
 mod transaction;

@@ -2,7 +2,6 @@
 
 use crate::gathering::Gathering;
 use crate::limits::begun;
-use crate::moments::{is_in_time, is_same_station};
 use crate::said::Accepts;
 use npdu::{Station, Way};
 use objects::Request;
@@ -12,6 +11,7 @@ use services::service_of;
 use std::alloc::{AllocError, Allocator};
 use std::marker::Model;
 use tags::Octets;
+use transaction_rules::client::{is_in_time, is_same_station};
 
 /// A request that has neither an answer nor an end.
 #[derive(Drop)]

@@ -7,10 +7,10 @@ ghost use Rattle.server_tsm.specs.Server.{still_gathered};
 ghost use Rattle.tags.specs.Number.{bit};
 
 use crate::assembly::Assembly;
-use crate::moments::gathers_still;
 use remembered::Asker;
 use segments::numbers::MAX_ASSEMBLIES;
 use std::alloc::{AllocError, Allocator};
+use transaction_rules::server::gathers_still;
 
 impl<A: Allocator> Assembly<A> {
     ghost use Rattle.std.specs.Prelude.{◌≡◌};

@@ -20,7 +20,6 @@ use crate::asked::{AnswerLimits, Asked, Origin};
 use crate::assembling::{assembled, is_crowded};
 use crate::assembly::Assembly;
 use crate::limits::{answer_chunk, fitted};
-use crate::moments::{has_no_place, lives};
 use crate::plan::{Change, Effects, Executed, Plan};
 use crate::said::Said;
 use crate::sending::{Ack, ack_heard, given_up, quiet, repeated};
@@ -32,6 +31,7 @@ use segments::{Receiver, Step, granted_window};
 use services::{AbortReason, Apdu, Executor, RejectReason, Segment, decode_request};
 use std::alloc::{AllocError, Allocator};
 use tags::Items;
+use transaction_rules::server::{has_no_place, lives};
 
 /// The invoke ID of an APDU, 0 where it has none.
 fn invoke_id_of(apdu: &Apdu<'_>) -> u8

@@ -11,7 +11,6 @@
 //!   whole step.
 //! - `answering`, `limits`: what is answered to a request, how long an answer may be, and how it is cut.
 //! - `asked`, `assembling`: who asks, and the segments of a request.
-//! - `moments`: how long an answer lives, a request gathers and a server is quiet.
 //! - `said`, `plan`: what is said, executed and changed.
 //! - `laws`: what holds of any server, for the proofs of the layers above.
 #![tactic(auto)]
@@ -23,7 +22,6 @@ mod assembly;
 mod hearing;
 pub mod laws;
 mod limits;
-mod moments;
 mod plan;
 mod said;
 mod sending;

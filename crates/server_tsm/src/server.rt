@@ -6,13 +6,13 @@ ghost use Rattle.server_tsm.specs.Waking.{all_said_so};
 
 use crate::assembling::{copied, keep_gathered};
 use crate::assembly::Assembly;
-use crate::moments::end_of_quiet;
 use crate::plan::{Change, Saying};
 use objects::Request;
 use remembered::{Asker, Record, Records, SlabRecords};
 use services::{Executor, MaxApdu};
 use std::alloc::{AllocError, Allocator};
 use std::marker::Model;
+use transaction_rules::server::end_of_quiet;
 
 /// The server of transactions.
 #[derive(Drop)]

@@ -5,7 +5,6 @@ ghost use Rattle.std.specs.List.{flat_map};
 ghost use Rattle.server_tsm.specs.Waking.{again, said_of, saying_of, turn_of};
 
 use crate::answering::answer;
-use crate::moments::lives;
 use crate::plan::{Change, Effects, Plan, Saying};
 use crate::said::Said;
 use crate::server::ServerTsm;
@@ -14,6 +13,7 @@ use segments::{Sender, Turn};
 use services::Executor;
 use std::alloc::{AllocError, Allocator};
 use tags::Items;
+use transaction_rules::server::lives;
 
 /// What is done with a remembered answer.
 fn turn_of<A: Allocator>(entry: &Record<A>, now: u64) -> Turn
