@@ -2,8 +2,8 @@
 //! subnet to the managers of the others and to foreign devices, and theirs to its subnet.
 //!
 //! Promised to the layer above, besides what `broadcast_manager` promises of each manager: [`spread`] answers who hears
-//! a broadcast that goes through managers: over full tables each other station once ([`reach`]). There what goes through
-//! a manager never comes back to who said it ([`goes_on`]), nor from one manager through another to a third
+//! a broadcast that goes through managers: over full tables each other station once ([`reach`]). There what goes
+//! through a manager never comes back to who said it ([`goes_on`]), nor from one manager through another to a third
 //! ([`forwarded_stays`], [`full_are_apart`]).
 //!
 //! - `spreading`: who hears a broadcast that goes through managers.

@@ -3,3 +3,4 @@ pub mod Pieces
 pub mod Refining
 pub mod Speaking
 pub mod Places
+pub mod Sending

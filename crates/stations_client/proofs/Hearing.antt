@@ -46,7 +46,7 @@ use Rattle.stations_client.proofs.Acting.{IsActed, IsAt, changes, ends, stays, s
 use Rattle.stations_client.proofs.Joined.{next_nak, next_seen, next_taken, octets_nak, octets_seen, octets_taken, taken_is_next}
 use Rattle.stations_client.proofs.Places.{all_at, has_map}
 use Rattle.stations_client.proofs.Saying.{CanSayAll, MayAskFor, can_acknowledge, can_ask_all, silent}
-use Rattle.stations_client.proofs.Sending.{hears_cut}
+use Rattle.object_profile.proofs.Sending.{hears_cut}
 
 -- an outcome other than a reply
 abbrev pub IsEnd : {A : Type 0} → Outcome A → Type 0

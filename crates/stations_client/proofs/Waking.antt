@@ -44,7 +44,8 @@ use Rattle.stations_client.proofs.Acting.{IsActed, IsAt, having_said}
 use Rattle.stations_client.proofs.Places.{all_join}
 use Rattle.stations_client.proofs.Saying.{CanSayAll, can_ask_all, silent}
 use Rattle.stations_client.specs.Laws.{CanWrite, ClosesHonestly}
-use Rattle.stations_client.proofs.Sending.{begun_cut, wakes_cut}
+use Rattle.object_profile.proofs.Sending.{wakes_cut}
+use Rattle.stations_client.proofs.Sending.{begun_cut}
 
 -- safety sees no difference where a transaction is said again
 safe_again : {A : Type 0} (own : Station → MaxApdu) (sending : Option Cutting) (now : ℕ) (o : Open A) → safe_transaction own (again_by sending now o) ≡ safe_transaction own o

@@ -8,13 +8,14 @@ use Rattle.apdu.specs.declared.sizes.MaxApdu.TheVariants.{UpTo50, UpTo128, UpTo2
 use Rattle.apdu.specs.declared.sizes.MaxSegments.{MaxSegments}
 use Rattle.apdu.specs.declared.sizes.MaxSegments.TheVariants.{Unspecified, Two, Four, Eight, Sixteen, ThirtyTwo, SixtyFour, More}
 use Rattle.history.specs.Book.{Answer}
+use Rattle.object_profile.proofs.Sending.{wakes_cut}
 use Rattle.object_profile.specs.Bodies.{answer_in}
 use Rattle.primitives.specs.declared.plain_data.Reply.{Reply}
 use Rattle.primitives.specs.declared.plain_data.Reply.TheVariants.{Values, Many, Done, Error, ErrorAt}
 use Rattle.primitives.specs.declared.plain_data.Request.{Request}
 use Rattle.remembered.specs.declared.record.RememberedAnswer.{RememberedAnswer}
 use Rattle.remembered.specs.declared.record.RememberedAnswer.TheVariants as kept
-use Rattle.segments.specs.Cutting.{Cutting, acknowledges_if, has_ended, hears, hears_if, is_heard, is_timed_out, nothing_sent, wakes, wakes_if}
+use Rattle.segments.specs.Cutting.{Cutting, nothing_sent, wakes}
 use Rattle.segments.specs.Numbers.{MAX_OCTETS}
 use Rattle.segments.specs.Pieces.{piece_count}
 use Rattle.stations_server.specs.Keeping.{AreNumbered, CanBeCut, IsSentIn}
@@ -23,29 +24,6 @@ use Rattle.server_tsm.specs.Answering.{answer_apdu, answer_of}
 use Rattle.server_tsm.specs.Limits.{answer_chunk, begins_if, begun, fitted, fitted_if, goes_whole, is_too_long}
 use Rattle.server_tsm.specs.Waking.{again}
 use Rattle.server_tsm.specs.declared.asked.AnswerLimits.{AnswerLimits}
-
--- the size of the pieces stays
-acknowledged_chunk : (b : Bool) (now number window : ℕ) (c : Cutting) → (acknowledges_if b now number window c).state.chunk ≡ c.chunk
-acknowledged_chunk true now number window c = refl
-acknowledged_chunk false now number window c = refl
-
-hears_if_chunk : (b h : Bool) (now number window : ℕ) (c : Cutting) → (hears_if b h now number window c).state.chunk ≡ c.chunk
-hears_if_chunk true h now number window c = refl
-hears_if_chunk false h now number window c = acknowledged_chunk h now number window c
-
-pub hears_chunk : (now number window : ℕ) (nak : Bool) (c : Cutting) → (hears now number window nak c).state.chunk ≡ c.chunk
-unfolding hears
-hears_chunk now number window nak c = hears_if_chunk (has_ended now c) (is_heard number nak c) now number window c
-
-wakes_if_chunk : (a b t : Bool) (now : ℕ) (c : Cutting) → (wakes_if a b t now c).state.chunk ≡ c.chunk
-wakes_if_chunk true b t now c = refl
-wakes_if_chunk false true t now c = refl
-wakes_if_chunk false false true now c = refl
-wakes_if_chunk false false false now c = refl
-
-wakes_chunk : (now : ℕ) (c : Cutting) → (wakes now c).state.chunk ≡ c.chunk
-unfolding wakes
-wakes_chunk now c = wakes_if_chunk _ (has_ended now c) (is_timed_out now c) now c
 
 -- how many segments a client takes, and how many octets an APDU has
 few_taken : (m : MaxSegments) → segments_taken m ≤ 64
@@ -75,7 +53,7 @@ begins_sent : (A : Type 0) (b : Bool) (now chunk : ℕ) (octets : List ℕ) → 
 begins_sent A true now chunk octets e one few = tt
 begins_sent A false now chunk octets e one few =
     let same : max 1 chunk ≡ chunk = omega arith in
-    (wakes_chunk now (nothing_sent (length octets) (max 1 chunk)) ∙ same, few e)
+    (wakes_cut now (nothing_sent (length octets) (max 1 chunk)) ∙ same, few e)
 
 -- an answer that fits
 fitted_few : (limits : AnswerLimits) (chunk : ℕ) (octets : List ℕ) → is_too_long limits chunk (length octets) ≡ false → AreNumbered chunk octets
@@ -107,7 +85,7 @@ module _ {A : Type 0} where
   -- one that wakes
   pub again_sent : (now chunk : ℕ) (answer : RememberedAnswer A) (sending : Option Cutting) → IsSentIn chunk answer sending → IsSentIn chunk answer (again now sending)
   again_sent now chunk answer None h = tt
-  again_sent now chunk answer (Some c) h = sent_on chunk answer c (wakes now c).state (wakes_chunk now c) h
+  again_sent now chunk answer (Some c) h = sent_on chunk answer c (wakes now c).state (wakes_cut now c) h
 
   pub begun_sent : (now chunk : ℕ) (answer : RememberedAnswer A) → 1 ≤ chunk → CanBeCut chunk answer → IsSentIn chunk answer (begun now chunk answer)
   begun_sent now chunk (kept.Complex octets) one few = begins_sent A (goes_whole chunk (length octets)) now chunk octets refl one few

@@ -33,7 +33,8 @@ use Rattle.stations_server.proofs.Keeping.{FitsSaying, one_each}
 use Rattle.stations_server.proofs.Listed.{all_both, all_has, all_so, has_map}
 use Rattle.stations_server.proofs.Records.{IsRemembered, one_asker, remembered_is, safe_said}
 use Rattle.stations_server.proofs.Saying.{CanTell, IsHonestlySaid, IsNoAnswer, answer_told, free_said}
-use Rattle.stations_server.proofs.Sending.{begun_sent, hears_chunk, sent_on}
+use Rattle.object_profile.proofs.Sending.{hears_cut}
+use Rattle.stations_server.proofs.Sending.{begun_sent, sent_on}
 use Rattle.stations_server.specs.Keeping.{IsSayable, IsSentIn}
 use Rattle.stations_server.specs.Laws.{IsServed}
 use Rattle.object_profile.specs.Refined.{Stations}
@@ -151,7 +152,7 @@ module _ {A : Type 0} (s : Site Station (PlainTable A)) (w : Stations A) (d : St
   ack_quiet None number window negative way asker r m k e h = nothing_quiet
   ack_quiet (Some c) number window negative way asker r m k e h =
       let t = hears w.book.moment number window negative c in
-      turned_quiet t.turn t.state way asker r m k e (sent_on r.chunk r.answer c t.state (hears_chunk w.book.moment number window negative c) h)
+      turned_quiet t.turn t.state way asker r m k e (sent_on r.chunk r.answer c t.state (hears_cut w.book.moment number window negative c) h)
 
   -- what is remembered can be said
   sayable : (asker : Asker) (r : Record A) → IsRemembered w.book.moment asker st.records r → IsSayable d.net r
