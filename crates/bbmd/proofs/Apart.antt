@@ -2,7 +2,8 @@
 use Rattle.std.proofs.Common.{◌≡◌, ◌≤◌, ℕ, ◌+◌, true, false, Bool, List, ◌∷◌, ◌++◌, ap, arith, refl, ◌∙◌, not, cond}
 use Rattle.bvll.specs.declared.address.Address.{Address}
 use Rattle.bbmd.specs.declared.spreading.Subnet.{Subnet}
-use Rattle.broadcast_manager.specs.Tables.{ManagerState, is_among, same_address, members_of, peers_of, served}
+use Rattle.broadcast_tables.specs.Tables.{is_among, same_address, served}
+use Rattle.broadcast_manager.specs.State.{ManagerState, members_of, peers_of}
 use Rattle.bbmd.specs.Reach.{everyone, managers_of, owns, times}
 use Rattle.bbmd.specs.Laws.{FullAreApart}
 use Rattle.bbmd.proofs.Times.{among_times, no_times_among, same_is, times-others}

@@ -7,7 +7,8 @@ use Rattle.bvll.specs.declared.address.Address.{Address}
 use Rattle.bvll.specs.Datagram.{Datagram}
 use Rattle.bvll.specs.Datagram as bvll
 use Rattle.bbmd.specs.declared.spreading.Subnet.{Subnet}
-use Rattle.broadcast_manager.specs.Tables.{ManagerState, is_among, same_address, others, members_of, peers_of, served}
+use Rattle.broadcast_tables.specs.Tables.{is_among, same_address, others, served}
+use Rattle.broadcast_manager.specs.State.{ManagerState, members_of, peers_of}
 use Rattle.broadcast_manager.specs.Manager.{carrying, said, from_one, distributed, all_but}
 use Rattle.bbmd.specs.Reach.{Going, times, managers_of, owns, going, passed, asked_of, begun_in, begun, three_ways, stations, hearers, all_in, everyone, IsManaged, AreFull, IsReached, Reaches}
 use Rattle.bbmd.proofs.Times.{same_is, itself_is, first_counts, times-append, among_times, times_among, not_among_times, no_times_among, times-filter, total, total-append, times-others, times_itself, is_false, all_split}

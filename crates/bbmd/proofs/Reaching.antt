@@ -8,7 +8,8 @@ use Rattle.bvll.specs.declared.address.Address.{Address}
 use Rattle.bvll.specs.Datagram.{Datagram}
 use Rattle.bvll.specs.Datagram as bvll
 use Rattle.bbmd.specs.declared.spreading.Subnet.{Subnet}
-use Rattle.broadcast_manager.specs.Tables.{ManagerState, is_among, same_address, members_of, peers_of, served}
+use Rattle.broadcast_tables.specs.Tables.{is_among, same_address, served}
+use Rattle.broadcast_manager.specs.State.{ManagerState, members_of, peers_of}
 use Rattle.broadcast_manager.specs.Manager.{carrying, said, from_one}
 use Rattle.bbmd.specs.Reach.{Going, times, managers_of, owns, going, passed_by, passed, all_in, everyone, IsManaged}
 use Rattle.bbmd.proofs.Times.{same_is, times-append, among_times, times_among, total, total-append, total-more, times-others, times_itself, is_false}

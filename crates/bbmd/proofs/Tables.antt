@@ -4,7 +4,8 @@ use Rattle.std.proofs.lemmas.List.Folds.{list_any-append}
 use Rattle.bvll.specs.declared.address.Address.{Address}
 use Rattle.bvll.specs.Datagram.{canonical}
 use Rattle.bvll.specs.Datagram as bvll
-use Rattle.broadcast_manager.specs.Tables.{ManagerState, is_among, same_address, others, members_of, peers_of, served}
+use Rattle.broadcast_tables.specs.Tables.{is_among, same_address, others, served}
+use Rattle.broadcast_manager.specs.State.{ManagerState, members_of, peers_of}
 use Rattle.broadcast_manager.specs.Manager.{Saying, all_but, distributed, from_one}
 use Rattle.bbmd.specs.Laws.{AreApart, BroadcastGoesOn, DistributedGoesOn, ForwardedIsSame, ForwardedStays}
 

@@ -3,7 +3,8 @@ use Rattle.std.specs.Prelude.{◌≡◌, ℕ, true, false, List, ◌∷◌, ◌+
 use Rattle.bvll.specs.declared.address.Address.{Address}
 use Rattle.bvll.specs.Datagram.{Spells, canonical}
 use Rattle.bvll.specs.Datagram as bvll
-use Rattle.broadcast_manager.specs.Tables.{ManagerState, is_among, members_of, peers_of, served}
+use Rattle.broadcast_tables.specs.Tables.{is_among, served}
+use Rattle.broadcast_manager.specs.State.{ManagerState, members_of, peers_of}
 use Rattle.broadcast_manager.specs.Manager.{Saying, said}
 use Rattle.bbmd.specs.Reach.{AreFull}
 use Rattle.bbmd.specs.declared.spreading.Subnet.{Subnet}

@@ -5,7 +5,8 @@ use Rattle.bvll.specs.declared.address.Address.{Address}
 use Rattle.bvll.specs.Datagram.{Datagram}
 use Rattle.bvll.specs.Datagram as bvll
 use Rattle.bbmd.specs.declared.spreading.Subnet.{Subnet}
-use Rattle.broadcast_manager.specs.Tables.{ManagerState, is_among, others, peers_of, same_address, served}
+use Rattle.broadcast_tables.specs.Tables.{is_among, others, same_address, served}
+use Rattle.broadcast_manager.specs.State.{ManagerState, peers_of}
 use Rattle.broadcast_manager.specs.Manager.{Saying, carrying, from_one, said}
 
 -- a datagram on its way between two addresses

@@ -2,7 +2,7 @@
 use Rattle.std.specs.Prelude.{ℕ, List, [], ◌∷◌, Some}
 use Rattle.bvll.specs.declared.address.Address.{Address}
 use Rattle.bbmd.specs.declared.spreading.Subnet.{Subnet}
-use Rattle.broadcast_manager.specs.Tables.{ManagerState}
+use Rattle.broadcast_manager.specs.State.{ManagerState}
 
 -- a port at 127.0.0.1
 abbrev pub at_port : ℕ → Address

@@ -3,8 +3,9 @@ use Rattle.std.proofs.Common.{◌≡◌, ℕ, Bool, true, false, List, [], refl}
 use Rattle.std.specs.Prelude.{unwrap_or}
 use Rattle.bvll.specs.declared.address.Address.{Address}
 use Rattle.bvll.specs.Datagram as bvll
-use Rattle.broadcast_manager.specs.Tables.{ManagerState}
-use Rattle.broadcast_manager.specs.Manager.{all_but, carried_to, distributed, from_one, listed}
+use Rattle.broadcast_tables.specs.Tables.{listed}
+use Rattle.broadcast_manager.specs.State.{ManagerState}
+use Rattle.broadcast_manager.specs.Manager.{all_but, carried_to, distributed, from_one}
 
 pub carried_from_one : (b : Bool) (to : List Address) (origin : Address) (npdu : List ℕ) →
     unwrap_or (listed b to) [] ≡ carried_to (from_one b (record { to = to; what = bvll.forwarded origin npdu }))

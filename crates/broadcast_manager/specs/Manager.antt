@@ -5,9 +5,10 @@ use Rattle.bvll.specs.Datagram.{Datagram, canonical, Spells, NoDatagram}
 use Rattle.bvll.specs.Datagram as bvll
 use Rattle.tags.specs.declared.fault.Fault.{Fault}
 use Rattle.tags.specs.declared.fault.Fault.TheVariants.{Memory, TooLong}
-use Rattle.broadcast_manager.specs.declared.registration.Registration.{Registration}
+use Rattle.broadcast_tables.specs.declared.registration.Registration.{Registration}
+use Rattle.broadcast_tables.specs.Tables.{has_room, is_among, living, others, served, told, two_hops, without}
 use Rattle.broadcast_manager.specs.declared.saying.Sent.{Sent}
-use Rattle.broadcast_manager.specs.Tables.{ManagerState, is_among, others, members_of, peers_of, served, living, without, told, two_hops}
+use Rattle.broadcast_manager.specs.State.{ManagerState, members_of, peers_of}
 
 -- a datagram to each of these
 pub record Saying : Type 0 where
@@ -27,11 +28,6 @@ sent (Some s) = sent_to s.to s.what
 abbrev pub back : Address → Datagram → Option Saying
 back from d = Some (record { to = from ∷ []; what = d })
 
--- these, where it is from one of those
-abbrev pub listed : Bool → List Address → Option (List Address)
-listed true to = Some to
-listed false to = None
-
 -- this from one of those alone
 abbrev pub from_one : Bool → Saying → Option Saying
 from_one true s = Some s
@@ -44,7 +40,7 @@ code_if false nak = nak
 
 -- there is a place for this device: fewer than 32 others are served
 abbrev pub has_place : ℕ → Address → ManagerState → Bool
-has_place now a st = nat_lt (length (without now a st.foreign)) 32
+has_place now a st = has_room now a st.foreign
 
 -- who hears what a foreign device has distributed: members, managers, the other foreign devices (J.4.5)
 abbrev pub all_but : ℕ → Address → ManagerState → List Address

@@ -5,19 +5,13 @@
 //! order, and leaves exactly the registrations that it ought to; it refuses want of memory, and what is too long
 //! to be forwarded, and is then as it was.
 //!
-//! - `registration`: foreign devices, and how long they are served.
-//! - `addresses`: lists of addresses without one of them.
-//! - `entries`: what a manager tells of its tables.
 //! - `saying`: a datagram to each of several addressees.
 //! - `manager`: what a manager knows, says and changes.
 #![tactic(auto)]
 
-pub mod addresses;
-mod entries;
 mod manager;
-mod registration;
 mod saying;
 
-pub use manager::{Bbmd, MAX_FOREIGN_DEVICES, MAX_PEERS};
-pub use registration::{GRACE_SECONDS, Registration};
+pub use broadcast_tables::registration::{GRACE_SECONDS, MAX_FOREIGN_DEVICES, Registration};
+pub use manager::{Bbmd, MAX_PEERS};
 pub use saying::{MAX_FORWARDED_OCTETS, Sent};

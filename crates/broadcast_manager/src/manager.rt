@@ -3,13 +3,15 @@
 ghost use Rattle.std.specs.Prelude.{◌≡◌, ◌≤◌, ◌^◌, ◌⊎◌, true, false, IfOk, IfErr, OnOk, OnErr, length, map, option_map, ◌++◌};
 ghost use Rattle.bvll.specs.Datagram as bvll;
 ghost use Rattle.bvll.specs.Datagram.{datagram_of};
-ghost use Rattle.broadcast_manager.specs.Tables.{ManagerState, has_few_peers, is_among, living, members_of, new_manager, others, peers_of, served, told, two_hops, without, woken};
-ghost use Rattle.broadcast_manager.specs.Manager.{IsCause, IsHeard, IsTooLong, all_but, back, carried_to, code_if, has_place, is_too_long, left, listed, registered, said, sent};
+ghost use Rattle.broadcast_tables.specs.Tables.{is_among, listed, living, served, told, two_hops, without};
+ghost use Rattle.broadcast_manager.specs.State.{ManagerState, has_few_peers, members_of, new_manager, peers_of, woken};
+ghost use Rattle.broadcast_manager.specs.Manager.{IsCause, IsHeard, IsTooLong, all_but, back, carried_to, code_if, has_place, is_too_long, left, registered, said, sent};
 
-use crate::addresses::{append_other_devices, append_others, is_among, or_nobody};
-use crate::entries::{distribution_entries, foreign_entries};
-use crate::registration::{Registration, count_without, keep_living, keep_others, served};
 use crate::saying::{Sent, forward, say_to};
+use broadcast_tables::addresses::{append_others, is_among, or_nobody};
+use broadcast_tables::entries::{distribution_entries, foreign_entries};
+use broadcast_tables::forwarding::{broadcast_to, distributed_to, forwarded_to};
+use broadcast_tables::registration::{Registration, has_room, keep_living, keep_others, served};
 use bvll::{Address, Bvll, ResultCode, Table};
 use std::alloc::{AllocError, Allocator};
 use std::marker::Model;
@@ -17,9 +19,6 @@ use tags::{Fault, Items};
 
 /// How many other managers a network has at most.
 pub const MAX_PEERS: usize = 16;
-
-/// How many foreign devices a manager serves at most.
-pub const MAX_FOREIGN_DEVICES: usize = 32;
 
 /// A broadcast manager.
 #[derive(Drop)]
@@ -176,24 +175,6 @@ impl<A: Allocator + Copy> Bbmd<A> {
         }
     }
 
-    /// The members of its subnet, without itself.
-    fn members(&self) -> Result<Vec<Address, A>, AllocError>
-        ensures { IfOk result (λ all. all.items ≡ members_of self.now) }
-    {
-        let mut all = Vec::new(self.alloc());
-        append_others(&mut all, self.own, self.members.as_slice())?;
-        Ok(all)
-    }
-
-    /// The other managers.
-    fn peers(&self) -> Result<Vec<Address, A>, AllocError>
-        ensures { IfOk result (λ all. all.items ≡ peers_of self.now) }
-    {
-        let mut all = Vec::new(self.alloc());
-        append_others(&mut all, self.own, self.managers.as_slice())?;
-        Ok(all)
-    }
-
     /// The foreign devices that are served.
     fn served(&self, now: u64) -> Result<Vec<Address, A>, AllocError>
         ensures { IfOk result (λ all. all.items ≡ served now self.now.foreign) }
@@ -206,21 +187,15 @@ impl<A: Allocator + Copy> Bbmd<A> {
         ensures { IfOk result (λ to. option_map (λ v. v.items) to ≡
             listed (is_among from (members_of self.now)) (peers_of self.now ++ served now self.now.foreign)) }
     {
-        if !is_among(from, self.members()?.as_slice()) {
-            return Ok(None);
-        }
-        let mut to = self.peers()?;
-        to.extend_from_slice(self.served(now)?.as_slice())?;
-        Ok(Some(to))
-    }
-
-    /// The members of its subnet and the foreign devices that are served: whom no other manager says it to.
-    fn own_addressees(&self, now: u64) -> Result<Vec<Address, A>, AllocError>
-        ensures { IfOk result (λ to. to.items ≡ members_of self.now ++ served now self.now.foreign) }
-    {
-        let mut addressees = self.members()?;
-        addressees.extend_from_slice(self.served(now)?.as_slice())?;
-        Ok(addressees)
+        broadcast_to(
+            self.alloc(),
+            from,
+            self.own,
+            self.members.as_slice(),
+            self.managers.as_slice(),
+            self.foreign.as_slice(),
+            now,
+        )
     }
 
     /// To whom a broadcast goes that comes from another manager, where it does (J.4.5).
@@ -228,20 +203,15 @@ impl<A: Allocator + Copy> Bbmd<A> {
         ensures { IfOk result (λ to. option_map (λ v. v.items) to ≡
             listed (is_among from (peers_of self.now)) (members_of self.now ++ served now self.now.foreign)) }
     {
-        if !is_among(from, self.peers()?.as_slice()) {
-            return Ok(None);
-        }
-        Ok(Some(self.own_addressees(now)?))
-    }
-
-    /// To whom a broadcast goes that one of the foreign devices that are served asks for: to all but itself.
-    fn all_but(&self, from: Address, served: &[Address]) -> Result<Vec<Address, A>, AllocError>
-        ensures { IfOk result (λ to. to.items ≡ members_of self.now ++ (peers_of self.now ++ others from served.now)) }
-    {
-        let mut to = self.members()?;
-        to.extend_from_slice(self.peers()?.as_slice())?;
-        append_other_devices(&mut to, from, served)?;
-        Ok(to)
+        forwarded_to(
+            self.alloc(),
+            from,
+            self.own,
+            self.members.as_slice(),
+            self.managers.as_slice(),
+            self.foreign.as_slice(),
+            now,
+        )
     }
 
     /// To whom a broadcast goes that a foreign device asks for, where it is served (J.2.10, J.4.5).
@@ -249,11 +219,15 @@ impl<A: Allocator + Copy> Bbmd<A> {
         ensures { IfOk result (λ to. option_map (λ v. v.items) to ≡
             listed (is_among from (served now self.now.foreign)) (all_but now from self.now)) }
     {
-        let served = self.served(now)?;
-        if !is_among(from, served.as_slice()) {
-            return Ok(None);
-        }
-        Ok(Some(self.all_but(from, served.as_slice())?))
+        distributed_to(
+            self.alloc(),
+            from,
+            self.own,
+            self.members.as_slice(),
+            self.managers.as_slice(),
+            self.foreign.as_slice(),
+            now,
+        )
     }
 
     /// To whom the NPDU of a datagram is forwarded at the moment `now`, in milliseconds: to nobody, where it isn't.
@@ -382,7 +356,7 @@ impl<A: Allocator + Copy> Bbmd<A> {
     fn has_place(&self, from: Address, now: u64) -> bool
         ensures { result ≡ has_place now from self.now }
     {
-        count_without(self.foreign.as_slice(), from, now) < MAX_FOREIGN_DEVICES
+        has_room(self.foreign.as_slice(), from, now)
     }
 
     /// What is said to a foreign device that registers (J.2.6).

@@ -1,7 +1,7 @@
 //! Registrations of foreign devices (J.5.2).
 
-ghost use Rattle.std.specs.Prelude.{◌≡◌, ◌≤◌, length, IfOk};
-ghost use Rattle.broadcast_manager.specs.Tables.{life, lives, living, seconds_left, served, told, without};
+ghost use Rattle.std.specs.Prelude.{◌≡◌, ◌≤◌, nat_lt, length, IfOk};
+ghost use Rattle.broadcast_tables.specs.Tables.{has_room, life, lives, living, seconds_left, served, told, without};
 
 use crate::addresses::is_same;
 use bvll::{Address, ForeignDevice};
@@ -10,6 +10,9 @@ use std::cmp::min;
 
 /// How many seconds a registration lives on behind those that it asks for (J.5.2.3).
 pub const GRACE_SECONDS: u64 = 30;
+
+/// How many foreign devices a manager serves at most.
+pub const MAX_FOREIGN_DEVICES: usize = 32;
 
 /// A foreign device that is served, for so many seconds from a moment on, in milliseconds (J.5.2).
 #[derive(Clone, Copy, Debug, PartialEq, Eq)]
@@ -54,11 +57,18 @@ impl Registration {
     }
 }
 
+/// The device that a registration is of.
+fn device_of(registration: Registration) -> Address
+    ensures { result ≡ registration.device }
+{
+    registration.device
+}
+
 /// The foreign devices that are served at the moment `now`, in milliseconds.
 ///
 /// # Errors
 /// Want of memory.
-pub(crate) fn served<A: Allocator>(
+pub fn served<A: Allocator>(
     alloc: A,
     registrations: &[Registration],
     now: u64,
@@ -68,14 +78,14 @@ pub(crate) fn served<A: Allocator>(
     let mut devices = Vec::new(alloc);
     for registration in registrations {
         if registration.lives(now) {
-            devices.push(registration.device)?;
+            devices.push(device_of(*registration))?;
         }
     }
     Ok(devices)
 }
 
 /// How many registrations live at the moment `now`, in milliseconds, without that of this device.
-pub(crate) fn count_without(registrations: &[Registration], device: Address, now: u64) -> usize
+fn count_without(registrations: &[Registration], device: Address, now: u64) -> usize
     ensures { result ≡ length (without now device registrations.now) }
 {
     let mut count = 0;
@@ -87,8 +97,22 @@ pub(crate) fn count_without(registrations: &[Registration], device: Address, now
     count
 }
 
+/// Whether a manager that serves so many foreign devices serves one more.
+fn serves_more(count: usize) -> bool
+    ensures { result ≡ nat_lt count 32 }
+{
+    count < MAX_FOREIGN_DEVICES
+}
+
+/// Whether there is room for this device at the moment `now`, in milliseconds: fewer than 32 others are served (J.2.6).
+pub fn has_room(registrations: &[Registration], device: Address, now: u64) -> bool
+    ensures { result ≡ has_room now device registrations.now }
+{
+    serves_more(count_without(registrations, device, now))
+}
+
 /// Keeps the registrations that live at the moment `now`, in milliseconds.
-pub(crate) fn keep_living<A: Allocator>(registrations: &mut Vec<Registration, A>, now: u64)
+pub fn keep_living<A: Allocator>(registrations: &mut Vec<Registration, A>, now: u64)
     ensures living { registrations.new.items ≡ living now registrations.old.items }
     ensures fewer { length registrations.new.items ≤ length registrations.old.items }
 {
@@ -96,7 +120,7 @@ pub(crate) fn keep_living<A: Allocator>(registrations: &mut Vec<Registration, A>
 }
 
 /// Keeps the registrations that live at the moment `now`, in milliseconds, without that of this device.
-pub(crate) fn keep_others<A: Allocator>(
+pub fn keep_others<A: Allocator>(
     registrations: &mut Vec<Registration, A>,
     device: Address,
     now: u64,

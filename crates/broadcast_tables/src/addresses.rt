@@ -1,7 +1,7 @@
 //! Lists of addresses.
 
 ghost use Rattle.std.specs.Prelude.{◌≡◌, ◌++◌, [], OnOk, option_map, unwrap_or};
-ghost use Rattle.broadcast_manager.specs.Tables.{is_among, others, same_address};
+ghost use Rattle.broadcast_tables.specs.Tables.{is_among, others, same_address};
 
 use bvll::Address;
 use std::alloc::{AllocError, Allocator};
@@ -54,10 +54,7 @@ pub(crate) fn append_other_devices<A: Allocator>(
 }
 
 /// These addresses, or none.
-pub(crate) fn or_nobody<A: Allocator>(
-    alloc: A,
-    addresses: Option<Vec<Address, A>>,
-) -> Vec<Address, A>
+pub fn or_nobody<A: Allocator>(alloc: A, addresses: Option<Vec<Address, A>>) -> Vec<Address, A>
     ensures { result.items ≡ unwrap_or (option_map (λ v. v.items) addresses) [] }
 {
     match addresses {

@@ -1,11 +1,11 @@
--- The tables of a broadcast manager (J.4.3, J.5.2).
-use Rattle.std.specs.Prelude.{ℕ, ◌+◌, ◌-◌, ◌*◌, ◌/◌, ◌==◌, ◌&&◌, nat_eq, nat_le, not, min, Bool, List, [], ◌∷◌, map, filter, length}
+-- What the tables of a broadcast manager say (J.4.3, J.5.2).
+use Rattle.std.specs.Prelude.{ℕ, ◌+◌, ◌-◌, ◌*◌, ◌/◌, ◌==◌, ◌&&◌, nat_eq, nat_le, nat_lt, not, min, Bool, true, false, List, [], ◌∷◌, map, filter, length, Option, Some, None}
 use Rattle.std.specs.List.{list_any}
 use Rattle.std.specs.Cmp.Lexicographic.{pointwise}
 use Rattle.bvll.specs.declared.address.Address.{Address}
 use Rattle.bvll.specs.declared.entry.DistributionEntry.{DistributionEntry}
 use Rattle.bvll.specs.declared.entry.ForeignDevice.{ForeignDevice}
-use Rattle.broadcast_manager.specs.declared.registration.Registration.{Registration}
+use Rattle.broadcast_tables.specs.declared.registration.Registration.{Registration}
 
 -- two addresses have the same octets and port (J.1.2)
 abbrev pub same_address : Address → Address → Bool
@@ -55,36 +55,11 @@ served now rs = map (λ r. r.device) (living now rs)
 abbrev pub without : ℕ → Address → List Registration → List Registration
 without now a rs = filter (λ r. lives now r && not (same_address r.device a)) rs
 
--- what a manager knows: itself, the members of its subnet, all managers of the network, its foreign devices
-pub record ManagerState : Type 0 where
-  pub own : Address
-  pub members : List Address
-  pub managers : List Address
-  pub foreign : List Registration
-  pub moment : ℕ
+-- there is room for this device: fewer than 32 others are served
+abbrev pub has_room : ℕ → Address → List Registration → Bool
+has_room now a rs = nat_lt (length (without now a rs)) 32
 
--- the members of its subnet, without itself
-abbrev pub members_of : ManagerState → List Address
-members_of st = others st.own st.members
-
--- the other managers
-abbrev pub peers_of : ManagerState → List Address
-peers_of st = others st.own st.managers
-
--- a manager of few peers, for whom no foreign device is registered (J.4.3)
-abbrev pub new_manager : Address → List Address → List Address → ManagerState
-new_manager own members managers = record {
-  own = own;
-  members = members;
-  managers = managers;
-  foreign = [];
-  moment = 0;
-}
-
--- at most 16 other managers, and itself once
-abbrev pub has_few_peers : Address → List Address → Bool
-has_few_peers own managers = nat_le (length (others own managers)) 16 && nat_le (length managers) 17
-
--- at a wake registrations that have ended are forgotten (J.5.2.3)
-abbrev pub woken : ℕ → ManagerState → ManagerState
-woken now st = record st { foreign = living now st.foreign; moment = now }
+-- these, where it is from one of those
+abbrev pub listed : Bool → List Address → Option (List Address)
+listed true to = Some to
+listed false to = None

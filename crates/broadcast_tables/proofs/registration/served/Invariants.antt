@@ -1,7 +1,7 @@
 use Rattle.std.proofs.Common.{◌≡◌, ◌++◌}
 use Rattle.std.specs.Prelude.{drop}
-use Rattle.broadcast_manager.specs.Tables.{served}
-use Rattle.broadcast_manager.proofs.registration.served.Given as goal
+use Rattle.broadcast_tables.specs.Tables.{served}
+use Rattle.broadcast_tables.proofs.registration.served.Given as goal
 
 -- those so far, and those that are left
 abbrev pub invariant-loop-registration : goal.invariant-loop-registration

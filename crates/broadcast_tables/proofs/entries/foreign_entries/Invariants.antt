@@ -1,7 +1,7 @@
 use Rattle.std.proofs.Common.{◌≡◌, ◌++◌, length, ◌≤◌}
 use Rattle.std.specs.Prelude.{drop, map}
-use Rattle.broadcast_manager.specs.Tables.{living, told}
-use Rattle.broadcast_manager.proofs.entries.foreign_entries.Given as goal
+use Rattle.broadcast_tables.specs.Tables.{living, told}
+use Rattle.broadcast_tables.proofs.entries.foreign_entries.Given as goal
 
 -- those so far and those that are left, and no more than were gone through
 abbrev pub invariant-loop-registration : goal.invariant-loop-registration

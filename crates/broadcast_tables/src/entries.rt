@@ -1,7 +1,7 @@
 //! The entries of a manager's two tables, as it tells them.
 
 ghost use Rattle.std.specs.Prelude.{◌≡◌, ◌≤◌, length, map, IfOk};
-ghost use Rattle.broadcast_manager.specs.Tables.{lives, living, told, two_hops};
+ghost use Rattle.broadcast_tables.specs.Tables.{lives, living, told, two_hops};
 
 use crate::registration::Registration;
 use bvll::{Address, DistributionEntry, ForeignDevice};
@@ -21,7 +21,7 @@ fn two_hops(address: Address) -> DistributionEntry
 ///
 /// # Errors
 /// Want of memory.
-pub(crate) fn distribution_entries<A: Allocator>(
+pub fn distribution_entries<A: Allocator>(
     alloc: A,
     managers: &[Address],
 ) -> Result<Vec<DistributionEntry, A>, AllocError>
@@ -46,7 +46,7 @@ fn is_told(registration: Registration, now: u64) -> bool
 ///
 /// # Errors
 /// Want of memory.
-pub(crate) fn foreign_entries<A: Allocator>(
+pub fn foreign_entries<A: Allocator>(
     alloc: A,
     registrations: &[Registration],
     now: u64,

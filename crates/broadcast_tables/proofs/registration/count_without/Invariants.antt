@@ -1,7 +1,7 @@
 use Rattle.std.proofs.Common.{◌≡◌, length, ◌+◌, ◌≤◌}
 use Rattle.std.specs.Prelude.{drop}
-use Rattle.broadcast_manager.specs.Tables.{without}
-use Rattle.broadcast_manager.proofs.registration.count_without.Given as goal
+use Rattle.broadcast_tables.specs.Tables.{without}
+use Rattle.broadcast_tables.proofs.registration.count_without.Given as goal
 
 -- those so far and those that are left, and no more than were gone through
 abbrev pub invariant-loop-registration : goal.invariant-loop-registration

@@ -1,7 +1,7 @@
 use Rattle.std.proofs.Common.{◌≡◌, ◌++◌}
 use Rattle.std.specs.Prelude.{drop}
-use Rattle.broadcast_manager.specs.Tables.{others}
-use Rattle.broadcast_manager.proofs.addresses.append_others.Given as goal
+use Rattle.broadcast_tables.specs.Tables.{others}
+use Rattle.broadcast_tables.proofs.addresses.append_others.Given as goal
 
 -- those so far, and those that are left
 abbrev pub invariant-loop-address : goal.invariant-loop-address
