@@ -2,9 +2,9 @@
 use Rattle.std.proofs.Common.{◌≡◌, ◌≢◌, ◌∙◌, refl, sym, ap, subst, ℕ, Bool, true, false, List, [], ◌∷◌, Option, Some, None}
 use Rattle.std.proofs.lemmas.Bool.{eqb-true, eqb-false, eq-eqb, ne_eqb}
 use Rattle.std.specs.Prelude.{cond, if◌then◌else◌, map, option_map}
-use Rattle.client.specs.Binding.{binding_of, is_of, marked, put}
+use Rattle.client_rules.specs.Binding.{binding_of, is_of, marked, put}
 use Rattle.client.specs.Laws.{IsOnce, MarkedAlone, MarkedIsOnce, OthersStay, PutIsHeld, PutIsOnce}
-use Rattle.client.specs.declared.binding.Binding.{Binding}
+use Rattle.client_rules.specs.declared.binding.Binding.{Binding}
 
 -- what stands first is found, or what is behind it
 first_found : (n : ℕ) (x : Binding) (xs : List Binding) → is_of n x ≡ true → binding_of n (x ∷ xs) ≡ Some x

@@ -10,7 +10,7 @@ use Rattle.client_tsm.specs.Steps.{IsPlan, effects_of}
 use Rattle.client_tsm.specs.declared.plan.Plan.{Plan}
 use Rattle.npdu.specs.declared.mac.Station.{Station}
 use Rattle.npdu.specs.declared.mac.Way.{Way}
-use Rattle.client.specs.Binding.{has_place, introduced, put}
+use Rattle.client_rules.specs.Binding.{has_place, introduced, put}
 use Rattle.client.specs.Client.{ClientState}
 use Rattle.client.specs.Hearing.{IsIAm, IsNoIAm, Learnt, Transacts, silence}
 use Rattle.client.specs.Saying.{told_of}

@@ -1,4 +1,3 @@
-pub mod Places
 pub mod HearLaws
 pub mod BindingLaws
 pub mod HeardLaws

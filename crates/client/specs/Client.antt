@@ -6,7 +6,7 @@ use Rattle.client_tsm.specs.Client.{ClientTsmState}
 use Rattle.client_tsm.specs.Client as tsm
 use Rattle.npdu.specs.declared.mac.Mac.{Mac}
 use Rattle.npdu.specs.declared.mac.Station.{Station}
-use Rattle.client.specs.declared.binding.Binding.{Binding}
+use Rattle.client_rules.specs.declared.binding.Binding.{Binding}
 
 -- its client of transactions; the devices that it is bound to, in the order of their first I-Ams; its network and its
 -- address there

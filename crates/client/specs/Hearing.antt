@@ -14,10 +14,10 @@ use Rattle.npdu.specs.declared.mac.Station.{Station}
 use Rattle.npdu.specs.declared.mac.Target.{Target}
 use Rattle.npdu.specs.declared.mac.Way.{Way}
 use Rattle.unitdata.specs.Hearing.{Brings, BringsNothing, Content, Heard, OnlyBrings, refuses, says}
-use Rattle.client.specs.Binding.{has_place, introduced, marked_by, put}
+use Rattle.client_rules.specs.Binding.{has_place, introduced, marked_by, put}
 use Rattle.client.specs.Client.{ClientState}
 use Rattle.client.specs.Saying.{told_of}
-use Rattle.client.specs.declared.binding.Binding.{Binding}
+use Rattle.client_rules.specs.declared.binding.Binding.{Binding}
 use Rattle.client.specs.declared.client.Told.{Told}
 
 -- nothing is said or told

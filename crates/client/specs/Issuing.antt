@@ -3,14 +3,14 @@ use Rattle.std.specs.Prelude.{◌≡◌, ℕ, Bool, true, false, Option, Some, N
 use Rattle.client_tsm.specs.Client.{ClientTsmState, committed}
 use Rattle.client_tsm.specs.Issuing.{issued}
 use Rattle.client_tsm.specs.Issuing as tsm
-use Rattle.client_tsm.specs.declared.said.Bound.{Bound}
+use Rattle.client_rules.specs.declared.bound.Bound.{Bound}
 use Rattle.primitives.specs.declared.plain_data.Request.{Request}
 use Rattle.tags.specs.declared.fault.Fault.{Fault}
 use Rattle.tags.specs.declared.fault.Fault.TheVariants.{Unbound, NoRoute}
-use Rattle.client.specs.Binding.{binding_of}
+use Rattle.client_rules.specs.Binding.{binding_of}
 use Rattle.client.specs.Client.{ClientState}
 use Rattle.client.specs.Saying.{parcels_of}
-use Rattle.client.specs.declared.binding.Binding.{Binding}
+use Rattle.client_rules.specs.declared.binding.Binding.{Binding}
 use Rattle.client.specs.declared.client.Issued.{Issued}
 
 -- a network that a router refused, before what the client of transactions refuses

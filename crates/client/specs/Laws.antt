@@ -3,8 +3,8 @@ use Rattle.std.specs.Prelude.{◌≡◌, ◌≢◌, ℕ, List, [], ◌∷◌, ma
 use Rattle.apdu.specs.Apdu.{apdu_of, HasNamedNumbers}
 use Rattle.apdu.specs.declared.apdu.Apdu.{Apdu}
 use Rattle.client_tsm.specs.Hearing.{heard_of}
-use Rattle.client.specs.Binding.{binding_of, marked, put}
-use Rattle.client.specs.declared.binding.Binding.{Binding}
+use Rattle.client_rules.specs.Binding.{binding_of, marked, put}
+use Rattle.client_rules.specs.declared.binding.Binding.{Binding}
 
 -- a binding that is put is that of its instance
 abbrev pub PutIsHeld : Type 0

@@ -1,4 +1,3 @@
-pub mod Binding
 pub mod Client
 pub mod Hearing
 pub mod Issuing

@@ -1,9 +1,10 @@
 -- What a client says, in parcels (6.2.2, 16.10.1).
-use Rattle.std.specs.Prelude.{ℕ, Bool, true, false, List, [], ◌∷◌, Option}
+use Rattle.std.specs.Prelude.{ℕ, Bool, true, false, List, [], ◌∷◌, Option, is_some}
 use Rattle.std.specs.List.{flat_map}
 use Rattle.apdu.specs.Apdu.{unconfirmed}
 use Rattle.apdu.specs.ApduWriting.{canonical}
 use Rattle.apdu.specs.Unconfirmed.{limits_octets, service_number}
+use Rattle.apdu.specs.declared.pdu_type.PduType.TheVariants as pdu
 use Rattle.apdu.specs.declared.unconfirmed.Limits.{Limits}
 use Rattle.apdu.specs.declared.unconfirmed.UnconfirmedService.TheVariants as service
 use Rattle.client_tsm.specs.Said.{said_apdu, said_way}
@@ -13,13 +14,15 @@ use Rattle.client_tsm.specs.declared.said.Said.TheVariants as said
 use Rattle.npdu.specs.declared.mac.Mac.{Mac}
 use Rattle.npdu.specs.declared.mac.Target.TheVariants.{One, All}
 use Rattle.npdu.specs.declared.parcel.Parcel.{Parcel}
+use Rattle.station_rules.specs.Saying as rule
 use Rattle.unitdata.specs.Saying.{global_npdu, is_spelled, npdu_to}
 use Rattle.client.specs.declared.client.Told.{Told}
 
 -- a reply is expected to a request and to each segment of one, and to nothing else that a client says (6.2.2)
 abbrev pub expects_reply : {A : Type 0} → Said A → Bool
-expects_reply (said.Request way accepts segment invoke service octets) = true
-expects_reply (said.SegmentAck way negative invoke sequence window) = false
+expects_reply (said.Request way accepts segment invoke service octets) =
+    rule.expects_reply pdu.ConfirmedRequest (is_some segment)
+expects_reply (said.SegmentAck way negative invoke sequence window) = rule.expects_reply pdu.SegmentAck false
 
 -- the NPDU of what is said
 abbrev pub npdu_of : {A : Type 0} → Said A → List ℕ

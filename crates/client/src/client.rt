@@ -1,7 +1,7 @@
 //! A client on its network, and its wake.
 
-use crate::binding::{Binding, binding_of};
 use crate::saying::parcels_of;
+use client_rules::{Binding, binding_of};
 use client_tsm::{ClientTsm, Plan};
 use npdu::{Mac, Parcel, Station};
 use services::MaxApdu;
@@ -56,7 +56,7 @@ impl<A: Allocator + Copy> Client<A> {
     ghost use Rattle.client_tsm.specs.Client.{committed};
     ghost use Rattle.client_tsm.specs.Steps.{effects_of};
     ghost use Rattle.client_tsm.specs.Waking.{woken};
-    ghost use Rattle.client.specs.Binding as spec;
+    ghost use Rattle.client_rules.specs.Binding as spec;
     ghost use Rattle.client.specs.Client.{new_client};
     ghost use Rattle.client.specs.Saying.{told_of};
 

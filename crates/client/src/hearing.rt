@@ -3,8 +3,8 @@
 ghost use Rattle.std.specs.Prelude.{◌≡◌, IfSome, IfNone};
 ghost use Rattle.client.specs.Hearing.{IsIAm, IsNoIAm, silence};
 
-use crate::binding::{introduced, mark, put};
 use crate::client::{Client, Told};
+use client_rules::{introduced, mark, put};
 use npdu::{Parcel, Rejected, Station, Way};
 use services::{Apdu, IAm, UnconfirmedService, i_am_from};
 use std::alloc::Allocator;
@@ -36,7 +36,7 @@ fn i_am_in(service: u8, octets: &[u8]) -> Option<IAm>
 impl<A: Allocator + Copy> Client<A> {
     ghost use Rattle.std.specs.Prelude.{◌≡◌, ◌≤◌, ◌^◌, ◌⊎◌, true, false, IfOk, IfErr, OnOk, OnErr};
     ghost use Rattle.apdu.specs.Apdu.{HasNamedNumbers, apdu_of};
-    ghost use Rattle.client.specs.Binding.{has_place, introduced, marked_by, put};
+    ghost use Rattle.client_rules.specs.Binding.{has_place, introduced, marked_by, put};
     ghost use Rattle.client.specs.Hearing.{BringsTooMany, ClientHears, Does, IsTooMany, Learnt, Overflows, Transacts};
     ghost use Rattle.unitdata.specs.Hearing.{BringsSomething, says};
 

@@ -6,20 +6,18 @@
 //! its device and no other; a router that has no route to a network closes the bindings on it, each until a new I-Am
 //! of its device; an issue goes to where the device is bound; all else is for the client of transactions.
 //!
-//! - `binding`: what it knows of devices.
 //! - `client`: the client, and its wake.
 //! - `issuing`, `hearing`: what it asks, and what it does on a parcel.
 //! - `saying`: what it says, in parcels.
 //! - `laws`: what holds of any client and its bindings, for the proofs of the layers above.
 #![tactic(auto)]
 
-mod binding;
 mod client;
 mod hearing;
 mod issuing;
 pub mod laws;
 mod saying;
 
-pub use binding::Binding;
 pub use client::{Client, Issued, Told};
+pub use client_rules::Binding;
 pub use laws::{marked_alone, once, one_heard, put_is_held};

@@ -8,7 +8,7 @@ ghost use Rattle.unitdata.specs.Saying as header;
 
 use client_tsm::Said;
 use npdu::{Mac, Parcel, Target};
-use services::{Apdu, Limits, UnconfirmedService, WhoIs, write_who_is};
+use services::{Apdu, Limits, PduType, UnconfirmedService, WhoIs, write_who_is};
 use std::alloc::Allocator;
 use tags::{Fault, Items, Octets};
 use unitdata::{begin, begin_global, is_spelled};
@@ -18,8 +18,10 @@ fn expects_reply<A: Allocator>(said: &Said<A>) -> bool
     ensures { result ≡ spec.expects_reply said.now }
 {
     match said {
-        Said::Request { .. } => true,
-        Said::SegmentAck { .. } => false,
+        Said::Request { segment, .. } => {
+            station_rules::expects_reply(PduType::ConfirmedRequest, segment.is_some())
+        }
+        Said::SegmentAck { .. } => station_rules::expects_reply(PduType::SegmentAck, false),
     }
 }
 

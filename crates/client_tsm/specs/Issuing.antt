@@ -10,7 +10,7 @@ use Rattle.client_tsm.specs.Limits.{apdu_limit, begun, is_too_long}
 use Rattle.client_tsm.specs.Open.{Open}
 use Rattle.client_tsm.specs.declared.plan.Change.TheVariants.{Opens}
 use Rattle.client_tsm.specs.declared.plan.Plan.{Plan}
-use Rattle.client_tsm.specs.declared.said.Bound.{Bound}
+use Rattle.client_rules.specs.declared.bound.Bound.{Bound}
 
 -- too long before no free invoke ID
 abbrev pub refusal_if : (is_too_long may_issue : Bool) → Option Fault

@@ -5,7 +5,7 @@ use Rattle.segments.specs.Cutting.{Cutting, nothing_sent, wakes}
 use Rattle.segments.specs.Numbers.{MAX_OCTETS, MAX_SEGMENTS}
 use Rattle.segments.specs.Pieces.{piece_count}
 use Rattle.client_tsm.specs.Accepts.{PlainAccepts}
-use Rattle.client_tsm.specs.declared.said.Bound.{Bound}
+use Rattle.client_rules.specs.declared.bound.Bound.{Bound}
 
 -- how many octets an APDU has at most: what both sides take, and 50 that each station takes (5.2.1.2, 20.1.2.5)
 abbrev pub apdu_limit : PlainAccepts → Bound → ℕ

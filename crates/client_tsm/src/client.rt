@@ -10,12 +10,12 @@ use crate::plan::Change;
 use crate::said::Accepts;
 use crate::transaction::Transaction;
 use crate::waking::wake_all;
+use client_rules::is_free;
 use segments::Sender;
 use segments::numbers::REUSE_MS;
 use services::{MaxApdu, MaxSegments};
 use std::alloc::{AllocError, Allocator};
 use std::marker::Model;
-use transaction_rules::client::is_free;
 
 /// The moment from which each invoke ID may be given, where none was given yet.
 #[tactic(auto, unfolding(crate::specs::Client::never_given))]

@@ -27,8 +27,9 @@ mod transaction;
 mod waking;
 
 pub use client::ClientTsm;
+pub use client_rules::Bound;
 pub use gathering::Gathering;
 pub use laws::{one_plan, told_is_open, whole_is_given, woken_are_ended};
 pub use plan::{Change, Effects, Issued, Outcome, Plan, Told};
-pub use said::{Accepts, Bound, Said};
+pub use said::{Accepts, Said};
 pub use transaction::Transaction;

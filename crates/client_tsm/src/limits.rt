@@ -3,7 +3,8 @@
 ghost use Rattle.std.specs.Prelude.{◌≡◌, ◌≤◌, length};
 ghost use Rattle.client_tsm.specs.Limits.{apdu_limit, begun, goes_whole, is_too_long};
 
-use crate::said::{Accepts, Bound};
+use crate::said::Accepts;
+use client_rules::Bound;
 use segments::numbers::{MAX_OCTETS, MAX_SEGMENTS};
 use segments::{Sender, piece_count};
 use std::cmp::{max, min};

@@ -1,6 +1,6 @@
 //! What a client says, and to whom.
 
-use npdu::{Station, Way};
+use npdu::Way;
 use services::{MaxApdu, MaxSegments, Segment};
 use std::alloc::Allocator;
 use std::marker::Model;
@@ -37,17 +37,6 @@ impl Model for Accepts {
     } };
 
     ghost invariant = { λ a. apdu_code a.max_apdu < 16 };
-}
-
-/// A device as a client knows it (16.10): where it is, and what it takes.
-#[derive(Clone, Copy, Debug, PartialEq, Eq)]
-pub struct Bound {
-    /// Its network and its address there.
-    pub station: Station,
-    /// How a message goes to it.
-    pub way: Way,
-    /// How many octets an APDU to it has at most; fewer than 50 count as 50.
-    pub max_apdu: u16,
 }
 
 /// What a client says of a transaction.

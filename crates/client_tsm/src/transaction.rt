@@ -3,6 +3,7 @@
 use crate::gathering::Gathering;
 use crate::limits::begun;
 use crate::said::Accepts;
+use client_rules::{is_in_time, is_same_station};
 use npdu::{Station, Way};
 use objects::Request;
 use segments::numbers::{APDU_TIMEOUT_MS, ASSEMBLY_TIMEOUT_MS, NUMBER_OF_APDU_RETRIES};
@@ -11,7 +12,6 @@ use services::service_of;
 use std::alloc::{AllocError, Allocator};
 use std::marker::Model;
 use tags::Octets;
-use transaction_rules::client::{is_in_time, is_same_station};
 
 /// A request that has neither an answer nor an end.
 #[derive(Drop)]

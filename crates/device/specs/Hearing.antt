@@ -1,10 +1,7 @@
 -- What a device does with a parcel that it hears: what it says, what it executes, and what it is then (5.4.5, 16.10.2).
-use Rattle.std.specs.Prelude.{◌≡◌, ◌⊎◌, ℕ, not, List, [], ◌∷◌, Option, None}
+use Rattle.std.specs.Prelude.{◌≡◌, ◌⊎◌, ℕ, not, List, [], ◌∷◌, None}
 use Rattle.apdu.specs.Apdu.{PlainApdu, apdu_of, unconfirmed, HasNamedNumbers}
-use Rattle.apdu.specs.Unconfirmed.{Covers, SpellsWhoIs, service_number}
 use Rattle.apdu.specs.declared.apdu.Apdu.{Apdu}
-use Rattle.apdu.specs.declared.unconfirmed.Limits.{Limits}
-use Rattle.apdu.specs.declared.unconfirmed.UnconfirmedService.TheVariants.{WhoIs}
 use Rattle.npdu.specs.declared.mac.Mac.{Mac}
 use Rattle.npdu.specs.declared.mac.Target.{Target}
 use Rattle.server_tsm.specs.Hearing.{heard_of}
@@ -12,6 +9,7 @@ use Rattle.server_tsm.specs.Server.{ServerTsmState}
 use Rattle.server_tsm.specs.Steps.{IsStep}
 use Rattle.server_tsm.specs.declared.asked.Origin.{Origin}
 use Rattle.server_tsm.specs.declared.plan.Effects.{Effects}
+use Rattle.station_rules.specs.Hearing.{AsksOther, AsksWho}
 use Rattle.unitdata.specs.Hearing.{Brings, BringsNothing, Content, Heard, OnlyBrings, refuses, says}
 use Rattle.device.specs.Device.{DeviceState, i_am_of}
 use Rattle.device.specs.Saying.{i_am_parcel, told_of}
@@ -24,17 +22,6 @@ origin_of h = record { station = h.station; way = h.way; by_broadcast = not h.al
 -- nothing is said, and nothing executed
 abbrev pub silence : {A : Type 0} → Told A
 silence = record { said = []; executed = None }
-
--- an unconfirmed request is a Who-Is that asks for the device of this instance (16.10.2)
-pub record AsksWho (instance service : ℕ) (octets : List ℕ) : Type 0 where
-  pub limits : Option Limits
-  pub who_is : service ≡ service_number WhoIs
-  pub spelled : SpellsWhoIs octets limits
-  pub covered : Covers limits instance
-
--- .. or it isn't
-pub record AsksOther (instance service : ℕ) (octets : List ℕ) : Type 0 where
-  pub none : AsksWho instance service octets → ⊥
 
 -- it says who it is
 abbrev pub says_who : {A : Type 0} → ℕ → DeviceState A → Told A

@@ -4,6 +4,7 @@ use Rattle.std.specs.List.{flat_map}
 use Rattle.apdu.specs.Apdu.{unconfirmed}
 use Rattle.apdu.specs.ApduWriting.{canonical}
 use Rattle.apdu.specs.Unconfirmed.{i_am_octets, service_number}
+use Rattle.apdu.specs.declared.pdu_type.PduType.TheVariants as pdu
 use Rattle.apdu.specs.declared.unconfirmed.IAm.{IAm}
 use Rattle.apdu.specs.declared.unconfirmed.UnconfirmedService.TheVariants as kind
 use Rattle.npdu.specs.declared.mac.Mac.{Mac}
@@ -13,13 +14,18 @@ use Rattle.server_tsm.specs.Said.{said_octets, said_way}
 use Rattle.server_tsm.specs.declared.plan.Effects.{Effects}
 use Rattle.server_tsm.specs.declared.said.Said.{Said}
 use Rattle.server_tsm.specs.declared.said.Said.TheVariants as said
+use Rattle.station_rules.specs.Saying as rule
 use Rattle.unitdata.specs.Saying.{global_npdu, is_spelled, npdu_to}
 use Rattle.device.specs.declared.device.Told.{Told}
 
--- a reply is expected to a segment of an answer, and to nothing else that a device says (6.2.2)
+-- a reply is expected to a segment of an answer, and to nothing else that a device says: a whole answer of any type
+-- counts as a ComplexACK that is whole (6.2.2)
 abbrev pub expects_reply : {A : Type 0} → Said A → Bool
-expects_reply (said.Segment way invoke service segment octets) = true
-expects_reply s = false
+expects_reply (said.Answer way invoke service answer) = rule.expects_reply pdu.ComplexAck false
+expects_reply (said.Segment way invoke service segment octets) = rule.expects_reply pdu.ComplexAck true
+expects_reply (said.SegmentAck way negative invoke number window) = rule.expects_reply pdu.SegmentAck false
+expects_reply (said.Reject way invoke reason) = rule.expects_reply pdu.Reject false
+expects_reply (said.Abort way invoke reason) = rule.expects_reply pdu.Abort false
 
 -- the NPDU of what is said
 abbrev pub npdu_of : {A : Type 0} → Said A → List ℕ

@@ -1,14 +1,15 @@
 //! What a device does with a parcel that it hears.
 
-ghost use Rattle.std.specs.Prelude.{◌≡◌, IsTrue, IsFalse};
-ghost use Rattle.device.specs.Hearing.{AsksOther, AsksWho, origin_of, silence};
+ghost use Rattle.std.specs.Prelude.{◌≡◌};
+ghost use Rattle.device.specs.Hearing.{origin_of, silence};
 ghost use Rattle.unitdata.specs.Heard.{heard_of};
 
 use crate::device::{Device, Told};
 use crate::saying::{i_am_parcel, parcels_of};
 use npdu::Parcel;
 use server_tsm::{Origin, Plan};
-use services::{Apdu, UnconfirmedService, who_is_from};
+use services::Apdu;
+use station_rules::asks_who;
 use std::alloc::Allocator;
 use tags::{Fault, Items};
 use unitdata::{Content, Heard, hear};
@@ -31,20 +32,6 @@ fn origin_of(heard: &Heard<'_>) -> Origin
         station: heard.station,
         way: heard.way,
         by_broadcast: !heard.alone,
-    }
-}
-
-/// Whether an unconfirmed request is a Who-Is that asks for the device of this instance.
-fn asks_who(instance: u32, service: u8, data: &[u8]) -> bool
-    ensures asks { IsTrue result → AsksWho instance service data.now }
-    ensures other { IsFalse result → AsksOther instance service data.now }
-{
-    if service != u8::from(UnconfirmedService::WhoIs) {
-        return false;
-    }
-    match who_is_from(data) {
-        Some(who_is) => who_is.covers(instance),
-        None => false,
     }
 }
 

@@ -8,7 +8,7 @@ ghost use Rattle.unitdata.specs.Saying as header;
 
 use npdu::{Mac, Parcel, Target};
 use server_tsm::Said;
-use services::{Apdu, IAm, UnconfirmedService, write_i_am};
+use services::{Apdu, IAm, PduType, UnconfirmedService, write_i_am};
 use std::alloc::Allocator;
 use tags::{Fault, Items, Octets};
 use unitdata::{begin, begin_global, is_spelled};
@@ -18,9 +18,11 @@ fn expects_reply<A: Allocator>(said: &Said<A>) -> bool
     ensures { result ≡ spec.expects_reply said.now }
 {
     match said {
-        Said::Segment { .. } => true,
-        Said::Answer { .. } | Said::SegmentAck { .. } | Said::Reject { .. } | Said::Abort { .. } =>
-            false,
+        Said::Answer { .. } => station_rules::expects_reply(PduType::ComplexAck, false),
+        Said::Segment { .. } => station_rules::expects_reply(PduType::ComplexAck, true),
+        Said::SegmentAck { .. } => station_rules::expects_reply(PduType::SegmentAck, false),
+        Said::Reject { .. } => station_rules::expects_reply(PduType::Reject, false),
+        Said::Abort { .. } => station_rules::expects_reply(PduType::Abort, false),
     }
 }
 

@@ -9,8 +9,8 @@ ghost use Rattle.tags.specs.Number.{bit};
 use crate::assembly::Assembly;
 use remembered::Asker;
 use segments::numbers::MAX_ASSEMBLIES;
+use server_rules::gathers_still;
 use std::alloc::{AllocError, Allocator};
-use transaction_rules::server::gathers_still;
 
 impl<A: Allocator> Assembly<A> {
     ghost use Rattle.std.specs.Prelude.{◌≡◌};

@@ -28,10 +28,10 @@ use objects::{Reply, Request};
 use remembered::{Asker, Record, Records};
 use segments::numbers::MAX_OCTETS;
 use segments::{Receiver, Step, granted_window};
+use server_rules::{has_no_place, lives};
 use services::{AbortReason, Apdu, Executor, RejectReason, Segment, decode_request};
 use std::alloc::{AllocError, Allocator};
 use tags::Items;
-use transaction_rules::server::{has_no_place, lives};
 
 /// The invoke ID of an APDU, 0 where it has none.
 fn invoke_id_of(apdu: &Apdu<'_>) -> u8

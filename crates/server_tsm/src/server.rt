@@ -9,10 +9,10 @@ use crate::assembly::Assembly;
 use crate::plan::{Change, Saying};
 use objects::Request;
 use remembered::{Asker, Record, Records, SlabRecords};
+use server_rules::restart;
 use services::{Executor, MaxApdu};
 use std::alloc::{AllocError, Allocator};
 use std::marker::Model;
-use transaction_rules::server::end_of_quiet;
 
 /// The server of transactions.
 #[derive(Drop)]
@@ -122,8 +122,7 @@ impl<E: Executor<A> + Drop, A: Allocator + Copy> ServerTsm<E, A> {
     {
         self.records.clear();
         self.assemblies.clear();
-        self.executor = executor;
-        self.quiet_until = end_of_quiet(now);
+        restart(&mut self.executor, &mut self.quiet_until, executor, now);
         self.moment = now;
     }
 

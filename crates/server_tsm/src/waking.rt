@@ -10,10 +10,10 @@ use crate::said::Said;
 use crate::server::ServerTsm;
 use remembered::{Record, Records, SlabRecords};
 use segments::{Sender, Turn};
+use server_rules::lives;
 use services::Executor;
 use std::alloc::{AllocError, Allocator};
 use tags::Items;
-use transaction_rules::server::lives;
 
 /// What is done with a remembered answer.
 fn turn_of<A: Allocator>(entry: &Record<A>, now: u64) -> Turn

@@ -7,11 +7,11 @@ use Rattle.apdu.specs.declared.apdu.Apdu.{Apdu}
 use Rattle.apdu.specs.declared.numbers.RejectReason.{RejectReason}
 use Rattle.apdu.specs.declared.sizes.MaxApdu.{MaxApdu}
 use Rattle.apdu.specs.declared.unconfirmed.IAm.{IAm}
-use Rattle.client.specs.Binding as binding
-use Rattle.client.specs.Binding.{binding_of, introduced, marked_by}
+use Rattle.client_rules.specs.Binding as binding
+use Rattle.client_rules.specs.Binding.{binding_of, introduced, marked_by}
 use Rattle.client.specs.Client.{ClientState}
 use Rattle.client.specs.Saying.{parcels_of}
-use Rattle.client.specs.declared.binding.Binding.{Binding}
+use Rattle.client_rules.specs.declared.binding.Binding.{Binding}
 use Rattle.client.specs.declared.client.Issued.{Issued}
 use Rattle.client_tsm.specs.Accepts.{PlainAccepts}
 use Rattle.client_tsm.specs.Client as client

@@ -4,10 +4,10 @@ use Rattle.apdu.specs.declared.apdu.Apdu.{Apdu}
 use Rattle.apdu.specs.declared.numbers.RejectReason.{RejectReason}
 use Rattle.apdu.specs.declared.sizes.MaxApdu.{MaxApdu}
 use Rattle.apdu.specs.declared.unconfirmed.IAm.{IAm}
-use Rattle.client.specs.Binding as binding
-use Rattle.client.specs.Binding.{binding_of, introduced, marked_by}
+use Rattle.client_rules.specs.Binding as binding
+use Rattle.client_rules.specs.Binding.{binding_of, introduced, marked_by}
 use Rattle.client.specs.Client.{ClientState}
-use Rattle.client.specs.declared.binding.Binding.{Binding}
+use Rattle.client_rules.specs.declared.binding.Binding.{Binding}
 use Rattle.client_tsm.specs.Client as client
 use Rattle.client_tsm.specs.Hearing as client_hearing
 use Rattle.client_tsm.specs.Issuing.{issued}

@@ -7,7 +7,7 @@ use Rattle.npdu.specs.Mac.{same_station}
 use Rattle.segments.specs.Numbers.{DEADLINE_MS}
 use Rattle.apdu.specs.declared.apdu.Segment.{Segment}
 use Rattle.apdu.specs.declared.sizes.MaxApdu.{MaxApdu}
-use Rattle.client.specs.declared.binding.Binding.{Binding}
+use Rattle.client_rules.specs.declared.binding.Binding.{Binding}
 use Rattle.client_tsm.specs.Asking.{asked_by}
 use Rattle.client_tsm.specs.Client.{ClientTsmState, committed, gathers_on, heard_at, renews, sends_on}
 use Rattle.client_tsm.specs.Hearing as tsm

@@ -6,11 +6,11 @@ use Rattle.apdu.specs.Apdu as plain
 use Rattle.apdu.specs.declared.apdu.Apdu.{Apdu}
 use Rattle.apdu.specs.declared.apdu.Apdu.TheVariants as apdu
 use Rattle.apdu.specs.declared.sizes.MaxApdu.{MaxApdu}
-use Rattle.client.specs.Binding.{introduced, marked_by}
+use Rattle.client_rules.specs.Binding.{introduced, marked_by}
 use Rattle.client.specs.Client.{ClientState}
 use Rattle.client.specs.Hearing.{ClientHears, Does, Holds, Ignores, Introduces, Learnt, Transacts}
 use Rattle.client.specs.Saying.{told_of}
-use Rattle.client.specs.declared.binding.Binding.{Binding}
+use Rattle.client_rules.specs.declared.binding.Binding.{Binding}
 use Rattle.client.specs.declared.client.Told.{Told}
 use Rattle.client_tsm.specs.Client.{ClientTsmState, committed}
 use Rattle.client_tsm.specs.Hearing.{heard_of, invoke_id_of, message_of}

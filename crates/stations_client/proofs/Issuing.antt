@@ -5,9 +5,9 @@ use Rattle.std.proofs.lemmas.List.{map-append}
 use Rattle.std.specs.Prelude.{◌||◌, cond, nat_le, nat_lt, slice_index}
 use Rattle.std.specs.List.{AllByRecursion, find}
 use Rattle.apdu.specs.declared.sizes.MaxApdu.{MaxApdu}
-use Rattle.client.specs.Binding.{binding_of, is_of}
+use Rattle.client_rules.specs.Binding.{binding_of, is_of}
 use Rattle.client.specs.Issuing.{refusal_by, refusal_if}
-use Rattle.client.specs.declared.binding.Binding.{Binding}
+use Rattle.client_rules.specs.declared.binding.Binding.{Binding}
 use Rattle.client_tsm.specs.Client.{ClientTsmState, is_open, may_issue, opens}
 use Rattle.client_tsm.specs.Issuing as tsm
 use Rattle.client_tsm.specs.Issuing.{opened}
@@ -15,7 +15,7 @@ use Rattle.client_tsm.specs.Asking.{asked_by}
 use Rattle.client_tsm.specs.Limits.{apdu_limit, is_too_long, request_chunk}
 use Rattle.client_tsm.specs.Open.{Open}
 use Rattle.client_tsm.specs.declared.said.Said.{Said}
-use Rattle.client_tsm.specs.declared.said.Bound.{Bound}
+use Rattle.client_rules.specs.declared.bound.Bound.{Bound}
 use Rattle.headline.proofs.Puts.{put_here}
 use Rattle.headline.specs.Happenings.{Issues, happens, issue_by}
 use Rattle.headline.specs.Honest.{MayIssue}

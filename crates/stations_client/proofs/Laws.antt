@@ -1,6 +1,6 @@
 -- Each step of a client is honest: the laws that the functions of the crate state.
 use Rattle.std.proofs.Common.{true, false, refl, sym, subst, map}
-use Rattle.client.specs.Binding.{binding_of}
+use Rattle.client_rules.specs.Binding.{binding_of}
 use Rattle.client.specs.Client.{ClientState}
 use Rattle.client_tsm.specs.Client.{never_given}
 use Rattle.client_tsm.specs.Issuing.{issued}

@@ -5,10 +5,10 @@ use Rattle.std.specs.List.{AllByRecursion}
 use Rattle.apdu.proofs.UnconfirmedLaws.{one_i_am}
 use Rattle.apdu.specs.declared.sizes.MaxApdu.{MaxApdu}
 use Rattle.apdu.specs.declared.unconfirmed.IAm.{IAm}
-use Rattle.client.specs.Binding.{introduced, is_of, marked, marked_by}
-use Rattle.client.specs.Binding as binding
+use Rattle.client_rules.specs.Binding.{introduced, is_of, marked, marked_by}
+use Rattle.client_rules.specs.Binding as binding
 use Rattle.client.specs.Hearing.{IsIAm}
-use Rattle.client.specs.declared.binding.Binding.{Binding}
+use Rattle.client_rules.specs.declared.binding.Binding.{Binding}
 use Rattle.client_tsm.specs.Client.{ClientTsmState}
 use Rattle.headline.proofs.Steps.{all_stay}
 use Rattle.headline.specs.Honest.{ClientGoesOn, IsAnnounced, IsHeard}

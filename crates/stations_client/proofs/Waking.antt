@@ -5,7 +5,7 @@ use Rattle.std.proofs.lemmas.List.{append_assoc, map-append}
 use Rattle.std.specs.Prelude.{◌-◌, nat_lt}
 use Rattle.std.specs.List.{AllByRecursion, flat_map}
 use Rattle.apdu.specs.declared.sizes.MaxApdu.{MaxApdu}
-use Rattle.client.specs.declared.binding.Binding.{Binding}
+use Rattle.client_rules.specs.declared.binding.Binding.{Binding}
 use Rattle.client_tsm.specs.Client.{ClientTsmState, with_open}
 use Rattle.client_tsm.specs.Limits.{request_chunk}
 use Rattle.client_tsm.specs.Open.{Open, goes_on}

@@ -3,7 +3,7 @@ use Rattle.std.specs.Prelude.{◌≡◌, ◌≤◌, ◌<◌, ℕ, length, Option
 use Rattle.std.specs.List.{AllByRecursion}
 use Rattle.apdu.specs.Sizes.{apdu_code}
 use Rattle.client.specs.Client.{ClientState}
-use Rattle.client.specs.declared.binding.Binding.{Binding}
+use Rattle.client_rules.specs.declared.binding.Binding.{Binding}
 use Rattle.client_tsm.specs.Limits.{request_chunk}
 use Rattle.client_tsm.specs.Open.{Open}
 use Rattle.object_profile.specs.Bodies.{led_to}

@@ -17,7 +17,7 @@ use Rattle.client_tsm.specs.Open.{Open}
 use Rattle.client_tsm.specs.Said.{said_apdu}
 use Rattle.client_tsm.specs.Waking.{woken}
 use Rattle.client_tsm.specs.declared.plan.Told as tsm
-use Rattle.client_tsm.specs.declared.said.Bound.{Bound}
+use Rattle.client_rules.specs.declared.bound.Bound.{Bound}
 use Rattle.client_tsm.specs.declared.said.Said.{Said}
 use Rattle.headline.specs.Honest.{IsHeard, MayClose}
 use Rattle.headline.specs.Stations as safe

@@ -3,7 +3,7 @@ use Rattle.std.specs.Prelude.{ℕ, List, [], map, Option, Some, None}
 use Rattle.apdu.specs.Sizes.{apdu_code}
 use Rattle.apdu.specs.declared.sizes.MaxApdu.{MaxApdu}
 use Rattle.client.specs.Client.{ClientState}
-use Rattle.client.specs.declared.binding.Binding.{Binding}
+use Rattle.client_rules.specs.declared.binding.Binding.{Binding}
 use Rattle.client_tsm.specs.Accepts.{PlainAccepts}
 use Rattle.client_tsm.specs.Client.{ClientTsmState}
 use Rattle.client_tsm.specs.Limits.{request_chunk}

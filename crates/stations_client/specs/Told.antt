@@ -8,7 +8,7 @@ use Rattle.client_tsm.specs.Said.{said_apdu, said_way}
 use Rattle.client_tsm.specs.declared.plan.Outcome.{Outcome}
 use Rattle.client_tsm.specs.declared.plan.Outcome.TheVariants as outcome
 use Rattle.client_tsm.specs.declared.plan.Told.{Told}
-use Rattle.client_tsm.specs.declared.said.Bound.{Bound}
+use Rattle.client_rules.specs.declared.bound.Bound.{Bound}
 use Rattle.client_tsm.specs.declared.said.Said.{Said}
 use Rattle.headline.specs.Happenings as core
 use Rattle.headline.specs.Happenings.{Core, Gives, Fails, closing, issue_of, put}

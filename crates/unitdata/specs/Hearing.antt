@@ -1,5 +1,5 @@
 -- What an NPDU brings to a station of a network (5.1, 6.2, 6.5.2).
-use Rattle.std.specs.Prelude.{◌≡◌, ℕ, Bool, true, false, List, Option, Some, None, is_none}
+use Rattle.std.specs.Prelude.{◌≡◌, ℕ, Bool, true, false, List, Option, Some, None}
 use Rattle.apdu.specs.Apdu.{PlainApdu}
 use Rattle.apdu.specs.Apdu as application
 use Rattle.npdu.specs.Header.{Header, PlainDestination, PlainSource}
@@ -9,13 +9,13 @@ use Rattle.npdu.specs.Rejected.{SpellsRejected}
 use Rattle.npdu.specs.declared.mac.Mac.{Mac}
 use Rattle.npdu.specs.declared.mac.Station.{Station}
 use Rattle.npdu.specs.declared.mac.Target.{Target}
-use Rattle.npdu.specs.declared.mac.Target.TheVariants.{One, All}
 use Rattle.npdu.specs.declared.mac.Way.{Way}
 use Rattle.npdu.specs.declared.message.Message.{Message}
 use Rattle.npdu.specs.declared.message.Message.TheVariants.{RejectMessageToNetwork}
 use Rattle.npdu.specs.declared.rejected.Rejected.{Rejected}
 use Rattle.npdu.specs.declared.view.Dnet.{Dnet}
 use Rattle.npdu.specs.declared.view.Dnet.TheVariants.{Network, Global}
+use Rattle.station_rules.specs.Hearing.{is_alone}
 
 -- whether DNET is the global broadcast (6.2.2)
 abbrev pub is_global : Dnet → Bool
@@ -26,11 +26,6 @@ is_global (Network number) = false
 abbrev pub is_here : Option PlainDestination → Bool
 is_here None = true
 is_here (Some d) = is_global d.net
-
--- a message came to this station alone: not by a broadcast on the link, and without DNET (6.2.2)
-abbrev pub is_alone : Target → Option PlainDestination → Bool
-is_alone (One mac) destination = is_none destination
-is_alone All destination = false
 
 -- the station of a network with an address of MS/TP or BACnet/IP (Table 6-2)
 abbrev pub station_at : ℕ → Option Mac → Option Station

@@ -9,6 +9,7 @@ ghost use Rattle.unitdata.specs.Heard.{IsNamed, content_of, heard_of};
 
 use apdu::Apdu;
 use npdu::{Destination, Dnet, Mac, Message, Source, Station, Target, View, Way};
+use station_rules::is_alone;
 
 /// What a station's application hears of a message.
 #[derive(Clone, Copy, Debug, PartialEq, Eq)]
@@ -69,16 +70,6 @@ fn is_here(destination: Option<Destination<'_>>) -> bool
             Dnet::Global => true,
             Dnet::Network(_) => false,
         },
-    }
-}
-
-/// Whether a message came to this station alone.
-fn is_alone(to: Target, destination: Option<Destination<'_>>) -> bool
-    ensures { result ≡ spec.is_alone to (option_map destination_of destination.entry) }
-{
-    match to {
-        Target::One(_) => destination.is_none(),
-        Target::All => false,
     }
 }
 
