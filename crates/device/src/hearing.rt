@@ -7,7 +7,7 @@ ghost use Rattle.unitdata.specs.Heard.{heard_of};
 use crate::device::{Device, Told};
 use crate::saying::{i_am_parcel, parcels_of};
 use npdu::Parcel;
-use server_tsm::{Origin, Plan};
+use server_tsm::Origin;
 use services::Apdu;
 use station_rules::asks_who;
 use std::alloc::Allocator;
@@ -107,12 +107,12 @@ impl<A: Allocator + Copy> Device<A> {
         ensures cause { IfErr result (λ fault. fault ≡ Fault.Memory) }
         ensures unchanged { OnErr result (self.new ≡ self.old) }
     {
-        let Plan { said, told, change } = self.server.plan(origin, apdu, now)?;
-        let said = parcels_of(self.alloc, self.mac, now, said.as_slice())?;
-        self.server.commit(change, now)?;
+        let plan = self.server.plan(origin, apdu, now)?;
+        let said = parcels_of(self.alloc, self.mac, now, plan.said.as_slice())?;
+        self.server.commit(plan.change, now)?;
         Ok(Told {
             said,
-            executed: told,
+            executed: plan.told,
         })
     }
 }

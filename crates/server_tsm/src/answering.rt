@@ -23,6 +23,9 @@ use services::{Answer, Apdu, Segment, ServiceError, answer_of, encode_reply, ser
 use std::alloc::{AllocError, Allocator};
 use tags::{Items, Octets};
 
+/// How many octets the service data of an answer take at first: so they don't grow for a short one.
+const SHORT_ANSWER: usize = 32;
+
 /// The contents of an Error.
 fn contents_of<A: Allocator + Copy>(
     alloc: A,
@@ -61,7 +64,7 @@ pub(crate) fn kept_answer<A: Allocator + Copy>(
     requires answers { IsAnswerTo request.now reply.now }
     ensures { IfOk result (λ answer. answer ≡ answer_of request.now reply.now) }
 {
-    let mut body = Vec::new(alloc);
+    let mut body = Vec::with_capacity(alloc, SHORT_ANSWER)?;
     if encode_reply(request, reply, &mut body).is_err() {
         return Err(AllocError);
     }

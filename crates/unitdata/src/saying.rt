@@ -9,6 +9,9 @@ use npdu::{Destination, Dnet, INITIAL_HOP_COUNT, Priority, Station, View};
 use std::alloc::Allocator;
 use tags::Fault;
 
+/// How many octets a buffer of an NPDU takes at first: so it doesn't grow for a short one.
+const SHORT_NPDU: usize = 64;
+
 /// Whether a destination has a network number, 1..=65534, so that DNET can name it.
 pub fn is_spelled(destination: Option<Station>) -> bool
     ensures { result ≡ spec.is_spelled destination }
@@ -89,7 +92,7 @@ fn header<A: Allocator + Copy>(
         message: None,
         body: &[],
     };
-    let mut out = Vec::new(alloc);
+    let mut out = Vec::with_capacity(alloc, SHORT_NPDU)?;
     npdu::write(&view, &mut out)?;
     Ok(out)
 }
