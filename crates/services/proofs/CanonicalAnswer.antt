@@ -13,15 +13,16 @@ use Rattle.primitives.specs.declared.plain_data.Reply.{Reply}
 use Rattle.primitives.specs.declared.plain_data.Reply.TheVariants.{Values, Many, Done, Error, ErrorAt}
 use Rattle.primitives.specs.declared.plain_data.Request.{Request}
 use Rattle.primitives.specs.declared.plain_data.Request.TheVariants.{Read, ReadMany, Write, WriteMany}
-use Rattle.services.specs.declared.reply.Answer.{Answer}
-use Rattle.services.specs.declared.reply.Answer.TheVariants as answer
+use Rattle.service_rules.specs.declared.answer.Answer.{Answer}
+use Rattle.service_rules.specs.declared.answer.Answer.TheVariants as answer
 use Rattle.apdu.specs.ApduWriting.{class_and_code_octets}
 use Rattle.services.specs.CanonicalReply.{reading_octets, result_octets, results_octets, canonical_reply}
 use Rattle.apdu.specs.ParameterWriting.{object_field, number_field, option_field, opening_octets, closing_octets}
 use Rattle.services.specs.CanonicalRequest.{values_field, in_turn, read_octets}
 use Rattle.services.specs.Fields.{TakesNumber, TakesOpening}
 use Rattle.services.specs.Multiple.{OpensList}
-use Rattle.services.specs.Reply.{reading_tag, TakesReading, TakesResult, TakesResults, SpellsAck, SpellsAnswer, SpellsReply, GoesIn}
+use Rattle.services.specs.Reply.{reading_tag, TakesReading, TakesResult, TakesResults, SpellsAck, SpellsAnswer, SpellsReply}
+use Rattle.service_rules.specs.Answer.{GoesIn}
 use Rattle.services.specs.Requests.{TakesWrite}
 use Rattle.services.proofs.CanonicalBody.{number_taken, opening_taken, closing_taken, option_taken, no_contents_at_opening, inside_taken, each_taken, write_spelled, list_opened, whole}
 use Rattle.apdu.proofs.CanonicalLaws.{class_and_code}

@@ -9,10 +9,11 @@ use Rattle.primitives.specs.declared.plain_data.Reply.{Reply}
 use Rattle.primitives.specs.declared.plain_data.Reply.TheVariants.{Values, Many, Done, Error, ErrorAt}
 use Rattle.apdu.specs.declared.service_error.ObjectPropertyReference.{ObjectPropertyReference}
 use Rattle.apdu.specs.declared.service_error.ServiceError.{ServiceError}
-use Rattle.services.specs.declared.reply.Answer.{Answer}
-use Rattle.services.specs.declared.reply.Answer.TheVariants as answer
+use Rattle.service_rules.specs.declared.answer.Answer.{Answer}
+use Rattle.service_rules.specs.declared.answer.Answer.TheVariants as answer
 use Rattle.services.specs.Contents.{PlainAnswer, simple, complex, failed, answer_contents, reply_contents, SpellsContents, ReplyOfContents, EqualContents, OneMeaning, ReplyIsMeant, MeaningReadsBack, GoesInContents}
-use Rattle.services.specs.Reply.{SpellsAnswer, SpellsFailure, failed_at}
+use Rattle.services.specs.Reply.{SpellsAnswer}
+use Rattle.service_rules.specs.Answer.{SpellsFailure, failed_at}
 use Rattle.services.proofs.CanonicalAnswer.{ack_in}
 use Rattle.services.proofs.OneAnswer.{one_ack, one_failure}
 

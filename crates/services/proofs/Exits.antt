@@ -3,9 +3,9 @@ use Rattle.std.proofs.Common.{◌≡◌, Result, Ok, Err, sym, subst}
 use Rattle.std.specs.Prelude.{IfErr, IsErrAnd}
 use Rattle.std.proofs.lemmas.Result.{err_from_is_err_and}
 use Rattle.apdu.specs.declared.numbers.RejectReason.{RejectReason}
-use Rattle.services.specs.declared.stop.Stop.{Stop}
-use Rattle.services.specs.declared.stop.Stop.TheVariants.{Memory, Reject}
-use Rattle.services.specs.Stop.{StopsFor}
+use Rattle.service_rules.specs.declared.stop.Stop.{Stop}
+use Rattle.service_rules.specs.declared.stop.Stop.TheVariants.{Memory, Reject}
+use Rattle.service_rules.specs.Stop.{StopsFor}
 
 -- the error itself
 pub exit_same : {T E : Type 0} (Holds : E → Type 0) (r : Result T E) (e : E) → IsErrAnd r (λ d. d ≡ e) → Holds e → IfErr r Holds

@@ -10,11 +10,12 @@ use Rattle.primitives.specs.declared.plain_data.Request.{Request}
 use Rattle.primitives.specs.declared.plain_data.Request.TheVariants.{Read, ReadMany}
 use Rattle.primitives.specs.declared.plain_data.Reply.{Reply}
 use Rattle.primitives.specs.declared.plain_data.Reply.TheVariants.{Values, Many, Error, ErrorAt}
-use Rattle.services.specs.declared.reply.Answer.{Answer}
-use Rattle.services.specs.declared.reply.Answer.TheVariants as answer
+use Rattle.service_rules.specs.declared.answer.Answer.{Answer}
+use Rattle.service_rules.specs.declared.answer.Answer.TheVariants as answer
 use Rattle.apdu.specs.declared.service_error.ObjectPropertyReference.{ObjectPropertyReference}
 use Rattle.apdu.specs.declared.service_error.ServiceError.{ServiceError}
-use Rattle.services.specs.Reply.{SpellsAck, SpellsAnswer, SpellsFailure, SpellsReply, OnlyReply, NoReply}
+use Rattle.services.specs.Reply.{SpellsAck, SpellsAnswer, SpellsReply, OnlyReply, NoReply}
+use Rattle.service_rules.specs.Answer.{SpellsFailure}
 use Rattle.services.specs.ReplySteps.{NoAnswer}
 use Rattle.services.proofs.OneReply.{one_many}
 use Rattle.services.proofs.OneRequest.{one_write}

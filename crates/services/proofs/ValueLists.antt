@@ -6,10 +6,10 @@ use Rattle.tags.specs.Value.{IsSound, SpellsValue, TakesValue}
 use Rattle.tags.proofs.OneTag.{tag_some}
 use Rattle.tags.proofs.ElementLaws.{element_some}
 use Rattle.primitives.specs.Sound.{AreSound}
-use Rattle.services.specs.declared.stop.Stop.{Stop}
-use Rattle.services.specs.declared.stop.Stop.TheVariants.{Memory, Reject}
+use Rattle.service_rules.specs.declared.stop.Stop.{Stop}
+use Rattle.service_rules.specs.declared.stop.Stop.TheVariants.{Memory, Reject}
 use Rattle.services.proofs.Lists.{takes_more, all_more}
-use Rattle.services.specs.Stop.{StopsFor}
+use Rattle.service_rules.specs.Stop.{StopsFor}
 use Rattle.services.specs.Fields.{TakesClosing, TakesEach, TakesInside, RejectsValue, RejectsInside}
 
 -- the values that were read, and what is left

@@ -1,5 +1,4 @@
 pub mod Fields
-pub mod Stop
 pub mod Requests
 pub mod Multiple
 pub mod MultipleSteps

@@ -1,6 +1,5 @@
 -- The replies of the confirmed services, and the answers that spell them (15.5, 15.7, 15.9, 15.10, 20.1).
 use Rattle.std.specs.Prelude.{◌≡◌, ◌<◌, ◌^◌, ℕ, List, [], length, Option, Some, None, Result, Ok, Err}
-use Rattle.tags.specs.declared.object_id.ObjectId.{ObjectId}
 use Rattle.tags.specs.declared.value.Value.{Value}
 use Rattle.primitives.specs.Answers.{IsAnswerTo}
 use Rattle.primitives.specs.Errors.{class_number, code_number, IsNamedClass, IsNamedCode}
@@ -10,13 +9,13 @@ use Rattle.primitives.specs.declared.error.ErrorCode.{ErrorCode}
 use Rattle.primitives.specs.declared.plain_data.Request.{Request}
 use Rattle.primitives.specs.declared.plain_data.Request.TheVariants.{Read, ReadMany}
 use Rattle.primitives.specs.declared.plain_data.Reply.{Reply}
-use Rattle.primitives.specs.declared.plain_data.Reply.TheVariants.{Values, Many, Done, Error, ErrorAt}
+use Rattle.primitives.specs.declared.plain_data.Reply.TheVariants.{Values, Many, Done}
 use Rattle.primitives.specs.declared.plain_data.ObjectResults.{ObjectResults}
 use Rattle.primitives.specs.declared.plain_data.PropertyResult.{PropertyResult}
-use Rattle.services.specs.declared.reply.Answer.{Answer}
-use Rattle.services.specs.declared.reply.Answer.TheVariants as answer
+use Rattle.service_rules.specs.Answer.{SpellsFailure}
+use Rattle.service_rules.specs.declared.answer.Answer.{Answer}
+use Rattle.service_rules.specs.declared.answer.Answer.TheVariants as answer
 use Rattle.apdu.specs.declared.service_error.ObjectPropertyReference.{ObjectPropertyReference}
-use Rattle.apdu.specs.declared.service_error.ServiceError.{ServiceError}
 use Rattle.services.specs.Fields.{TakesNumber, TakesOption, TakesOpening, TakesClosing, TakesEach, TakesInside}
 use Rattle.services.specs.Multiple.{OpensList}
 use Rattle.services.specs.Requests.{TakesWrite}
@@ -80,17 +79,6 @@ SpellsAck (Read object property index) octets (Values values) = TakesWrite octet
 SpellsAck (ReadMany asked) octets (Many results) = TakesEach TakesResults octets results []
 SpellsAck request octets reply = ⊥
 
--- the write that failed
-abbrev pub failed_at : ObjectId → ℕ → Option ℕ → Option ObjectPropertyReference
-failed_at object property index = Some (record { object = object; property = property; index = index })
-
--- the contents of an Error: class and code, and of WritePropertyMultiple the write that failed (15.10.1.3, 20.1.7)
-abbrev pub SpellsFailure : {A : Type 0} → ServiceError → Reply A → Type 0
-SpellsFailure e (Error class code) = (e.class ≡ class) × (e.code ≡ code) × (e.first_failed ≡ None)
-SpellsFailure e (ErrorAt class code object property index) = (e.class ≡ class) × (e.code ≡ code) ×
-    (e.first_failed ≡ failed_at object property index)
-SpellsFailure e reply = ⊥
-
 -- a SimpleACK says that all is done (20.1.4)
 abbrev pub SpellsAnswer : {A : Type 0} → Request A → Answer → Reply A → Type 0
 SpellsAnswer request answer.Simple reply = reply ≡ Done
@@ -126,11 +114,3 @@ IsSoundAnswer (answer.Error e) = IsSoundError e.class e.code × IsSoundFailure e
 abbrev pub HasServiceData : Answer → Type 0
 HasServiceData (answer.Complex octets) = Unit {0}
 HasServiceData answer = ⊥
-
--- the answer in which a reply goes: its service data in a ComplexACK where it has some (20.1.4, 20.1.5, 20.1.7)
-abbrev pub GoesIn : {A : Type 0} → Reply A → List ℕ → Answer → Type 0
-GoesIn Done body answer.Simple = Unit {0}
-GoesIn (Values values) body (answer.Complex octets) = octets.now ≡ body
-GoesIn (Many results) body (answer.Complex octets) = octets.now ≡ body
-GoesIn reply body (answer.Error e) = SpellsFailure e reply
-GoesIn reply body answer = ⊥

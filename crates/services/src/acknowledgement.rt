@@ -1,7 +1,7 @@
 //! The service data of the ComplexACKs of ReadProperty and ReadPropertyMultiple, both ways (clauses
 //! 15.5 and 15.7). Where they are none, the reason of a Reject is not looked at: an answer is dropped.
 
-ghost use Rattle.std.specs.Prelude.{◌≡◌, ◌↔◌, ◌<◌, ◌^◌, [], IsTrue, IfOk, IfErr, IfSome, IfNone, OnErr, length, ◌++◌, OnOk};
+ghost use Rattle.std.specs.Prelude.{◌≡◌, ◌<◌, ◌^◌, [], IfOk, IfErr, IfSome, IfNone, OnErr, length, ◌++◌, OnOk};
 ghost use Rattle.std.specs.List.{AllByRecursion};
 ghost use Rattle.tags.specs.Tag.{plain_tag};
 ghost use Rattle.primitives.specs.Sound.{AreSound, IsSoundError, IsSoundIndex, IsSoundReading, IsSoundResult, IsSoundResults};
@@ -9,7 +9,7 @@ ghost use Rattle.services.specs.Fields.{TakesClosing, TakesEach};
 ghost use Rattle.services.specs.Reply.{TakesErrorInside, TakesIndexed, TakesResult, TakesResultList, TakesResults};
 ghost use Rattle.services.specs.ReplySteps.{NoReadAck, NoErrorInside, ReadingUnder, NoReadingUnder, NoIndexed, TakesNextResult, NoNextResult, NoResult, NoResultList, NoResults, NoManyAck};
 ghost use Rattle.services.specs.Requests.{TakesWrite};
-ghost use Rattle.services.specs.Stop.{StopsFor};
+ghost use Rattle.service_rules.specs.Stop.{StopsFor};
 ghost use Rattle.tags.specs.Canonical.{Extends};
 ghost use Rattle.primitives.specs.Errors.{class_number, code_number};
 ghost use Rattle.apdu.specs.ApduWriting.{class_and_code_octets};
@@ -22,27 +22,15 @@ use crate::fields::{
 use crate::multiple::open_list;
 use crate::request::{WriteParameters, parameters_to_write};
 use crate::spelled::{Spelled, put_each};
-use crate::stop::Stop;
 use crate::values::{put_values, read_values};
-use apdu::{RejectReason, class_and_code_from, write_class_and_code};
+use apdu::{ObjectPropertyReference, RejectReason, class_and_code_from, write_class_and_code};
 use objects::{ErrorClass, ErrorCode, ObjectResults, PropertyResult, Values};
+use service_rules::{Stop, is_about};
 use std::alloc::Allocator;
 use tags::{Class, Fault, Items, ObjectId, Reader, Tag, write_object, write_tag, write_unsigned};
 
 /// What was read of a property: its values, or the class and code of an error.
 type Reading<A> = Result<Values<A>, (ErrorClass, ErrorCode)>;
-
-/// Whether it is about this property, or this element of it.
-fn is_about<A: Allocator>(
-    read: &WriteParameters<A>,
-    object: ObjectId,
-    property: u32,
-    index: Option<u32>,
-) -> bool
-    ensures { IsTrue result ↔ ((read.now.object ≡ object) × (read.now.property ≡ property) × (read.now.index ≡ index)) }
-{
-    read.object == object && read.property == property && read.index == index
-}
 
 /// The values in a ReadProperty-ACK of this object, property and index (15.5.1).
 pub(crate) fn read_ack<A: Allocator + Copy>(
@@ -57,7 +45,17 @@ pub(crate) fn read_ack<A: Allocator + Copy>(
     ensures none { IfErr result (λ stop. StopsFor (λ reason. NoReadAck A reader.old object property index) stop) }
 {
     let read = parameters_to_write(alloc, reader)?;
-    if !is_about(&read, object, property, index) {
+    let found = ObjectPropertyReference {
+        object: read.object,
+        property: read.property,
+        index: read.index,
+    };
+    let asked = ObjectPropertyReference {
+        object,
+        property,
+        index,
+    };
+    if !is_about(found, asked) {
         return Err(Stop::Reject(RejectReason::InvalidTag));
     }
     read_end(reader)?;

@@ -1,5 +1,6 @@
-//! The bodies of the confirmed services, and what executes them (ANSI/ASHRAE 135, clauses 15, 18.9,
-//! 20.1 and 21). The APDUs that carry them are those of `apdu`, and stand here too.
+//! The bodies of the confirmed services (ANSI/ASHRAE 135, clauses 15, 18.9, 20.1 and 21). The APDUs
+//! that carry them are those of `apdu`; what executes requests, and in which PDU a reply goes, are
+//! those of `service_rules`. Both stand here too.
 //!
 //! Of the requests it promises to the layers above: what is read is the one request that the body
 //! spells, what is rejected spells none and is rejected for the first fault in reading order, what
@@ -11,15 +12,12 @@
 //! - `fields`, `values`, `spelled`: the fields of a body, and lists of values and of parts.
 //! - `request`, `multiple`: the requests, both ways, and the parts of those with several objects.
 //! - `reply`, `acknowledgement`: the replies, both ways, and the service data of ComplexACKs.
-//! - `executor`: what executes requests, and the object machine that does.
-//! - `stop`: why reading a body stops.
 //! - `laws`, `reply_laws`: what holds of every spelling, for the proofs of the layers above.
 //! - `asked`: what the names stand for that steps of transactions mention.
 #![tactic(auto)]
 
 mod acknowledgement;
 pub mod asked;
-mod executor;
 mod fields;
 pub mod laws;
 mod multiple;
@@ -27,7 +25,6 @@ mod reply;
 pub mod reply_laws;
 mod request;
 mod spelled;
-mod stop;
 mod values;
 
 pub use apdu::{
@@ -36,6 +33,6 @@ pub use apdu::{
     UnconfirmedService, UnknownService, WhoIs, apdu_spelling, i_am_from, i_am_spelling,
     who_is_from, who_is_spelling, write_i_am, write_who_is,
 };
-pub use executor::{Executor, ObjectExecutor};
-pub use reply::{Answer, answer_of, decode_reply, encode_reply};
+pub use reply::{decode_reply, encode_reply};
 pub use request::{decode_request, encode_request, service_of};
+pub use service_rules::{Answer, Executor, ObjectExecutor, answer_of};

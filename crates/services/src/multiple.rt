@@ -8,17 +8,17 @@ ghost use Rattle.primitives.specs.Sound.{IsSoundId, IsSoundIndex, IsSoundPriorit
 ghost use Rattle.services.specs.Fields.{TakesNumber};
 ghost use Rattle.services.specs.Multiple.{OpensList, RejectsList, RejectsFirst, RejectsNext, RejectsReferences, TakesRefs, RejectsRefs, RejectsWriteList, TakesWrites, RejectsWrites, SpellsWriteMultiple, RejectsWriteMultiple, MustStand, SpellsReadMultiple, RejectsReadMultiple};
 ghost use Rattle.services.specs.MultipleSteps.{TakesNext, IsNext, RejectsNextTag, GoesOn, RejectsGoing, References, TakesValuesBehind, RejectsValuesBehind, RejectsPriority, PropertyWrites};
-ghost use Rattle.services.specs.Stop.{StopsFor};
+ghost use Rattle.service_rules.specs.Stop.{StopsFor};
 
 use crate::fields::{
     contents_under, is_closing, number_of, priority_of, put_option, put_priority, read_inner_tag,
     read_object, read_opening, read_opening_behind, read_tag,
 };
 use crate::spelled::{Spelled, put_each};
-use crate::stop::Stop;
 use crate::values::{put_values, read_values};
 use apdu::RejectReason;
 use objects::{ObjectRefs, ObjectWrites, PropertyReference, PropertyWrite, Values};
+use service_rules::Stop;
 use std::alloc::Allocator;
 use tags::{Class, Fault, Items, ObjectId, Reader, Tag, write_object, write_tag, write_unsigned};
 

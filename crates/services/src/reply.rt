@@ -1,11 +1,11 @@
-//! The replies to requests, both ways: in which PDU a reply goes, and what it has behind its header
-//! (clauses 15.5, 15.7, 15.9, 15.10, 20.1.4, 20.1.5 and 20.1.7).
+//! The replies to requests, both ways (clauses 15.5, 15.7, 15.9, 15.10, 20.1.4, 20.1.5 and 20.1.7).
 
-ghost use Rattle.services.specs.Reply.{GoesIn, SpellsAck, SpellsAnswer, SpellsFailure, SpellsReply, OnlyReply, NoReply, IsSoundAnswer, HasServiceData};
+ghost use Rattle.services.specs.Reply.{SpellsAck, SpellsAnswer, SpellsReply, OnlyReply, NoReply, IsSoundAnswer, HasServiceData};
+ghost use Rattle.service_rules.specs.Answer.{SpellsFailure};
 ghost use Rattle.std.specs.Prelude.{◌≡◌, ◌<◌, ◌^◌, ◌⊎◌, IfOk, IfErr, IsOk, IfSome, IfNone, length, ◌++◌, OnOk, OnErr};
 ghost use Rattle.primitives.specs.Sound.{IsSoundReply, IsSoundRequest};
 ghost use Rattle.services.specs.ReplySteps.{NoAck, NoAnswer};
-ghost use Rattle.services.specs.Stop.{StopsFor};
+ghost use Rattle.service_rules.specs.Stop.{StopsFor};
 ghost use Rattle.tags.specs.Canonical.{Extends};
 ghost use Rattle.primitives.specs.Answers.{IsAnswerTo};
 ghost use Rattle.services.specs.CanonicalReply.{canonical_reply};
@@ -13,54 +13,12 @@ ghost use Rattle.services.specs.CanonicalReply.{canonical_reply};
 use crate::acknowledgement::{read_ack, read_many_ack};
 use crate::request::put_read;
 use crate::spelled::put_each;
-use crate::stop::Stop;
 use crate::values::put_values;
-use apdu::{ObjectPropertyReference, RejectReason, ServiceError};
-use objects::{Reply, Request, Values};
+use apdu::{RejectReason, ServiceError};
+use objects::{Reply, Request};
+use service_rules::{Answer, Stop};
 use std::alloc::{AllocError, Allocator};
 use tags::{Fault, Reader, all_or_none};
-
-/// What an answer has behind its header (20.1.4, 20.1.5, 20.1.7).
-#[derive(Clone, Copy, Debug, PartialEq, Eq)]
-pub enum Answer<'a> {
-    /// A SimpleACK.
-    Simple,
-    /// The service data of a ComplexACK.
-    Complex(&'a [u8]),
-    /// The contents of an Error.
-    Error(ServiceError),
-}
-
-/// The answer in which a reply goes, with its service data where it has some: a SimpleACK where all
-/// was written, a ComplexACK for what was read, an Error where the request was not done (20.1).
-pub fn answer_of<'a, A: Allocator>(reply: &Reply<A>, body: &'a [u8]) -> Answer<'a>
-    ensures { GoesIn reply.now body.entry.now result }
-{
-    match reply {
-        Reply::Done => Answer::Simple,
-        Reply::Values(_) | Reply::Many(_) => Answer::Complex(body),
-        Reply::Error(class, code) => Answer::Error(ServiceError {
-            class: *class,
-            code: *code,
-            first_failed: None,
-        }),
-        Reply::ErrorAt {
-            class,
-            code,
-            object,
-            property,
-            index,
-        } => Answer::Error(ServiceError {
-            class: *class,
-            code: *code,
-            first_failed: Some(ObjectPropertyReference {
-                object: *object,
-                property: *property,
-                index: *index,
-            }),
-        }),
-    }
-}
 
 /// The reply that the contents of an Error are (20.1.7).
 fn failure_of<A: Allocator>(error: ServiceError) -> Reply<A>

@@ -6,7 +6,7 @@ ghost use Rattle.apdu.specs.Numbers.{service_number, NoService};
 ghost use Rattle.services.specs.Request.{SpellsRequest, OnlyRequest, NoRequest, RejectsRequest, request_service};
 ghost use Rattle.services.specs.Requests.{TakesProperty, RejectsProperty, SpellsReadProperty, RejectsReadProperty, TakesWrite, RejectsWrite, RejectsTail, RejectsWriteProperty};
 ghost use Rattle.services.specs.Fields.{TakesLast};
-ghost use Rattle.services.specs.Stop.{StopsFor};
+ghost use Rattle.service_rules.specs.Stop.{StopsFor};
 ghost use Rattle.tags.specs.Canonical.{Extends};
 ghost use Rattle.services.specs.CanonicalRequest.{read_octets, canonical_request};
 
@@ -16,10 +16,10 @@ use crate::fields::{
 };
 use crate::multiple::{read_many, read_write_many};
 use crate::spelled::put_each;
-use crate::stop::Stop;
 use crate::values::{put_values, read_values};
 use apdu::{ConfirmedService, RejectReason};
 use objects::{Request, Values};
+use service_rules::{Stop, settled};
 use std::alloc::{AllocError, Allocator};
 use tags::{Class, Fault, ObjectId, Reader, all_or_none, write_object, write_unsigned};
 
@@ -194,8 +194,10 @@ pub fn decode_request<A: Allocator + Copy>(
     let mut reader = Reader::new(body);
     match body_of(alloc, service, &mut reader) {
         Ok(request) => Ok(Ok(request)),
-        Err(Stop::Reject(reason)) => Ok(Err(reason)),
-        Err(Stop::Memory) => Err(AllocError),
+        Err(stop) => {
+            let reason = settled(stop)?;
+            Ok(Err(reason))
+        }
     }
 }
 

@@ -1,7 +1,7 @@
 -- Why reading the body of a service stops.
 use Rattle.apdu.specs.declared.numbers.RejectReason.{RejectReason}
-use Rattle.services.specs.declared.stop.Stop.{Stop}
-use Rattle.services.specs.declared.stop.Stop.TheVariants.{Memory, Reject}
+use Rattle.service_rules.specs.declared.stop.Stop.{Stop}
+use Rattle.service_rules.specs.declared.stop.Stop.TheVariants.{Memory, Reject}
 
 -- memory is wanted, or the body is rejected for a reason of which this holds
 abbrev pub StopsFor : (RejectReason → Type 0) → Stop → Type 0

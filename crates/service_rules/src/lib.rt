@@ -1,0 +1,19 @@
+//! What reading and answering a request decide (ANSI/ASHRAE 135, clauses 15, 18.9 and 20.1), and what executes
+//! requests.
+//!
+//! To the bodies of the services, and to what keeps and says answers, it promises: each rule is the one that its clause
+//! states, over one reply, one reference or one reason alone, so that a wrong one is refused here, before any octet is
+//! read.
+//!
+//! - `answer`: in which PDU a reply goes, and whether what was read is about what was asked.
+//! - `executor`: what executes requests, and the object machine that does.
+//! - `stop`: why reading a body stops, and what comes of it.
+#![tactic(auto)]
+
+mod answer;
+mod executor;
+mod stop;
+
+pub use answer::{Answer, answer_of, is_about};
+pub use executor::{Executor, ObjectExecutor};
+pub use stop::{Stop, settled};
