@@ -8,7 +8,7 @@ use Rattle.apdu.specs.declared.service_error.ServiceError.{ServiceError}
 use Rattle.service_rules.specs.declared.answer.Answer.{Answer}
 use Rattle.service_rules.specs.declared.answer.Answer.TheVariants as answer
 
--- the write that failed
+-- the write that failed (15.10.1.3)
 abbrev pub failed_at : ObjectId → ℕ → Option ℕ → Option ObjectPropertyReference
 failed_at object property index = Some (record { object = object; property = property; index = index })
 

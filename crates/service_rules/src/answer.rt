@@ -54,5 +54,5 @@ pub fn is_about(read: ObjectPropertyReference, asked: ObjectPropertyReference) -
     ensures { IsTrue result ↔ ((read.object ≡ asked.object) × (read.property ≡ asked.property) ×
         (read.index ≡ asked.index)) }
 {
-    read.object == asked.object && read.property == asked.property && read.index == asked.index
+    read == asked
 }

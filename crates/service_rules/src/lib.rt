@@ -3,7 +3,7 @@
 //!
 //! To the bodies of the services, and to what keeps and says answers, it promises: each rule is the one that its clause
 //! states, over one reply, one reference or one reason alone, so that a wrong one is refused here, before any octet is
-//! read.
+//! read; and what executes a request gives the object machine's reply, and leaves its table.
 //!
 //! - `answer`: in which PDU a reply goes, and whether what was read is about what was asked.
 //! - `executor`: what executes requests, and the object machine that does.
@@ -16,4 +16,4 @@ mod stop;
 
 pub use answer::{Answer, answer_of, is_about};
 pub use executor::{Executor, ObjectExecutor};
-pub use stop::{Stop, settled};
+pub use stop::{Stop, reject_reason};

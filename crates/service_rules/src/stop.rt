@@ -35,7 +35,7 @@ impl From<RejectReason> for Stop {
 ///
 /// # Errors
 /// Want of memory, where that is why it isn't.
-pub fn settled(stop: Stop) -> Result<RejectReason, AllocError>
+pub fn reject_reason(stop: Stop) -> Result<RejectReason, AllocError>
     ensures rejected { IfOk result (λ reason. stop ≡ Reject reason) }
     ensures memory { OnErr result (stop ≡ Memory) }
 {

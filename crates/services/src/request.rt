@@ -19,7 +19,7 @@ use crate::spelled::put_each;
 use crate::values::{put_values, read_values};
 use apdu::{ConfirmedService, RejectReason};
 use objects::{Request, Values};
-use service_rules::{Stop, settled};
+use service_rules::{Stop, reject_reason};
 use std::alloc::{AllocError, Allocator};
 use tags::{Class, Fault, ObjectId, Reader, all_or_none, write_object, write_unsigned};
 
@@ -195,7 +195,7 @@ pub fn decode_request<A: Allocator + Copy>(
     match body_of(alloc, service, &mut reader) {
         Ok(request) => Ok(Ok(request)),
         Err(stop) => {
-            let reason = settled(stop)?;
+            let reason = reject_reason(stop)?;
             Ok(Err(reason))
         }
     }
