@@ -14,8 +14,9 @@ use Rattle.apdu.specs.declared.apdu.Apdu.{Apdu}
 use Rattle.apdu.specs.declared.apdu.Segment.{Segment}
 use Rattle.apdu.specs.declared.pdu_type.PduType.{PduType}
 use Rattle.apdu.specs.declared.service_error.ObjectPropertyReference.{ObjectPropertyReference}
-use Rattle.apdu.proofs.Parameters.{alone_number, alone_object}
-use Rattle.apdu.proofs.ServiceErrors.{only_class_and_code, only_reference, only_failed_write, only_plain, only_write}
+use Rattle.apdu_fields.proofs.Parameters.{alone_number, alone_object}
+use Rattle.apdu_fields.proofs.ClassesAndCodes.{only_class_and_code}
+use Rattle.apdu.proofs.ServiceErrors.{only_reference, only_failed_write, only_plain, only_write}
 
 -- what stands in an Error's contents stands there alone
 

@@ -1,5 +1,4 @@
 pub mod OneName
-pub mod Parameters
 pub mod ServiceErrors
 pub mod ApduLaws
 pub mod CanonicalLaws

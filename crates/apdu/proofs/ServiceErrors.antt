@@ -1,34 +1,12 @@
 -- The contents of an Error say one error, and what is missing or wrong on the way spells none.
 use Rattle.std.proofs.Common.{◌≡◌, ◌≢◌, ℕ, List, [], Option, Some, None, refl, ap, sym}
 use Rattle.tags.specs.declared.object_id.ObjectId.{ObjectId}
-use Rattle.tags.specs.declared.tag.Class.TheVariants.{Application, Context}
+use Rattle.tags.specs.declared.tag.Class.TheVariants.{Context}
 use Rattle.tags.specs.Number.{SpellsUnsigned}
 use Rattle.tags.specs.Tag.{OnlyTag, PlainTag}
 use Rattle.apdu.specs.Parameter.{opening_tag, closing_tag, IsObject, Only, Lacks, NoBracket, CarriesOther, carrying}
 use Rattle.apdu.specs.declared.service_error.ObjectPropertyReference.{ObjectPropertyReference}
 use Rattle.apdu.specs.ServiceError.{EndsReference, SpellsWriteError, SpellsFailedWrite, SpellsError, OnlyClassAndCode, NoClassAndCode, OnlyEnd, NoEnd, OnlyReference, NoReference, OnlyFailedWrite, NoFailedWrite, OnlyError, NoError}
-
--- class and code
-
-pub no_class : (octets : List ℕ) → Lacks SpellsUnsigned Application 9 octets → NoClassAndCode octets
-no_class octets lacks = record { none = λ c d rest t. lacks.none c t.at_code t.class_taken }
-
-pub no_code : (octets : List ℕ) (class : ℕ) (at_code : List ℕ) → Only SpellsUnsigned Application 9 octets class at_code → Lacks SpellsUnsigned Application 9 at_code → NoClassAndCode octets
-no_code octets class at_code one lacks = record {
-  none = λ c d rest t.
-      let p = one.only _ _ t.class_taken in
-      lacks.none d rest (rw (p.1) t.code_taken);
-}
-
-pub only_class_and_code : (octets : List ℕ) (class : ℕ) (at_code : List ℕ) (code : ℕ) (rest : List ℕ) → Only SpellsUnsigned Application 9 octets class at_code → Only SpellsUnsigned Application 9 at_code code rest → OnlyClassAndCode octets class code rest
-only_class_and_code octets class at_code code rest one two = record {
-  only = λ c d after t.
-      let p = one.only _ _ t.class_taken in
-      let q = two.only d after (rw (p.1) t.code_taken) in
-      (p.0, q.0, q.1);
-}
-
-pub ruleset class_and_code_rules = (no_class, no_code, only_class_and_code)
 
 -- object, property and index
 

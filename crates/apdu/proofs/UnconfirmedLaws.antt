@@ -7,7 +7,7 @@ use Rattle.std.proofs.lemmas.List.{append-nil}
 use Rattle.tags.specs.Canonical.{tagged}
 use Rattle.tags.specs.Number.{unsigned_octets}
 use Rattle.apdu.proofs.CanonicalLaws.{takes_number, takes_object}
-use Rattle.apdu.proofs.Parameters.{alone_number, alone_object, no_contents_at_end}
+use Rattle.apdu_fields.proofs.Parameters.{alone_number, alone_object, no_contents_at_end}
 use Rattle.apdu.specs.ApduLaws.{WhoIsSpellOne, WhoIsSpells, IAmSpellOne, IAmSpells}
 use Rattle.apdu.specs.Parameter.{IsObject, Takes, Only, Lacks}
 use Rattle.apdu.specs.declared.unconfirmed.IAm.{IAm}

@@ -1,20 +1,15 @@
 -- The contents of an Error PDU (20.1.7, 21).
 use Rattle.std.specs.Prelude.{◌≡◌, ◌≢◌, ℕ, List, [], Option, Some, None}
 use Rattle.primitives.specs.Errors.{IsNamedClass, IsNamedCode}
-use Rattle.tags.specs.declared.tag.Class.TheVariants.{Application, Context}
+use Rattle.tags.specs.declared.tag.Class.TheVariants.{Context}
 use Rattle.tags.specs.Number.{SpellsUnsigned}
 use Rattle.tags.specs.Tag.{TakesTag}
 use Rattle.apdu.specs.Numbers.{service_number}
 use Rattle.apdu.specs.declared.numbers.ConfirmedService.TheVariants.{WritePropertyMultiple}
 use Rattle.apdu.specs.Parameter.{opening_tag, closing_tag, IsObject, Takes}
+pub use Rattle.apdu_fields.specs.ClassAndCode.{TakesClassAndCode, OnlyClassAndCode, NoClassAndCode}
 use Rattle.apdu.specs.declared.service_error.ObjectPropertyReference.{ObjectPropertyReference}
 use Rattle.apdu.specs.declared.service_error.ServiceError.{ServiceError}
-
--- class and code, both Enumerated (21, Error)
-pub record TakesClassAndCode (octets : List ℕ) (class code : ℕ) (rest : List ℕ) : Type 0 where
-  pub at_code : List ℕ
-  pub class_taken : Takes SpellsUnsigned Application 9 octets class at_code
-  pub code_taken : Takes SpellsUnsigned Application 9 at_code code rest
 
 -- index [2], then closing tag 1 and the end
 pub record EndsWithIndex (octets : List ℕ) (index : ℕ) : Type 0 where
@@ -73,14 +68,6 @@ pub record OnlyError (service : ℕ) (octets : List ℕ) (class code : ℕ)
 -- no error of this service is spelled
 pub record NoError (service : ℕ) (octets : List ℕ) : Type 0 where
   pub none : (class code : ℕ) (o : Option ObjectPropertyReference) → SpellsError service octets class code o → ⊥
-
--- at the front the octets spell no other class and code, nor is anything else left behind them (21, Error)
-pub record OnlyClassAndCode (octets : List ℕ) (class code : ℕ) (rest : List ℕ) : Type 0 where
-  pub only : (c d : ℕ) (after : List ℕ) → TakesClassAndCode octets c d after → (class ≡ c) × (code ≡ d) × (rest ≡ after)
-
--- no class and code are spelled at the front (21, Error)
-pub record NoClassAndCode (octets : List ℕ) : Type 0 where
-  pub none : (class code : ℕ) (rest : List ℕ) → TakesClassAndCode octets class code rest → ⊥
 
 -- the octets end a reference with no other index, or want of one (21, BACnetObjectPropertyReference)
 pub record OnlyEnd (octets : List ℕ) (index : Option ℕ) : Type 0 where

@@ -11,6 +11,7 @@ use crate::numbers::{AbortReason, RejectReason};
 use crate::pdu_type::PduType;
 use crate::service_error::ServiceError;
 use crate::sizes::{MaxApdu, MaxSegments};
+use apdu_fields::says_segment;
 use std::alloc::{AllocError, Allocator};
 use tags::{Fault, all_or_none};
 
@@ -155,7 +156,7 @@ fn segment_from(first: u8, octets: &[u8]) -> Result<(Option<Segment>, &[u8]), Fa
     ensures left { IfOk result (λ x. length octets.now ≡ 2 * (first / 8 % 2) + length x.1.now) }
     ensures fault { IfErr result (λ e. (e ≡ Fault.Short) × (length octets.now < 2 * (first / 8 % 2))) }
 {
-    if (first >> 3) & 1 == 0 {
+    if !says_segment(first) {
         return Ok((None, octets));
     }
     let [sequence_number, window, rest @ ..] = octets else {

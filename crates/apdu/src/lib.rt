@@ -11,27 +11,23 @@
 //! - `numbers`: confirmed services, and the reasons of a Reject and an Abort.
 //! - `service_error`: why a service failed, as an Error says it.
 //! - `unconfirmed`: Who-Is and I-Am.
-//! - `parameter`: one parameter of a service.
 //! - `apdu_laws`: what holds of every spelling and number, for the proofs of the layers above.
 #![tactic(auto)]
 
 pub mod apdu;
 pub mod apdu_laws;
 pub mod numbers;
-mod parameter;
 pub mod pdu_type;
 pub mod service_error;
 pub mod sizes;
 pub mod unconfirmed;
 
 pub use apdu::{Apdu, Segment};
+pub use apdu_fields::{class_and_code_from, contents_of};
 pub use apdu_laws::{apdu_spelling, i_am_spelling, one_number, one_size, who_is_spelling};
 pub use numbers::{AbortReason, ConfirmedService, RejectReason, UnknownService};
-pub use parameter::contents_of;
 pub use pdu_type::PduType;
-pub use service_error::{
-    ObjectPropertyReference, ServiceError, class_and_code_from, write_class_and_code,
-};
+pub use service_error::{ObjectPropertyReference, ServiceError, write_class_and_code};
 pub use sizes::{MaxApdu, MaxSegments};
 pub use unconfirmed::{
     IAm, Limits, Segmentation, UnconfirmedService, WhoIs, i_am_from, who_is_from, write_i_am,

@@ -1,13 +1,15 @@
 //! The contents of an Error PDU: why a service failed.
 
 ghost use Rattle.std.specs.Prelude.{◌≡◌, ◌<◌, ◌^◌, Some, ◌↔◌, ◌++◌, IsTrue, IfSome, IfNone, IfErr, OnOk, OnErr};
-ghost use Rattle.primitives.specs.Errors.{class_number, code_number, IsNamedClass, IsNamedCode};
-ghost use Rattle.apdu.specs.ServiceError.{TakesClassAndCode, OnlyClassAndCode, NoClassAndCode, TakesReference, OnlyReference, NoReference, EndsReference, OnlyEnd, NoEnd, SpellsFailedWrite, OnlyFailedWrite, NoFailedWrite, SpellsError, OnlyError, NoError, HasNames};
+ghost use Rattle.primitives.specs.Errors.{class_number, code_number};
+ghost use Rattle.apdu.specs.ServiceError.{TakesReference, OnlyReference, NoReference, EndsReference, OnlyEnd, NoEnd, SpellsFailedWrite, OnlyFailedWrite, NoFailedWrite, SpellsError, OnlyError, NoError, HasNames};
 ghost use Rattle.apdu.specs.ApduWriting.{class_and_code_octets, error_octets, CanBeNamed, FitsError, NamesWriteOf};
 ghost use Rattle.tags.specs.Canonical.{Extends};
 
 use crate::numbers::ConfirmedService;
-use crate::parameter::{closing_from, contents_of, number_from, object_from, opening_from};
+use apdu_fields::{
+    class_and_code_from, closing_from, contents_of, number_from, object_from, opening_from,
+};
 use primitives::{ErrorClass, ErrorCode};
 use std::alloc::Allocator;
 use tags::{
@@ -117,23 +119,6 @@ impl ObjectPropertyReference {
         }
         Ok(())
     }
-}
-
-/// The class and the code at the front, both Enumerated (21, Error). `None` where other octets stand
-/// there; the reader is then as it was.
-#[tactic(auto, using(crate::proofs::ServiceErrors::class_and_code_rules))]
-pub fn class_and_code_from(reader: &mut Reader<'_>) -> Option<(ErrorClass, ErrorCode)>
-    ensures read { IfSome result (λ e. TakesClassAndCode reader.old (class_number e.0) (code_number e.1) reader.new) }
-    ensures only { IfSome result (λ e. OnlyClassAndCode reader.old (class_number e.0) (code_number e.1) reader.new) }
-    ensures named { IfSome result (λ e. IsNamedClass e.0 × IsNamedCode e.1) }
-    ensures refused { IfNone result (NoClassAndCode reader.old) }
-    ensures unchanged { IfNone result (reader.new ≡ reader.old) }
-{
-    let mut ahead = Reader::new(reader.rest());
-    let class = number_from(Class::Application, 9, &mut ahead)?;
-    let code = number_from(Class::Application, 9, &mut ahead)?;
-    *reader = ahead;
-    Some((ErrorClass::from(class), ErrorCode::from(code)))
 }
 
 /// Appends class and code, both Enumerated, in their shortest octets (21, Error).

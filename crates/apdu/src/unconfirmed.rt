@@ -6,7 +6,7 @@ ghost use Rattle.apdu.specs.Parameter.{Takes, Only, Lacks};
 ghost use Rattle.tags.specs.Canonical.{Extends};
 ghost use Rattle.tags.specs.declared.fault.Fault.TheVariants.{NoSuch};
 
-use crate::parameter::{number_from, object_from};
+use apdu_fields::{number_from, object_from};
 use primitives::ObjectType;
 use std::alloc::Allocator;
 use tags::{Class, Fault, ObjectId, Reader, all_or_none, write_object, write_unsigned};

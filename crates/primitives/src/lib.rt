@@ -2,13 +2,11 @@
 //! clauses 15, 18 and 21): the service primitives of the object access services.
 //!
 //! To the layers above it promises: classes, codes, object types and properties have the
-//! standard's numbers, each in one place; whether a request or a reply has a spelling, and whether
-//! a reply answers a request, is told exactly; a copy is equal to what was copied. Nothing here
-//! knows of octets or of the objects of a device.
+//! standard's numbers, each in one place; whether a request or a reply has a spelling is told exactly; a copy is equal
+//! to what was copied. Nothing here knows of octets or of the objects of a device.
 //!
 //! - `plain_data`: requests, replies and what they are made of.
 //! - `soundness`: whether a request or a reply has a spelling.
-//! - `answers`: whether a reply is one to a request.
 //! - `copying`: equal copies.
 //! - `error`: error classes and codes, with the standard's numbers.
 //! - `object_type`: the object types, with the standard's numbers.
@@ -16,7 +14,6 @@
 //! - `laws`: a number has one name.
 #![tactic(auto)]
 
-mod answers;
 mod copying;
 mod error;
 mod laws;

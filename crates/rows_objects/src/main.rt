@@ -6,7 +6,7 @@
 //! - `text`: words of a row, as the libraries read and print them.
 //! - `words_rows`: requests in words.
 //! - `numbers`: numbers of classes, codes, object types and properties.
-//! - `soundness`, `answers`, `copies`: requests and replies as plain data.
+//! - `soundness`, `copies`: requests and replies as plain data.
 //! - `slots`: commands and what they leave in force.
 //! - `sites`: sites that rows describe.
 //! - `opening`: sites that open, or not, and their copies and those of their tables.
@@ -16,7 +16,6 @@
 //! that owns a request in memory with a lifetime costs the proof ten times as much.
 #![tactic(auto)]
 
-mod answers;
 mod copies;
 mod numbers;
 mod opening;
@@ -61,7 +60,6 @@ fn run_row(given: Given<'_>, name: &str, row: &Row<'_>) -> Result<Counts, Stop> 
         "words_requests.txt" => words_rows::run(given, row.asked, wanted),
         "primitives_numbers.txt" => numbers::run(given.alloc, row.asked, wanted),
         "primitives_soundness.txt" => soundness::run(given.alloc, row.asked, wanted),
-        "primitives_answers.txt" => answers::run(given.alloc, row.asked, wanted),
         "primitives_copies.txt" => copies::run(given, row.asked, wanted),
         _ => Err(Stop::Unread(Part::Asked)),
     }

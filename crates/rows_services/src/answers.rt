@@ -5,6 +5,7 @@
 use objects::{ErrorClass, ErrorCode, Reply, Request};
 use services::{
     Answer, Apdu, ObjectPropertyReference, ServiceError, answer_of, decode_reply, encode_reply,
+    is_answer_to,
 };
 use sheets::{
     Counts, Given, Part, Stop, Trial, buffer_in, differs, octets, push_written, request_in,
@@ -99,7 +100,7 @@ fn replied<A: Allocator + Copy>(
     reply: &Reply<A>,
     answer: &Answer<'_>,
 ) -> Result<String, Stop> {
-    if !request.is_sound() || !reply.is_sound() || !reply.answers(request) {
+    if !request.is_sound() || !reply.is_sound() || !is_answer_to(request, reply) {
         return Err(differs(given.alloc, "a reply without a spelling"));
     }
     if !goes_in(reply, answer) {

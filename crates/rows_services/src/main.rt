@@ -4,6 +4,7 @@
 //!
 //! - `bodies`: bodies, and the requests that they spell or their Reject.
 //! - `answers`: answers, and the replies that they spell to their requests.
+//! - `kinds`: whether a reply is one to a request.
 //! - `executor`: what an executor replies and leaves.
 //! - `tool`: what `answer` and `explain` print; `said` has it in words.
 //! - `lines`: command lines, what they print, and their exit status.
@@ -20,6 +21,7 @@ mod bodies;
 mod executor;
 mod headers;
 mod in_turn;
+mod kinds;
 mod lines;
 mod said;
 mod tool;
@@ -58,6 +60,7 @@ fn run_row(given: Given<'_>, name: &str, row: &Row<'_>) -> Result<Counts, Stop> 
     let wanted = row.wanted()?;
     match name {
         "services_requests.txt" | "services_rejects.txt" => bodies::run(given, row.asked, wanted),
+        "services_kinds_of_reply.txt" => kinds::run(given.alloc, row.asked, wanted),
         "services_replies.txt" => answers::run(given, row.asked, wanted),
         "headers_carried.txt" => headers::run(given, row.asked, wanted),
         "lines.txt" => lines::run(given.alloc, row.asked, wanted),

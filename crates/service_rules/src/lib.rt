@@ -6,14 +6,17 @@
 //! read; and what executes a request gives the object machine's reply, and leaves its table.
 //!
 //! - `answer`: in which PDU a reply goes, and whether what was read is about what was asked.
+//! - `answers`: whether a reply is one to a request.
 //! - `executor`: what executes requests, and the object machine that does.
 //! - `stop`: why reading a body stops, and what comes of it.
 #![tactic(auto)]
 
 mod answer;
+mod answers;
 mod executor;
 mod stop;
 
 pub use answer::{Answer, answer_of, is_about};
+pub use answers::is_answer_to;
 pub use executor::{Executor, ObjectExecutor};
 pub use stop::{Stop, reject_reason};

@@ -6,7 +6,7 @@ use Rattle.tags.specs.declared.value.Value.{Value}
 use Rattle.tags.specs.Tag.{PlainTag, contents, opening, closing, TakesTag}
 use Rattle.tags.specs.Element.{context}
 use Rattle.tags.specs.declared.tag.Class.TheVariants.{Context}
-use Rattle.apdu.proofs.Parameters.{alone_number, alone_object}
+use Rattle.apdu_fields.proofs.Parameters.{alone_number, alone_object}
 use Rattle.tags.specs.Value.{TakesValue}
 use Rattle.tags.proofs.OneTag.{one_front_tag}
 use Rattle.tags.proofs.ValueLaws.{one_value, no_value_of_closing}

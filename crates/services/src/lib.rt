@@ -35,4 +35,4 @@ pub use apdu::{
 };
 pub use reply::{decode_reply, encode_reply};
 pub use request::{decode_request, encode_request, service_of};
-pub use service_rules::{Answer, Executor, ObjectExecutor, answer_of};
+pub use service_rules::{Answer, Executor, ObjectExecutor, answer_of, is_answer_to};

@@ -16,7 +16,7 @@ use crate::spelled::put_each;
 use crate::values::put_values;
 use apdu::{RejectReason, ServiceError};
 use objects::{Reply, Request};
-use service_rules::{Answer, Stop};
+use service_rules::{Answer, Stop, is_answer_to};
 use std::alloc::{AllocError, Allocator};
 use tags::{Fault, Reader, all_or_none};
 
@@ -106,7 +106,7 @@ pub fn decode_reply<A: Allocator + Copy>(
 {
     match spelled_by(alloc, request, answer) {
         Ok(reply) => {
-            if !reply.answers(request) {
+            if !is_answer_to(request, &reply) {
                 return Ok(None);
             }
             Ok(Some(reply))

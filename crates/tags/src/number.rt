@@ -1,10 +1,10 @@
 //! Unsigned and signed numbers as contents octets (20.2.4, 20.2.5, 20.2.11).
 
-ghost use Rattle.std.specs.Prelude.{◌≡◌, ◌<◌, ◌≤◌, IfOk, IfErr, length};
-ghost use Rattle.tags.specs.Number.{SpellsUnsigned, SpellsSigned, width, signed_width};
+ghost use Rattle.std.specs.Prelude.{◌≡◌, ◌<◌, IfOk, IfErr, length};
+ghost use Rattle.tags.specs.Number.{SpellsUnsigned, SpellsSigned};
 
 use crate::fault::Fault;
-use byteorder::{BigEndian, ByteOrder};
+use contents_octets::{signed_of, unsigned_of};
 
 /// The number of one to four contents octets, most significant first (20.2.4, 20.2.11). Needless
 /// octets in front are read.
@@ -16,10 +16,10 @@ pub fn unsigned_from_contents(octets: &[u8]) -> Result<u32, Fault>
     ensures refused { IfErr result (λ fault. (fault ≡ Fault.BadLength) ×
         ((0 < length octets.now) → 4 < length octets.now)) }
 {
-    if octets.is_empty() || octets.len() > 4 {
-        return Err(Fault::BadLength);
+    match unsigned_of(octets) {
+        Some(n) => Ok(n),
+        None => Err(Fault::BadLength),
     }
-    Ok(BigEndian::read_uint(octets, octets.len()) as u32)
 }
 
 /// The number of one to four contents octets in two's complement (20.2.5).
@@ -31,38 +31,8 @@ pub fn signed_from_contents(octets: &[u8]) -> Result<i32, Fault>
     ensures refused { IfErr result (λ fault. (fault ≡ Fault.BadLength) ×
         ((0 < length octets.now) → 4 < length octets.now)) }
 {
-    if octets.is_empty() || octets.len() > 4 {
-        return Err(Fault::BadLength);
-    }
-    Ok(BigEndian::read_int(octets, octets.len()) as i32)
-}
-
-/// How many octets a number takes at least.
-#[tactic(auto, unfolding(crate::specs::Number::width))]
-pub(crate) fn width_of(n: u32) -> usize
-    ensures value { result ≡ width n }
-    ensures some { 0 < result }
-    ensures few { result ≤ 4 }
-{
-    match n {
-        0..=0xFF => 1,
-        0x100..=0xFFFF => 2,
-        0x1_0000..=0xFF_FFFF => 3,
-        0x100_0000.. => 4,
-    }
-}
-
-/// How many octets a number takes at least, one bit being its sign.
-#[tactic(auto, unfolding(crate::specs::Number::signed_width))]
-pub(crate) fn signed_width_of(z: i32) -> usize
-    ensures value { result ≡ signed_width z }
-    ensures some { 0 < result }
-    ensures few { result ≤ 4 }
-{
-    match z {
-        -0x80..0x80 => 1,
-        -0x8000..0x8000 => 2,
-        -0x80_0000..0x80_0000 => 3,
-        _ => 4,
+    match signed_of(octets) {
+        Some(z) => Ok(z),
+        None => Err(Fault::BadLength),
     }
 }

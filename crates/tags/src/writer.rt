@@ -8,10 +8,10 @@ ghost use Rattle.tags.specs.Value.{IsSound};
 ghost use Rattle.tags.specs.Canonical.{shortest, tag_front, tagged, canonical_tag, IsSoundTag, canonical, Extends};
 
 use crate::fault::Fault;
-use crate::number::{signed_width_of, width_of};
 use crate::object_id::ObjectId;
 use crate::tag::{Class, Content, Tag};
 use crate::value::Value;
+use contents_octets::{signed_width_of, whole_or_none, width_of};
 use std::alloc::{AllocError, Allocator};
 
 /// What was put behind `start` stays where all of it was put, and else is taken away again.
@@ -27,11 +27,7 @@ pub fn all_or_none<E: Drop, B: Allocator>(
     ensures memory { IfErr result (λ fault. fault ≡ Fault.Memory) }
     ensures none { OnErr result (IsErr put × (out.new.items ≡ take start out.old.items)) }
 {
-    if put.is_err() {
-        out.truncate(start);
-        return Err(Fault::Memory);
-    }
-    Ok(())
+    Ok(whole_or_none(put, start, out)?)
 }
 
 /// Appends the shortest octets of a value (20.2).

@@ -1,0 +1,2 @@
+pub mod Parameter
+pub mod ClassAndCode
