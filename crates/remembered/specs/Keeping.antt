@@ -48,15 +48,18 @@ pub record IsKept {A : Type 0} (held : List (Option (Record A))) (keys : tree.BT
   pub apart : AreApart order
   pub found : (a : Asker) → tree.get asker_cmp keys a ≡ key_of held a order
 
--- the asker has this key, and each other the one that it had
-abbrev pub IsSet : Asker → ℕ → tree.BTreeMap Asker ℕ → tree.BTreeMap Asker ℕ → Type 0
-IsSet asker key old new =
-    (q : Asker) → tree.get asker_cmp new q ≡ cond (is_eq (asker_cmp asker q)) (Some key) (tree.get asker_cmp old q)
+-- the asker has this key or none, and each other what it had
+abbrev pub HasNow : Asker → Option ℕ → tree.BTreeMap Asker ℕ → tree.BTreeMap Asker ℕ → Type 0
+HasNow asker key old new =
+    (q : Asker) → tree.get asker_cmp new q ≡ cond (is_eq (asker_cmp asker q)) key (tree.get asker_cmp old q)
 
--- the asker has none, and each other the one that it had
+-- the asker has this key, and each other what it had
+abbrev pub IsSet : Asker → ℕ → tree.BTreeMap Asker ℕ → tree.BTreeMap Asker ℕ → Type 0
+IsSet asker key = HasNow asker (Some key)
+
+-- the asker has none, and each other what it had
 abbrev pub IsDropped : Asker → tree.BTreeMap Asker ℕ → tree.BTreeMap Asker ℕ → Type 0
-IsDropped asker old new =
-    (q : Asker) → tree.get asker_cmp new q ≡ cond (is_eq (asker_cmp asker q)) None (tree.get asker_cmp old q)
+IsDropped asker = HasNow asker None
 
 -- each asker has the key that it had
 abbrev pub IsSameMap : tree.BTreeMap Asker ℕ → tree.BTreeMap Asker ℕ → Type 0

@@ -1,10 +1,9 @@
 //! The map from who asked to the key of the newest record.
 
-ghost use Rattle.std.specs.Prelude.{◌≡◌, cond, Some, None, OnOk, OnErr, slice_get};
+ghost use Rattle.std.specs.Prelude.{◌≡◌, ◌≢◌, None, IfOk, OnOk, OnErr, slice_get};
 ghost use Rattle.std.specs.BTreeMap as tree;
-ghost use Rattle.std.specs.Ordering.{is_eq};
 ghost use Rattle.objects.specs.Machine.{after};
-ghost use Rattle.remembered.specs.Keeping.{IsSet, IsDropped, IsSameMap};
+ghost use Rattle.remembered.specs.Keeping.{HasNow, IsSet, IsDropped, IsSameMap};
 ghost use Rattle.remembered.specs.Records.{asker_cmp};
 
 use crate::record::Asker;
@@ -20,18 +19,18 @@ pub(crate) fn key_at<A: Allocator>(keys: &BTreeMap<Asker, usize, A>, asker: Aske
     keys.get(&asker).copied()
 }
 
-/// Sets the key of an asker.
+/// Sets the key of an asker, and answers the one that it had.
 pub(crate) fn set_key<A: Allocator + Copy>(
     keys: &mut BTreeMap<Asker, usize, A>,
     asker: Asker,
     key: usize,
-) -> Result<(), AllocError>
+) -> Result<Option<usize>, AllocError>
+    ensures had { IfOk result (λ had. had ≡ tree.get asker_cmp keys.old asker) }
     ensures set { OnOk result (IsSet asker key keys.old keys.new) }
     ensures unchanged { OnErr result (keys.new.entries ≡ keys.old.entries) }
     ensures absent { OnErr result (tree.get asker_cmp keys.old asker ≡ None) }
 {
-    keys.insert(asker, key)?;
-    Ok(())
+    Ok(keys.insert(asker, key)?)
 }
 
 /// Takes an asker away.
@@ -41,7 +40,25 @@ pub(crate) fn drop_key<A: Allocator + Copy>(keys: &mut BTreeMap<Asker, usize, A>
     keys.remove(&asker);
 }
 
-/// Makes the place of an asker, has a request executed, and sets the key.
+/// Gives an asker that has a key the one again that it had, or none. It takes no memory.
+fn put_back<A: Allocator + Copy>(
+    keys: &mut BTreeMap<Asker, usize, A>,
+    asker: Asker,
+    had: Option<usize>,
+)
+    requires { tree.get asker_cmp keys.old asker ≢ None }
+    ensures { HasNow asker had keys.old keys.new }
+{
+    match had {
+        Some(key) => {
+            set_key(keys, asker, key).unwrap();
+        }
+        None => drop_key(keys, asker),
+    }
+}
+
+/// Sets the key of an asker, and has a request executed: where that finds no memory, the asker has again the key that
+/// it had.
 pub(crate) fn run_with_key<E: Executor<A>, A: Allocator + Copy>(
     keys: &mut BTreeMap<Asker, usize, A>,
     asker: Asker,
@@ -54,33 +71,9 @@ pub(crate) fn run_with_key<E: Executor<A>, A: Allocator + Copy>(
     ensures same_keys { OnErr result (IsSameMap keys.old keys.new) }
     ensures same_table { OnErr result (E.table_of executor.new ≡ E.table_of executor.old) }
 {
-    match key_at(keys, asker) {
-        None => run_with_new_key(keys, asker, key, executor, request),
-        Some(_) => {
-            executor.run(request)?;
-            set_key(keys, asker, key).unwrap();
-            Ok(())
-        }
-    }
-}
-
-/// The same where the asker has no key yet: the place is taken away again where the execution finds no memory.
-fn run_with_new_key<E: Executor<A>, A: Allocator + Copy>(
-    keys: &mut BTreeMap<Asker, usize, A>,
-    asker: Asker,
-    key: usize,
-    executor: &mut E,
-    request: &Request<A>,
-) -> Result<(), AllocError>
-    requires { tree.get asker_cmp keys.old asker ≡ None }
-    ensures set { OnOk result (IsSet asker key keys.old keys.new) }
-    ensures ran { OnOk result (E.table_of executor.new ≡ after (E.table_of executor.old) request.now) }
-    ensures same_keys { OnErr result (IsSameMap keys.old keys.new) }
-    ensures same_table { OnErr result (E.table_of executor.new ≡ E.table_of executor.old) }
-{
-    set_key(keys, asker, key)?;
+    let had = set_key(keys, asker, key)?;
     if executor.run(request).is_err() {
-        drop_key(keys, asker);
+        put_back(keys, asker, had);
         return Err(AllocError);
     }
     Ok(())
