@@ -2,8 +2,8 @@
 //! requests.
 //!
 //! To the bodies of the services, and to what keeps and says answers, it promises: each rule is the one that its clause
-//! states, over one reply, one reference or one reason alone, so that a wrong one is refused here, before any octet is
-//! read; and what executes a request gives the object machine's reply, and leaves its table.
+//! states, over a request and a reply, one reference or one reason, so that a wrong one is refused here, before any
+//! octet is read; and what executes a request gives the object machine's reply, and leaves its table.
 //!
 //! - `answer`: in which PDU a reply goes, and whether what was read is about what was asked.
 //! - `answers`: whether a reply is one to a request.
