@@ -1,4 +1,5 @@
-//! One parameter of a service: a tag of the class and number that must stand there (20.2.15).
+//! One parameter of a service: a tag of the class and number that must stand there (20.2.15). Where a function answers
+//! `None`, the reader stands where it stood or behind the tag that it read: who goes on reads ahead with another.
 
 ghost use Rattle.std.specs.Prelude.{◌≡◌, IfSome, IfNone};
 ghost use Rattle.tags.specs.Number.{SpellsUnsigned};
