@@ -380,6 +380,7 @@ fn slot_value<A: Allocator + Copy>(
 }
 
 /// A list of one value.
+#[inline(always)]
 fn one<A: Allocator + Copy>(alloc: A, value: Value<A>) -> Result<Values<A>, AllocError>
     ensures { IfOk result (λ values. values ≡ value ∷ []) }
 {

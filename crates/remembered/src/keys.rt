@@ -13,6 +13,7 @@ use std::alloc::{AllocError, Allocator};
 use std::collections::{BTreeMap, VecDeque};
 
 /// The key of an asker.
+#[inline(always)]
 pub(crate) fn key_at<A: Allocator>(keys: &BTreeMap<Asker, usize, A>, asker: Asker) -> Option<usize>
     ensures { result ≡ tree.get asker_cmp keys.now asker }
 {

@@ -40,6 +40,7 @@ impl<A: Allocator + Copy> Value<A> {
     ///
     /// # Errors
     /// Want of memory.
+    #[inline(always)]
     pub fn copy(&self, alloc: A) -> Result<Self, AllocError>
         ensures { IfOk result (λ copy. copy ≡ self.now) }
     {

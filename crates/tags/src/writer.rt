@@ -52,6 +52,7 @@ pub fn write_value<A: Allocator, B: Allocator>(
 ///
 /// # Errors
 /// `Memory` alone. The buffer is then as it was.
+#[inline(always)]
 pub fn write_tag<B: Allocator>(tag: &Tag<'_>, out: &mut Vec<u8, B>) -> Result<(), Fault>
     requires { IsSoundTag tag.now.class tag.now.number (plain_content tag.now.content) }
     ensures written { OnOk result (out.new.items ≡ out.old.items ++
@@ -89,6 +90,7 @@ pub fn write_unsigned<B: Allocator>(
 ///
 /// # Errors
 /// `Memory` alone. The buffer is then as it was.
+#[inline(always)]
 pub fn write_object<B: Allocator>(
     class: Class,
     number: u8,
@@ -148,6 +150,7 @@ fn put_tag<B: Allocator>(tag: &Tag<'_>, out: &mut Vec<u8, B>) -> Result<(), Allo
     Ok(())
 }
 
+#[inline(always)]
 fn put_initial<B: Allocator>(
     class: Class,
     number: u8,
@@ -172,6 +175,7 @@ fn put_initial<B: Allocator>(
 }
 
 #[tactic(auto, unfolding(crate::specs::Canonical::shortest))]
+#[inline(always)]
 fn put_front<B: Allocator>(
     class: Class,
     number: u8,
