@@ -15,6 +15,9 @@ const FROM: Mac = Mac::Six([127, 0, 0, 1, 0xBA, 0xC2]);
 /// The longest NPDU on the link, in octets.
 const LONGEST_NPDU: usize = 1497;
 
+/// How many octets the link header has.
+const HEADER: usize = 4;
+
 /// A device that hears one datagram again and again, each time with another invoke ID, and so many ms later.
 #[derive(Drop)]
 pub struct Answering<A: Allocator + Copy> {
@@ -93,7 +96,7 @@ fn say<A: Allocator + Copy>(alloc: A, npdu: &[u8]) -> Result<u64, Fault> {
     if npdu.len() > LONGEST_NPDU {
         return Ok(0);
     }
-    let mut out = Vec::new(alloc);
+    let mut out = Vec::with_capacity(alloc, HEADER + npdu.len())?;
     Bvll::OriginalUnicastNpdu(npdu).write(&mut out)?;
     Ok(out.len() as u64)
 }

@@ -2,3 +2,4 @@ pub mod SiteLaws
 pub mod HeardLaws
 pub mod ServerLaws
 pub mod ServeLaws
+pub mod SayLaws

@@ -1,13 +1,14 @@
 -- A plan that is carried out is a step of the device.
-use Rattle.std.proofs.Common.{◌≡◌, refl, sym, ap, subst, inl, ℕ, List}
+use Rattle.std.proofs.Common.{◌≡◌, refl, sym, ap, subst, ◌∙◌, inl, ℕ, List, Option}
 use Rattle.apdu.specs.Apdu.{apdu_of, HasNamedNumbers}
 use Rattle.apdu.specs.declared.apdu.Apdu.{Apdu}
 use Rattle.npdu.specs.declared.parcel.Parcel.{Parcel}
 use Rattle.server_tsm.specs.Hearing.{heard_of}
+use Rattle.server_tsm.specs.Plan.{Plan}
 use Rattle.server_tsm.specs.Server.{ServerTsmState, committed}
 use Rattle.server_tsm.specs.Steps.{IsPlan, effects_of}
 use Rattle.server_tsm.specs.declared.asked.Origin.{Origin}
-use Rattle.server_tsm.specs.declared.plan.Plan.{Plan}
+use Rattle.server_tsm.specs.declared.plan.Executed.{Executed}
 use Rattle.device.specs.Device.{DeviceState}
 use Rattle.device.specs.Hearing.{DeviceHears, Does, Serves, origin_of, silence}
 use Rattle.device.specs.declared.device.Told.{Told}
@@ -18,18 +19,18 @@ use Rattle.unitdata.specs.Hearing.{Brings, Content, Heard, OnlyBrings, refuses}
 use Rattle.device.specs.Saying.{parcels_of}
 use Rattle.unitdata.proofs.HearLaws.{something}
 
-pub served : {A : Type 0} (now : ℕ) (from : Origin) (apdu : Apdu) (old new : DeviceState A) (plan : Plan A) (left : ServerTsmState A) (said : List (Parcel A)) →
+pub served : {A : Type 0} (now : ℕ) (from : Origin) (apdu : Apdu) (old new : DeviceState A) (plan : Plan A) (left : ServerTsmState A) (said : List (Parcel A)) (executed : Option (Executed A)) →
     HasNamedNumbers apdu → IsPlan now from (heard_of apdu) old.server plan → left ≡ committed now plan.change old.server →
-    said ≡ parcels_of now old.mac plan.said → new ≡ record old { server = left } →
-    Serves now from (apdu_of apdu) old (record { said = said; executed = plan.told }) new
-served now from apdu old new plan left said named planned done parcels is = record {
+    said ≡ parcels_of now old.mac plan.said → executed ≡ plan.told → new ≡ record old { server = left } →
+    Serves now from (apdu_of apdu) old (record { said = said; executed = executed }) new
+served now from apdu old new plan left said executed named planned done parcels told is = record {
   apdu = apdu;
   named = named;
   is = refl;
   effects = effects_of plan;
   left = left;
   step = record { plan = plan; planned = planned; effects_are = refl; left_is = done };
-  told_is = ap (λ (s : List (Parcel _)). record { said = s; executed = plan.told }) parcels;
+  told_is = ap (λ (s : List (Parcel _)). record { said = s; executed = executed }) parcels ∙ ap (λ (e : Option (Executed _)). record { said = parcels_of now old.mac plan.said; executed = e }) told;
   new_is = is;
 }
 
@@ -45,5 +46,3 @@ ignored now from to npdu heard rejected d told brings only refused silent = inl 
 })
 
 pub ruleset heard_rules = (something)
-
-pub ruleset serve_rules = (served)

@@ -3,10 +3,10 @@
 ghost use Rattle.std.specs.Prelude.{◌≡◌};
 ghost use Rattle.device.specs.Device.{i_am_of, size_of};
 
-use crate::saying::parcels_of;
+use crate::saying::said_parcels;
 use npdu::{Mac, Parcel, Station};
 use objects::{DataLink, SiteObjects, Table};
-use server_tsm::{Executed, Plan, ServerTsm};
+use server_tsm::{Executed, ServerTsm};
 use services::{IAm, MaxApdu, ObjectExecutor, Segmentation};
 use std::alloc::{AllocError, Allocator};
 use std::marker::Model;
@@ -162,13 +162,10 @@ impl<A: Allocator + Copy> Device<A> {
         ensures cause { IfErr result (λ fault. fault ≡ Fault.Memory) }
         ensures unchanged { OnErr result (self.new ≡ self.old) }
     {
-        let Plan { said, told, change } = self.server.plan_tick(now)?;
-        let said = parcels_of(self.alloc, self.mac, now, said.as_slice())?;
-        self.server.commit(change, now)?;
-        Ok(Told {
-            said,
-            executed: told,
-        })
+        let plan = self.server.plan_tick(now)?;
+        let said = said_parcels(self.alloc, self.mac, now, &plan)?;
+        let executed = self.server.commit(plan, now)?;
+        Ok(Told { said, executed })
     }
 
     /// Restarts at the moment `now`, in milliseconds, with these objects: it forgets all that it remembers and

@@ -5,7 +5,7 @@ ghost use Rattle.device.specs.Hearing.{origin_of, silence};
 ghost use Rattle.unitdata.specs.Heard.{heard_of};
 
 use crate::device::{Device, Told};
-use crate::saying::{i_am_parcel, parcels_of};
+use crate::saying::{i_am_parcel, said_parcels};
 use npdu::Parcel;
 use server_tsm::Origin;
 use services::Apdu;
@@ -98,7 +98,7 @@ impl<A: Allocator + Copy> Device<A> {
     }
 
     /// What its server does on an APDU. Nothing takes memory once the server has changed.
-    #[tactic(auto, using(crate::proofs::ServerLaws::size_rules, crate::proofs::ServeLaws::serve_rules))]
+    #[tactic(auto, using(crate::proofs::ServerLaws::size_rules))]
     fn serve(&mut self, origin: &Origin, apdu: &Apdu<'_>, now: u64) -> Result<Told<A>, Fault>
         requires greatest { now ≤ 2 ^ 62 }
         requires order { self.old.server.moment ≤ now }
@@ -108,11 +108,8 @@ impl<A: Allocator + Copy> Device<A> {
         ensures unchanged { OnErr result (self.new ≡ self.old) }
     {
         let plan = self.server.plan(origin, apdu, now)?;
-        let said = parcels_of(self.alloc, self.mac, now, plan.said.as_slice())?;
-        self.server.commit(plan.change, now)?;
-        Ok(Told {
-            said,
-            executed: plan.told,
-        })
+        let said = said_parcels(self.alloc, self.mac, now, &plan)?;
+        let executed = self.server.commit(plan, now)?;
+        Ok(Told { said, executed })
     }
 }

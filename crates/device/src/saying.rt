@@ -1,13 +1,15 @@
 //! What a device says, in parcels.
 
-ghost use Rattle.std.specs.Prelude.{◌≡◌, ◌<◌, ◌^◌, ◌++◌, true, IfOk, IfErr};
+ghost use Rattle.std.specs.Prelude.{◌≡◌, ◌<◌, ◌^◌, ◌++◌, true, IfOk, IfErr, OnOk};
 ghost use Rattle.device.specs.Saying as spec;
-ghost use Rattle.device.specs.Saying.{i_am_npdu, i_am_parcel, npdu_of, parcel_to, parcels_of};
+ghost use Rattle.device.specs.Saying.{i_am_npdu, i_am_parcel, npdu_of, parcel_of, parcel_to, parcels_of};
+ghost use Rattle.server_tsm.specs.Answering.{whole_said};
 ghost use Rattle.server_tsm.specs.Said.{said_way};
 ghost use Rattle.unitdata.specs.Saying as header;
 
 use npdu::{Mac, Parcel, Target};
-use server_tsm::Said;
+use remembered::Record;
+use server_tsm::{Plan, Said, write_whole};
 use services::{Apdu, IAm, PduType, UnconfirmedService, write_i_am};
 use std::alloc::Allocator;
 use tags::{Fault, Items, Octets};
@@ -56,8 +58,8 @@ fn parcel_to<A: Allocator + Copy>(
     })
 }
 
-/// All that is said from the address `mac` at the moment `now`, in parcels.
-pub(crate) fn parcels_of<A: Allocator + Copy>(
+/// All of this list from the address `mac` at the moment `now`, in parcels.
+fn parcels_of<A: Allocator + Copy>(
     alloc: A,
     mac: Mac,
     now: u64,
@@ -71,6 +73,65 @@ pub(crate) fn parcels_of<A: Allocator + Copy>(
         if is_spelled(said.way().destination) {
             parcels.push(parcel_to(alloc, mac, now, said)?)?;
         }
+    }
+    Ok(parcels)
+}
+
+/// A remembered answer whole from the address `mac` at the moment `now`, in a parcel: its octets are written into the
+/// buffer of the NPDU, header by header.
+fn answer_parcel<A: Allocator + Copy>(
+    alloc: A,
+    mac: Mac,
+    now: u64,
+    entry: &Record<A>,
+) -> Result<Parcel<A>, Fault>
+    requires { header.is_spelled entry.now.way.destination ≡ true }
+    ensures parcel { IfOk result (λ parcel. parcel ≡ parcel_to now mac (whole_said entry.now)) }
+    ensures memory { IfErr result (λ fault. fault ≡ Fault.Memory) }
+{
+    let expects_reply = station_rules::expects_reply(PduType::ComplexAck, false);
+    let mut npdu = begin(alloc, expects_reply, entry.way.destination)?;
+    write_whole(entry, &mut npdu)?;
+    Ok(Parcel {
+        from: mac,
+        to: Target::One(entry.way.to),
+        npdu: Octets::from_vec(npdu),
+        stamp: now,
+    })
+}
+
+/// Appends a remembered answer whole, in a parcel, where DNET can name who it is for.
+fn push_answer<A: Allocator + Copy>(
+    alloc: A,
+    mac: Mac,
+    now: u64,
+    entry: &Record<A>,
+    parcels: &mut Items<Parcel<A>, A>,
+) -> Result<(), Fault>
+    ensures pushed { OnOk result (parcels.new ≡ parcels.old ++ parcel_of now mac (whole_said entry.now)) }
+    ensures memory { IfErr result (λ fault. fault ≡ Fault.Memory) }
+{
+    if is_spelled(entry.way.destination) {
+        parcels.push(answer_parcel(alloc, mac, now, entry)?)?;
+    }
+    Ok(())
+}
+
+/// All that a plan says from the address `mac` at the moment `now`, in parcels.
+#[tactic(auto, using(crate::proofs::SayLaws::say_rules))]
+pub(crate) fn said_parcels<A: Allocator + Copy>(
+    alloc: A,
+    mac: Mac,
+    now: u64,
+    plan: &Plan<A>,
+) -> Result<Items<Parcel<A>, A>, Fault>
+    ensures parcels { IfOk result (λ parcels. parcels ≡ parcels_of now mac plan.now.said) }
+    ensures memory { IfErr result (λ fault. fault ≡ Fault.Memory) }
+{
+    let spoken = plan.spoken();
+    let mut parcels = parcels_of(alloc, mac, now, spoken.listed)?;
+    if let Some(entry) = spoken.whole {
+        push_answer(alloc, mac, now, entry, &mut parcels)?;
     }
     Ok(parcels)
 }

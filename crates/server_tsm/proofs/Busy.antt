@@ -23,11 +23,11 @@ use Rattle.server_tsm.proofs.Full.{full_is_living}
 use Rattle.server_tsm.specs.Answering.{answered_by, data_of, piece_said}
 use Rattle.server_tsm.specs.Hearing.{Message, asks, acknowledges, gives_up, nothing, Reached, Whole, plans, completes, ack_heard, ack_if, ack_taken, asked_by, asked_on, asker_of, assembled, begins_if, completed, completed_if, executing_if, finished, finished_by, given_up, is_crowded, is_deaf, is_sending, joined, joined_by, of_service, part_heard, part_joined, reached, reached_by, repeated_if, request_heard, taken_if, turned_by, unless, whole_heard}
 use Rattle.server_tsm.specs.Laws.{BusyIsFull, living_assemblies, living_records}
+use Rattle.server_tsm.specs.Plan.{Plan}
 use Rattle.server_tsm.specs.Server.{AreTimely, ServerTsmState}
 use Rattle.server_tsm.specs.declared.asked.Asked.{Asked}
 use Rattle.server_tsm.specs.declared.asked.Origin.{Origin}
 use Rattle.server_tsm.specs.declared.assembly.Assembly.{Assembly}
-use Rattle.server_tsm.specs.declared.plan.Plan.{Plan}
 use Rattle.server_tsm.specs.declared.said.Said.{Said}
 use Rattle.server_tsm.specs.declared.said.Said.TheVariants as said
 

@@ -6,9 +6,9 @@ use Rattle.primitives.specs.declared.plain_data.Request.{Request}
 use Rattle.segments.specs.Numbers.{MAX_OCTETS}
 use Rattle.services.specs.Request.{RejectsRequest, SpellsRequest}
 use Rattle.server_tsm.specs.Hearing.{Whole, completed, completed_if, finished_by}
+use Rattle.server_tsm.specs.Plan.{Plan}
 use Rattle.server_tsm.specs.Server.{ServerTsmState}
 use Rattle.server_tsm.specs.Steps.{IsFinished, Means}
-use Rattle.server_tsm.specs.declared.plan.Plan.{Plan}
 
 module _ {A : Type 0} where
   pub means_of : (service : ℕ) (octets : List ℕ) (found : Result (Request A) RejectReason) → IfOk found (λ request. SpellsRequest service octets request) → IfErr found (λ reason. RejectsRequest A reason service octets) → Means A service octets found

@@ -23,6 +23,7 @@ use Rattle.server_tsm.proofs.Full.{full_is_living}
 use Rattle.server_tsm.specs.Answering.{answer_of}
 use Rattle.server_tsm.specs.Hearing.{Heard, Message, asks, acknowledges, gives_up, nothing, Reached, Whole, plans, completes, ack_heard, ack_if, ack_taken, asked_by, asked_on, asker_of, completed_if, executing, executing_if, finished, is_deaf, is_sending, joined, joined_by, of_service, part_heard, part_joined, quiet, reached, repeated, repeated_if, request_heard, taken_if, turned_by, unless, whole_heard}
 use Rattle.server_tsm.specs.Laws.{AnswerIsWhole, DeafDoesNothing, ExecutesNothing, IsTaken, JoinedIsExecuted, OnePlan, RememberedIsNotExecuted, RepeatIsSaidAgain, WholeIsExecuted}
+use Rattle.server_tsm.specs.Plan.{Plan}
 use Rattle.server_tsm.specs.Server.{ServerTsmState}
 use Rattle.server_tsm.specs.Steps.{IsFinished, IsFound, Means}
 use Rattle.server_tsm.specs.declared.asked.Asked.{Asked}
@@ -30,7 +31,6 @@ use Rattle.server_tsm.specs.declared.asked.Origin.{Origin}
 use Rattle.server_tsm.specs.declared.assembly.Assembly.{Assembly}
 use Rattle.server_tsm.specs.declared.plan.Change.TheVariants.{Stays}
 use Rattle.server_tsm.specs.declared.said.Said.{Said}
-use Rattle.server_tsm.specs.declared.plan.Plan.{Plan}
 
 module _ {A : Type 0} where
   one_meaning : (service : ℕ) (octets : List ℕ) (x y : Result (Request A) RejectReason) → Means A service octets x → Means A service octets y → x ≡ y

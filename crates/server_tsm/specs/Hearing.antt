@@ -23,6 +23,7 @@ use Rattle.segments.specs.declared.step.Turn.TheVariants as turn
 use Rattle.services.specs.Asked.{replied}
 use Rattle.server_tsm.specs.Answering.{answered_by, record_of}
 use Rattle.server_tsm.specs.Limits.{begun}
+use Rattle.server_tsm.specs.Plan.{Plan}
 use Rattle.server_tsm.specs.Server.{ServerTsmState, gathers_still, is_for}
 use Rattle.server_tsm.specs.Waking.{saying_by}
 use Rattle.server_tsm.specs.declared.asked.AnswerLimits.{AnswerLimits}
@@ -31,7 +32,6 @@ use Rattle.server_tsm.specs.declared.asked.Origin.{Origin}
 use Rattle.server_tsm.specs.declared.assembly.Assembly.{Assembly}
 use Rattle.server_tsm.specs.declared.plan.Change.{Change}
 use Rattle.server_tsm.specs.declared.plan.Change.TheVariants.{Stays, Says, Gathers, GivesUp, Executes}
-use Rattle.server_tsm.specs.declared.plan.Plan.{Plan}
 use Rattle.server_tsm.specs.declared.said.Said.{Said}
 use Rattle.server_tsm.specs.declared.said.Said.TheVariants as said
 

@@ -19,6 +19,7 @@ use Rattle.services.specs.Asked.{replied}
 use Rattle.services.specs.Request.{SpellsRequest}
 use Rattle.server_tsm.specs.Answering.{answer_apdu, answer_of, answered_by, number_of}
 use Rattle.server_tsm.specs.Hearing.{Heard, asks, acknowledges, ack_if, asked_by, asked_on, asker_of, assembled, executing, is_deaf, quiet, repeated}
+use Rattle.server_tsm.specs.Plan.{Plan}
 use Rattle.server_tsm.specs.Said.{answer_octets}
 use Rattle.server_tsm.specs.Server.{AreTimely, ServerTsmState, committed, gathers_still}
 use Rattle.server_tsm.specs.Steps.{IsPlan}
@@ -28,7 +29,6 @@ use Rattle.server_tsm.specs.declared.asked.Origin.{Origin}
 use Rattle.server_tsm.specs.declared.assembly.Assembly.{Assembly}
 use Rattle.server_tsm.specs.declared.plan.Change.{Change}
 use Rattle.server_tsm.specs.declared.plan.Change.TheVariants.{Stays, Executes}
-use Rattle.server_tsm.specs.declared.plan.Plan.{Plan}
 use Rattle.server_tsm.specs.declared.said.Said.{Said}
 use Rattle.server_tsm.specs.declared.said.Said.TheVariants as said
 

@@ -4,10 +4,10 @@ use Rattle.apdu.specs.declared.numbers.RejectReason.{RejectReason}
 use Rattle.primitives.specs.declared.plain_data.Request.{Request}
 use Rattle.services.specs.Request.{RejectsRequest, SpellsRequest}
 use Rattle.server_tsm.specs.Hearing.{Heard, Reached, Whole, plans, completes, reached, finished}
+use Rattle.server_tsm.specs.Plan.{Plan}
 use Rattle.server_tsm.specs.Server.{ServerTsmState, committed}
 use Rattle.server_tsm.specs.declared.asked.Origin.{Origin}
 use Rattle.server_tsm.specs.declared.plan.Effects.{Effects}
-use Rattle.server_tsm.specs.declared.plan.Plan.{Plan}
 
 -- this is what service data mean: a request, or why they are rejected (15, 18.9)
 abbrev pub Means : (A : Type 0) → (service : ℕ) → List ℕ → Result (Request A) RejectReason → Type 0

@@ -7,8 +7,8 @@ use Rattle.segments.specs.Cutting.{Cutting, wakes}
 use Rattle.segments.specs.declared.step.Turn.{Turn}
 use Rattle.segments.specs.declared.step.Turn.TheVariants.{Waits, Sends, Ends}
 use Rattle.server_tsm.specs.Answering.{answered_by}
+use Rattle.server_tsm.specs.Plan.{Plan}
 use Rattle.server_tsm.specs.declared.plan.Change.TheVariants.{Wakes}
-use Rattle.server_tsm.specs.declared.plan.Plan.{Plan}
 use Rattle.server_tsm.specs.declared.plan.Saying.{Saying}
 use Rattle.server_tsm.specs.declared.said.Said.{Said}
 

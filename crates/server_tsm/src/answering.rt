@@ -1,6 +1,6 @@
 //! What a server answers to a request, what it remembers of the answer, and how it says it (5.4.5).
 
-ghost use Rattle.std.specs.Prelude.{◌≡◌, ◌++◌, None, IfOk, OnOk};
+ghost use Rattle.std.specs.Prelude.{◌≡◌, ◌++◌, None, IfOk, OnOk, option_copied};
 ghost use Rattle.apdu.specs.ApduWriting.{CanBeWritten, error_octets};
 ghost use Rattle.apdu.specs.Apdu.{error_pdu};
 ghost use Rattle.primitives.specs.Answers.{IsAnswerTo};
@@ -9,6 +9,7 @@ ghost use Rattle.primitives.specs.Sound.{IsSoundReply, IsSoundRequest};
 ghost use Rattle.remembered.specs.Records.{said_on};
 ghost use Rattle.segments.specs.Pieces.{piece_of};
 ghost use Rattle.services.specs.CanonicalReply.{canonical_reply};
+ghost use Rattle.server_tsm.specs.Plan.{said_whole, said_whole_if};
 ghost use Rattle.server_tsm.specs.Answering.{answer_of, answered_by, data_of, piece_said, recorded, whole_said};
 
 use crate::asked::Asked;
@@ -166,4 +167,34 @@ pub(crate) fn answer<A: Allocator + Copy>(
         said.push(piece_said(alloc, way, entry, &piece)?)?;
     }
     Ok(())
+}
+
+/// Appends an answer that is said from its beginning, but for one that goes whole, which is said from what is
+/// remembered of it.
+pub(crate) fn list_answer<A: Allocator + Copy>(
+    alloc: A,
+    entry: &Record<A>,
+    said: &mut Items<Said<A>, A>,
+) -> Result<(), AllocError>
+    ensures { OnOk result (said.new ++ said_whole entry.now.sending entry.now ≡
+        said.old ++ answered_by entry.now.sending entry.now) }
+{
+    match &entry.sending {
+        None => Ok(()),
+        Some(_) => answer(alloc, &entry.sending, entry.way, entry, said),
+    }
+}
+
+/// Appends a remembered answer whole, where there is one.
+pub(crate) fn list_whole<A: Allocator + Copy>(
+    alloc: A,
+    whole: Option<&Record<A>>,
+    said: &mut Items<Said<A>, A>,
+) -> Result<(), AllocError>
+    ensures { OnOk result (said.new ≡ said.old ++ said_whole_if (option_copied whole.entry)) }
+{
+    match whole {
+        None => Ok(()),
+        Some(entry) => said.push(whole_said(alloc, entry.way, entry)?),
+    }
 }

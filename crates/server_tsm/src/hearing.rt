@@ -15,7 +15,7 @@ ghost use Rattle.server_tsm.specs.Hearing.{
   rejecting,
 };
 
-use crate::answering::{answer, kept_answer, recorded};
+use crate::answering::{kept_answer, list_answer, recorded};
 use crate::asked::{AnswerLimits, Asked, Origin};
 use crate::assembling::{assembled, is_crowded};
 use crate::assembly::Assembly;
@@ -63,6 +63,7 @@ fn asked_by(origin: &Origin, asker: Asker, limits: AnswerLimits, service: u8) ->
 
 /// An Abort is said behind this, and this changes.
 fn aborting<A: Allocator + Copy>(
+    alloc: A,
     mut said: Items<Said<A>, A>,
     reason: AbortReason,
     asked: &Asked,
@@ -75,15 +76,12 @@ fn aborting<A: Allocator + Copy>(
         invoke_id: asked.asker.invoke_id,
         reason,
     })?;
-    Ok(Plan {
-        said,
-        told: None,
-        change,
-    })
+    Plan::changing(alloc, said, change)
 }
 
 /// A request is rejected, behind this.
 fn rejecting<A: Allocator + Copy>(
+    alloc: A,
     mut said: Items<Said<A>, A>,
     reason: RejectReason,
     asked: &Asked,
@@ -95,11 +93,7 @@ fn rejecting<A: Allocator + Copy>(
         invoke_id: asked.asker.invoke_id,
         reason,
     })?;
-    Ok(Plan {
-        said,
-        told: None,
-        change: Change::GivesUp(asked.asker),
-    })
+    Plan::changing(alloc, said, Change::GivesUp(asked.asker))
 }
 
 /// An answer is said behind this and remembered, and the request executed.
@@ -112,17 +106,13 @@ fn answering<A: Allocator + Copy>(
 ) -> Result<Plan<A>, AllocError>
     ensures { IfOk result (λ plan. plan ≡ answering said request reply entry) }
 {
-    answer(alloc, &entry.sending, entry.way, &entry, &mut said)?;
+    list_answer(alloc, &entry, &mut said)?;
     let executed = Executed {
         asker: entry.asker,
-        request: request.copy(alloc)?,
+        request,
         reply,
     };
-    Ok(Plan {
-        said,
-        told: Some(executed),
-        change: Change::Executes(request, entry),
-    })
+    Plan::executing(alloc, said, executed, entry)
 }
 
 /// A SegmentACK of the request.
@@ -161,23 +151,20 @@ fn ack_if<A: Allocator + Copy>(
 
 /// The request came so far, and this is said.
 fn gathered<A: Allocator + Copy>(
+    alloc: A,
     now: u64,
     said: Items<Said<A>, A>,
     asked: &Asked,
     receiver: Receiver<A>,
-) -> Plan<A>
-    ensures { result ≡ gathered now said asked.now receiver }
+) -> Result<Plan<A>, AllocError>
+    ensures { IfOk result (λ plan. plan ≡ gathered now said asked.now receiver) }
 {
     let assembly = Assembly {
         asked: *asked,
         receiver,
         at: now,
     };
-    Plan {
-        said,
-        told: None,
-        change: Change::Gathers(assembly),
-    }
+    Plan::changing(alloc, said, Change::Gathers(assembly))
 }
 
 impl<E: Executor<A> + Drop, A: Allocator + Copy> ServerTsm<E, A> {
@@ -259,10 +246,10 @@ impl<E: Executor<A> + Drop, A: Allocator + Copy> ServerTsm<E, A> {
         ensures { IfOk result (λ plan. plan ≡ finished_by found now said asked.now self.now) }
     {
         match found {
-            Err(reason) => rejecting(said, reason, asked),
+            Err(reason) => rejecting(self.alloc, said, reason, asked),
             Ok(_) if self.is_full(now) => {
                 let change = Change::GivesUp(asked.asker);
-                aborting(said, AbortReason::OutOfResources, asked, change)
+                aborting(self.alloc, said, AbortReason::OutOfResources, asked, change)
             }
             Ok(request) => self.executing(now, asked, request, said),
         }
@@ -281,7 +268,7 @@ impl<E: Executor<A> + Drop, A: Allocator + Copy> ServerTsm<E, A> {
     {
         if octets.len() > MAX_OCTETS {
             let change = Change::GivesUp(asked.asker);
-            return aborting(said, AbortReason::BufferOverflow, asked, change);
+            return aborting(self.alloc, said, AbortReason::BufferOverflow, asked, change);
         }
         let found = decode_request(self.alloc, asked.service, octets)?;
         self.finished(now, asked, found, said)
@@ -313,19 +300,20 @@ impl<E: Executor<A> + Drop, A: Allocator + Copy> ServerTsm<E, A> {
             Step::Taken(ack) => {
                 let said = ack_if(self.alloc, ack, &receiver, asked)?;
                 if more {
-                    return Ok(gathered(now, said, asked, receiver));
+                    return gathered(self.alloc, now, said, asked, receiver);
                 }
                 self.completed(now, asked, receiver.octets(), said)
             }
             Step::Nak(number) => {
                 let mut said = Items::new(self.alloc);
                 said.push(ack_said(true, number, &receiver, asked))?;
-                Ok(gathered(now, said, asked, receiver))
+                gathered(self.alloc, now, said, asked, receiver)
             }
-            Step::Dropped => Ok(gathered(now, Items::new(self.alloc), asked, receiver)),
+            Step::Dropped => gathered(self.alloc, now, Items::new(self.alloc), asked, receiver),
             Step::Full => {
                 let change = Change::GivesUp(asked.asker);
                 aborting(
+                    self.alloc,
                     Items::new(self.alloc),
                     AbortReason::BufferOverflow,
                     asked,
@@ -364,11 +352,17 @@ impl<E: Executor<A> + Drop, A: Allocator + Copy> ServerTsm<E, A> {
             octets.now) self.now) }
     {
         if segment.sequence_number != 0 {
-            return Ok(quiet(self.alloc, Change::Stays));
+            return quiet(self.alloc, Change::Stays);
         }
         if is_crowded(self.assemblies.as_slice(), now) {
             let said = Items::new(self.alloc);
-            return aborting(said, AbortReason::OutOfResources, asked, Change::Stays);
+            return aborting(
+                self.alloc,
+                said,
+                AbortReason::OutOfResources,
+                asked,
+                Change::Stays,
+            );
         }
         let receiver = Receiver::new(self.alloc, granted_window(segment.window));
         self.joined(now, asked, receiver, segment, octets)
@@ -387,7 +381,7 @@ impl<E: Executor<A> + Drop, A: Allocator + Copy> ServerTsm<E, A> {
             (part_joined (Some assembly.now) now asked.now segment.now octets.now self.now.assemblies) self.now) }
     {
         if asked.service != assembly.asked.service {
-            return Ok(quiet(self.alloc, Change::Stays));
+            return quiet(self.alloc, Change::Stays);
         }
         let asked = Asked {
             way: asked.way,
@@ -446,7 +440,7 @@ impl<E: Executor<A> + Drop, A: Allocator + Copy> ServerTsm<E, A> {
             self.now) }
     {
         if by_broadcast || now < self.quiet_until {
-            return Ok(quiet(self.alloc, Change::Stays));
+            return quiet(self.alloc, Change::Stays);
         }
         match segment {
             None => self.whole_heard(now, asked, octets),
@@ -501,9 +495,9 @@ impl<E: Executor<A> + Drop, A: Allocator + Copy> ServerTsm<E, A> {
                 )
             }
             Apdu::Abort { server: false, .. } => {
-                Ok(given_up(self.alloc, self.remembered(now, asker), asker))
+                given_up(self.alloc, self.remembered(now, asker), asker)
             }
-            _ => Ok(quiet(self.alloc, Change::Stays)),
+            _ => quiet(self.alloc, Change::Stays),
         }
     }
 
@@ -522,8 +516,7 @@ impl<E: Executor<A> + Drop, A: Allocator + Copy> ServerTsm<E, A> {
         ensures step { IfOk result (λ effects. IsStep now origin.now (heard_of apdu.now) self.old effects self.new) }
         ensures unchanged { OnErr result (self.new ≡ self.old) }
     {
-        let Plan { said, told, change } = self.plan(origin, apdu, now)?;
-        self.commit(change, now)?;
-        Ok(Effects { said, told })
+        let plan = self.plan(origin, apdu, now)?;
+        self.take(plan, now)
     }
 }

@@ -34,6 +34,6 @@ pub use laws::{
     answer_is_whole, busy_is_full, dead_is_silent, deaf_does_nothing, one_plan,
     repeat_is_said_again, stays_timely, whole_is_executed,
 };
-pub use plan::{Change, Effects, Executed, Plan, Saying};
-pub use said::Said;
+pub use plan::{Change, Effects, Executed, Plan, Saying, Spoken};
+pub use said::{Said, write_whole};
 pub use server::ServerTsm;

@@ -1,12 +1,16 @@
 //! What is planned for an input, before anything changes.
 
+ghost use Rattle.std.specs.Prelude.{◌≡◌, ◌++◌, Some, None, option_copied};
+ghost use Rattle.server_tsm.specs.Plan.{said_whole, said_whole_if};
+
 use crate::assembly::Assembly;
 use crate::said::Said;
 use npdu::Way;
 use objects::{Reply, Request};
 use remembered::{Asker, Record};
 use segments::Sender;
-use std::alloc::Allocator;
+use std::alloc::{AllocError, Allocator};
+use std::marker::Model;
 use tags::Items;
 
 /// A request that is executed.
@@ -49,15 +53,128 @@ pub enum Change<A: Allocator> {
     Wakes(Items<Saying, A>),
 }
 
-/// What is said and executed of an input, and what it changes.
+/// What is done on an input.
+#[derive(Drop)]
+pub(crate) enum Deed<A: Allocator> {
+    /// This changes, and nothing is executed.
+    Changes(Change<A>),
+    /// A request is executed, and this remembered of it. Where its answer goes whole, it is said from here.
+    Executes(Executed<A>, Record<A>),
+}
+
+/// What a plan is of.
+#[derive(Drop)]
+pub(crate) struct Parts<A: Allocator> {
+    pub(crate) said: Items<Said<A>, A>,
+    pub(crate) deed: Deed<A>,
+}
+
+/// What is said and executed of an input, and what it changes. It is large, and so lies in memory of its own: the calls
+/// that plan hand it on.
 #[derive(Drop)]
 pub struct Plan<A: Allocator> {
-    /// What is said, in order.
-    pub said: Items<Said<A>, A>,
-    /// The request that is executed, if one is.
-    pub told: Option<Executed<A>>,
-    /// What changes.
-    pub change: Change<A>,
+    pub(crate) parts: Box<Parts<A>, A>,
+}
+
+impl<A: Allocator> Model for Plan<A> {
+    ghost use Rattle.std.specs.Prelude.{◌++◌};
+    ghost use Rattle.server_tsm.specs.Plan.{Plan, changed_by, executed_by, said_by};
+
+    ghost Value = { Plan A };
+
+    ghost view = { λ p. record {
+      said = p.parts.value.said ++ said_by p.parts.value.deed;
+      told = executed_by p.parts.value.deed;
+      change = changed_by p.parts.value.deed;
+    } };
+}
+
+/// What a plan says, in order.
+#[derive(Drop)]
+pub struct Spoken<'a, A: Allocator> {
+    /// What is said first.
+    pub listed: &'a [Said<A>],
+    /// What is remembered of an answer that is said whole behind it.
+    pub whole: Option<&'a Record<A>>,
+}
+
+/// What is remembered of an answer, where it goes whole.
+fn if_whole<A: Allocator>(entry: &Record<A>) -> Option<&Record<A>>
+    ensures { said_whole_if (option_copied result) ≡ said_whole entry.now.sending entry.now }
+{
+    match entry.sending {
+        None => Some(entry),
+        Some(_) => None,
+    }
+}
+
+impl<A: Allocator> Deed<A> {
+    ghost use Rattle.std.specs.Prelude.{◌≡◌, option_copied};
+    ghost use Rattle.server_tsm.specs.Plan.{said_by, said_whole_if};
+
+    /// What is remembered of an answer that is said whole.
+    pub(crate) fn whole(&self) -> Option<&Record<A>>
+        ensures { said_whole_if (option_copied result) ≡ said_by self.now }
+    {
+        match self {
+            Deed::Changes(_) => None,
+            Deed::Executes(_, entry) => if_whole(entry),
+        }
+    }
+}
+
+impl<A: Allocator> Plan<A> {
+    ghost use Rattle.std.specs.Prelude.{◌≡◌, ◌++◌, Some, None, IfOk, option_copied};
+    ghost use Rattle.server_tsm.specs.Plan.{said_whole, said_whole_if};
+
+    /// This is said and changes, and nothing is executed.
+    ///
+    /// # Errors
+    /// Want of memory.
+    pub(crate) fn changing(
+        alloc: A,
+        said: Items<Said<A>, A>,
+        change: Change<A>,
+    ) -> Result<Self, AllocError>
+        ensures { IfOk result (λ plan. plan ≡ record { said = said; told = None; change = change }) }
+    {
+        let deed = Deed::Changes(change);
+        Ok(Plan {
+            parts: Box::new(alloc, Parts { said, deed })?,
+        })
+    }
+
+    /// A request is executed and its answer remembered, which is said behind this where it goes whole.
+    ///
+    /// # Errors
+    /// Want of memory.
+    pub(crate) fn executing(
+        alloc: A,
+        said: Items<Said<A>, A>,
+        executed: Executed<A>,
+        entry: Record<A>,
+    ) -> Result<Self, AllocError>
+        ensures { IfOk result (λ plan. plan ≡ record {
+          said = said ++ said_whole entry.sending entry;
+          told = Some executed;
+          change = Change.Executes executed.request entry;
+        }) }
+    {
+        let deed = Deed::Executes(executed, entry);
+        Ok(Plan {
+            parts: Box::new(alloc, Parts { said, deed })?,
+        })
+    }
+
+    /// What it says.
+    pub fn spoken(&self) -> Spoken<'_, A>
+        ensures { self.now.said ≡ result.listed.now ++ said_whole_if (option_copied result.whole) }
+    {
+        Spoken {
+            listed: self.parts.said.as_slice(),
+            whole: self.parts.deed.whole(),
+        }
+    }
 }
 
 /// What comes of an input.

@@ -5,11 +5,12 @@ ghost use Rattle.apdu.specs.Apdu.{abort_pdu, complex_ack, segment_ack};
 ghost use Rattle.apdu.specs.ApduWriting.{canonical};
 ghost use Rattle.apdu.specs.Numbers.{abort_number};
 ghost use Rattle.apdu.specs.PduType.{type_number};
-ghost use Rattle.server_tsm.specs.Said.{answer_octets};
+ghost use Rattle.server_tsm.specs.Answering.{whole_said};
+ghost use Rattle.server_tsm.specs.Said.{answer_octets, said_octets};
 ghost use Rattle.tags.specs.Canonical.{Extends};
 
 use npdu::Way;
-use remembered::RememberedAnswer;
+use remembered::{Record, RememberedAnswer};
 use services::{AbortReason, Apdu, ConfirmedService, PduType, RejectReason, Segment};
 use std::alloc::Allocator;
 use tags::{Fault, Octets, all_or_none};
@@ -83,6 +84,23 @@ fn write_answer<A: Allocator, B: Allocator>(
         }
         RememberedAnswer::Abort(reason) => write_abort(invoke_id, *reason, out),
     }
+}
+
+/// Appends the octets of a remembered answer whole.
+///
+/// # Errors
+/// `Memory` alone. The buffer is then as it was.
+#[tactic(auto, unfolding(crate::specs::Said::said_octets))]
+pub fn write_whole<A: Allocator, B: Allocator>(
+    entry: &Record<A>,
+    out: &mut Vec<u8, B>,
+) -> Result<(), Fault>
+    ensures written { OnOk result (out.new.items ≡ out.old.items ++ said_octets (whole_said entry.now)) }
+    ensures memory { IfErr result (λ fault. fault ≡ Fault.Memory) }
+    ensures unchanged { OnErr result (out.new.items ≡ out.old.items) }
+{
+    let service = u8::from(entry.service);
+    write_answer(entry.asker.invoke_id, service, &entry.answer, out)
 }
 
 /// Appends the octets of an Error with these contents.

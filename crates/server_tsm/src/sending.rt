@@ -16,14 +16,10 @@ use std::alloc::{AllocError, Allocator};
 use tags::Items;
 
 /// Nothing is said or executed, and this changes.
-pub(crate) fn quiet<A: Allocator + Copy>(alloc: A, change: Change<A>) -> Plan<A>
-    ensures { result ≡ quiet change }
+pub(crate) fn quiet<A: Allocator + Copy>(alloc: A, change: Change<A>) -> Result<Plan<A>, AllocError>
+    ensures { IfOk result (λ plan. plan ≡ quiet change) }
 {
-    Plan {
-        said: Items::new(alloc),
-        told: None,
-        change,
-    }
+    Plan::changing(alloc, Items::new(alloc), change)
 }
 
 /// Whether an answer is being said in segments.
@@ -47,15 +43,12 @@ fn said_with<A: Allocator + Copy>(
 {
     let mut said = Items::new(alloc);
     answer(alloc, &sending, way, entry, &mut said)?;
-    Ok(Plan {
-        said,
-        told: None,
-        change: Change::Says(Saying {
-            asker: entry.asker,
-            way,
-            sending,
-        }),
-    })
+    let saying = Saying {
+        asker: entry.asker,
+        way,
+        sending,
+    };
+    Plan::changing(alloc, said, Change::Says(saying))
 }
 
 /// A request came whose answer is remembered: while segments of it are said it is dropped, else it is said again.
@@ -68,7 +61,7 @@ pub(crate) fn repeated<A: Allocator + Copy>(
     ensures { IfOk result (λ plan. plan ≡ repeated now way entry.now) }
 {
     if is_sending(now, entry.sending) {
-        return Ok(quiet(alloc, Change::Stays));
+        return quiet(alloc, Change::Stays);
     }
     said_with(alloc, begun(now, entry.chunk, &entry.answer), way, entry)
 }
@@ -95,9 +88,9 @@ fn turned_by<A: Allocator + Copy>(
     ensures { IfOk result (λ plan. plan ≡ turned_by turn sender way entry.now) }
 {
     match turn {
-        Turn::Waits => Ok(quiet(alloc, Change::Stays)),
+        Turn::Waits => quiet(alloc, Change::Stays),
         Turn::Sends => said_with(alloc, Some(sender), way, entry),
-        Turn::Ends => Ok(quiet(alloc, ended(way, entry))),
+        Turn::Ends => quiet(alloc, ended(way, entry)),
     }
 }
 
@@ -113,7 +106,7 @@ fn ack_taken<A: Allocator + Copy>(
         ack_taken entry.now.sending now ack.number ack.window ack.negative way entry.now) }
 {
     match entry.sending {
-        None => Ok(quiet(alloc, Change::Stays)),
+        None => quiet(alloc, Change::Stays),
         Some(mut sender) => {
             let turn = sender.on_ack(ack.number, ack.window, ack.negative, now);
             turned_by(alloc, turn, sender, way, entry)
@@ -156,7 +149,7 @@ pub(crate) fn ack_heard<A: Allocator + Copy>(
         ack_heard (option_copied found.entry) now ack.number ack.window ack.negative way) }
 {
     match found {
-        None => Ok(quiet(alloc, Change::Stays)),
+        None => quiet(alloc, Change::Stays),
         Some(entry) => ack_taken(alloc, now, ack, way, entry),
     }
 }
@@ -166,8 +159,8 @@ pub(crate) fn given_up<A: Allocator + Copy>(
     alloc: A,
     found: Option<&Record<A>>,
     asker: Asker,
-) -> Plan<A>
-    ensures { result ≡ given_up (option_copied found.entry) asker }
+) -> Result<Plan<A>, AllocError>
+    ensures { IfOk result (λ plan. plan ≡ given_up (option_copied found.entry) asker) }
 {
     match found {
         None => quiet(alloc, Change::GivesUp(asker)),

@@ -4,9 +4,10 @@ ghost use Rattle.std.specs.Prelude.{◌≡◌, ◌<◌, ◌∷◌, ◌++◌, []}
 ghost use Rattle.std.specs.Prelude.{vec_capacity, vec_len};
 ghost use Rattle.server_tsm.specs.Waking.{all_said_so};
 
+use crate::answering::list_whole;
 use crate::assembling::{copied, keep_gathered};
 use crate::assembly::Assembly;
-use crate::plan::{Change, Saying};
+use crate::plan::{Change, Deed, Effects, Executed, Parts, Plan, Saying};
 use objects::Request;
 use remembered::{Asker, Record, Records, SlabRecords};
 use server_rules::restart;
@@ -63,7 +64,9 @@ fn say_all<A: Allocator + Copy>(records: &mut SlabRecords<A>, sayings: &[Saying]
 #[tactic(auto, using(crate::proofs::Timely::timely_rules))]
 impl<E: Executor<A> + Drop, A: Allocator + Copy> ServerTsm<E, A> {
     ghost use Rattle.std.specs.Prelude.{◌≡◌, ◌≤◌, ◌^◌, IfOk, OnOk, OnErr, None};
+    ghost use Rattle.server_tsm.specs.Plan.{changed_by, executed_by};
     ghost use Rattle.server_tsm.specs.Server.{committed, new_server, restarted};
+    ghost use Rattle.server_tsm.specs.Steps.{effects_of};
 
     /// A server that has executed nothing, on the objects of this executor, whose memory will be that of `alloc`.
     /// Its link carries APDUs of at most this size. It takes no memory.
@@ -126,12 +129,58 @@ impl<E: Executor<A> + Drop, A: Allocator + Copy> ServerTsm<E, A> {
         self.moment = now;
     }
 
-    /// Makes a change that was planned, at the moment `now`, in milliseconds. It was planned at that moment, with
-    /// no other input between. What is remembered of a request has that moment.
+    /// Does what was planned, at the moment `now`, in milliseconds, and answers the request that was executed, if one
+    /// was. It was planned at that moment, with no other input between. What is remembered of a request has that
+    /// moment.
     ///
     /// # Errors
     /// Want of memory, where a request is executed or came so far. The server is then as it was.
-    pub fn commit(&mut self, change: Change<A>, now: u64) -> Result<(), AllocError>
+    pub fn commit(&mut self, plan: Plan<A>, now: u64) -> Result<Option<Executed<A>>, AllocError>
+        requires greatest { now ≤ 2 ^ 62 }
+        requires order { self.old.moment ≤ now }
+        ensures done { OnOk result (self.new ≡ committed now plan.change self.old) }
+        ensures told { IfOk result (λ told. told ≡ plan.told) }
+        ensures unchanged { OnErr result (self.new ≡ self.old) }
+    {
+        self.carry_out(Box::into_inner(plan.parts).deed, now)
+    }
+
+    /// Does what was planned, and answers what is said and executed.
+    pub(crate) fn take(&mut self, plan: Plan<A>, now: u64) -> Result<Effects<A>, AllocError>
+        requires greatest { now ≤ 2 ^ 62 }
+        requires order { self.old.moment ≤ now }
+        ensures effects { IfOk result (λ effects. effects ≡ effects_of plan) }
+        ensures left { OnOk result (self.new ≡ committed now plan.change self.old) }
+        ensures unchanged { OnErr result (self.new ≡ self.old) }
+    {
+        let Parts { mut said, deed } = Box::into_inner(plan.parts);
+        list_whole(self.alloc, deed.whole(), &mut said)?;
+        let told = self.carry_out(deed, now)?;
+        Ok(Effects { said, told })
+    }
+
+    /// Does a deed, and answers the request that was executed.
+    fn carry_out(&mut self, deed: Deed<A>, now: u64) -> Result<Option<Executed<A>>, AllocError>
+        requires greatest { now ≤ 2 ^ 62 }
+        requires order { self.old.moment ≤ now }
+        ensures done { OnOk result (self.new ≡ committed now (changed_by deed) self.old) }
+        ensures told { IfOk result (λ told. told ≡ executed_by deed) }
+        ensures unchanged { OnErr result (self.new ≡ self.old) }
+    {
+        match deed {
+            Deed::Changes(change) => {
+                self.change(change, now)?;
+                Ok(None)
+            }
+            Deed::Executes(executed, entry) => {
+                self.execute(&executed.request, entry, now)?;
+                Ok(Some(executed))
+            }
+        }
+    }
+
+    /// Makes a change.
+    fn change(&mut self, change: Change<A>, now: u64) -> Result<(), AllocError>
         requires greatest { now ≤ 2 ^ 62 }
         requires order { self.old.moment ≤ now }
         ensures done { OnOk result (self.new ≡ committed now change self.old) }

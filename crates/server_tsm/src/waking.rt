@@ -116,11 +116,7 @@ impl<E: Executor<A> + Drop, A: Allocator + Copy> ServerTsm<E, A> {
                 &mut sayings,
             )?;
         }
-        Ok(Plan {
-            said,
-            told: None,
-            change: Change::Wakes(sayings),
-        })
+        Plan::changing(self.alloc, said, Change::Wakes(sayings))
     }
 
     /// Wakes at the moment `now`, in milliseconds, and answers what is said.
@@ -134,8 +130,7 @@ impl<E: Executor<A> + Drop, A: Allocator + Copy> ServerTsm<E, A> {
         ensures left { OnOk result (self.new ≡ committed now (woken now self.old.records).change self.old) }
         ensures unchanged { OnErr result (self.new ≡ self.old) }
     {
-        let Plan { said, told, change } = self.plan_tick(now)?;
-        self.commit(change, now)?;
-        Ok(Effects { said, told })
+        let plan = self.plan_tick(now)?;
+        self.take(plan, now)
     }
 }

@@ -26,11 +26,11 @@ use Rattle.primitives.specs.declared.plain_data.Reply.{Reply}
 use Rattle.primitives.specs.declared.plain_data.Request.{Request}
 use Rattle.stations_server.specs.Refines.{begun_anew}
 use Rattle.server_tsm.specs.Hearing as server_hearing
+use Rattle.server_tsm.specs.Plan as server_plan
 use Rattle.server_tsm.specs.Server as server
 use Rattle.server_tsm.specs.Steps.{effects_of}
 use Rattle.server_tsm.specs.Waking as server_waking
 use Rattle.server_tsm.specs.declared.asked.Origin.{Origin}
-use Rattle.server_tsm.specs.declared.plan.Plan as server_plan
 use Rattle.stations_client.specs.Safe.{safe_client, station_of}
 use Rattle.stations_client.specs.Told.{acts, issues, row_of}
 

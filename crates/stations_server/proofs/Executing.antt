@@ -42,6 +42,7 @@ use Rattle.stations_server.specs.Safe.{safe_device, safe_record}
 use Rattle.server_tsm.specs.Answering.{answer_of, answered_by, record_of}
 use Rattle.server_tsm.specs.Hearing.{Message as Input, Reached, Whole, acknowledges, asker_of, asks, completes, executing, executing_if, finished, finished_by, gives_up, heard_of, invoke_id_of, message_of, of_client, plans, reached}
 use Rattle.server_tsm.specs.Limits.{answer_chunk}
+use Rattle.server_tsm.specs.Plan.{Plan}
 use Rattle.server_tsm.specs.Server.{ServerTsmState, committed, stamped}
 use Rattle.server_tsm.specs.Steps.{IsFound, IsPlan, IsStep, Means, effects_of}
 use Rattle.server_tsm.specs.declared.asked.AnswerLimits.{AnswerLimits}
@@ -49,7 +50,6 @@ use Rattle.server_tsm.specs.declared.asked.Origin.{Origin}
 use Rattle.server_tsm.specs.declared.plan.Change.TheVariants.{GivesUp, Executes}
 use Rattle.server_tsm.specs.declared.plan.Effects.{Effects}
 use Rattle.server_tsm.specs.declared.plan.Executed.{Executed}
-use Rattle.server_tsm.specs.declared.plan.Plan.{Plan}
 use Rattle.server_tsm.specs.declared.said.Said.{Said}
 use Rattle.server_tsm.specs.declared.said.Said.TheVariants as said
 

@@ -31,12 +31,12 @@ use Rattle.stations_server.proofs.Records.{forgotten_has, kept_has, safe_all_sai
 use Rattle.stations_server.proofs.Saying.{IsHonestlySaid, all_said}
 use Rattle.stations_server.specs.Refines.{message_of, served, told_by}
 use Rattle.stations_server.specs.Safe.{safe_assembly, safe_device, safe_record}
+use Rattle.server_tsm.specs.Plan.{Plan}
 use Rattle.server_tsm.specs.Server.{ServerTsmState, committed, is_kept, still_gathered}
 use Rattle.server_tsm.specs.Steps.{effects_of}
 use Rattle.server_tsm.specs.declared.assembly.Assembly.{Assembly}
 use Rattle.server_tsm.specs.declared.plan.Change.TheVariants.{Stays, Says, Gathers, GivesUp, Executes as Runs, Wakes}
 use Rattle.server_tsm.specs.declared.plan.Executed as told
-use Rattle.server_tsm.specs.declared.plan.Plan.{Plan}
 use Rattle.server_tsm.specs.declared.plan.Saying.{Saying}
 use Rattle.server_tsm.specs.declared.said.Said.{Said}
 

@@ -17,6 +17,7 @@ use Rattle.stations_server.specs.Keeping.{IsWellKept}
 use Rattle.stations_server.specs.Refines.{begun_anew, said_body, served}
 use Rattle.stations_server.specs.Safe.{safe_device}
 use Rattle.server_tsm.specs.Hearing.{heard_of}
+use Rattle.server_tsm.specs.Plan.{Plan}
 use Rattle.server_tsm.specs.Said.{said_octets}
 use Rattle.server_tsm.specs.Server.{ServerTsmState, committed, new_server, restarted}
 use Rattle.server_tsm.specs.Steps.{IsPlan, IsStep, effects_of}
@@ -25,7 +26,6 @@ use Rattle.server_tsm.specs.declared.asked.Origin.{Origin}
 use Rattle.server_tsm.specs.declared.plan.Change.{Change}
 use Rattle.server_tsm.specs.declared.plan.Effects.{Effects}
 use Rattle.server_tsm.specs.declared.plan.Executed.{Executed}
-use Rattle.server_tsm.specs.declared.plan.Plan.{Plan}
 use Rattle.server_tsm.specs.declared.said.Said.{Said}
 
 -- the device at this station is what safety sees of this server, which keeps its answers well
