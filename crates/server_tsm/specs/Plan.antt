@@ -1,5 +1,5 @@
 -- What is planned for an input, before anything changes (5.4.5).
-use Rattle.std.specs.Prelude.{List, [], ◌∷◌, Option, Some, None}
+use Rattle.std.specs.Prelude.{List, [], ◌∷◌, ◌++◌, Option, Some, None}
 use Rattle.remembered.specs.declared.record.Record.{Record}
 use Rattle.segments.specs.Cutting.{Cutting}
 use Rattle.server_tsm.specs.Answering.{whole_said}
@@ -8,6 +8,8 @@ use Rattle.server_tsm.specs.declared.plan.Change.TheVariants as change
 use Rattle.server_tsm.specs.declared.plan.Deed.{Deed}
 use Rattle.server_tsm.specs.declared.plan.Deed.TheVariants.{Changes, Executes}
 use Rattle.server_tsm.specs.declared.plan.Executed.{Executed}
+use Rattle.server_tsm.specs.declared.plan.Held.{Held}
+use Rattle.server_tsm.specs.declared.plan.Held.TheVariants.{Nothing, Planned}
 use Rattle.server_tsm.specs.declared.said.Said.{Said}
 
 -- said: what is said, in order; told: the request that is executed, if one is; change: what changes
@@ -40,3 +42,13 @@ executed_by (Executes executed r) = Some executed
 abbrev pub changed_by : {A : Type 0} → Deed A → Change A
 changed_by (Changes c) = c
 changed_by (Executes executed r) = change.Executes executed.request r
+
+-- what the code keeps of a plan stands for: nothing is said, executed or changed, or what its parts tell
+abbrev pub plan_of : {A : Type 0} → Held A → Plan A
+plan_of Nothing = record { said = []; told = None; change = change.Stays }
+plan_of (Planned parts) =
+    record {
+      said = parts.value.said ++ said_by parts.value.deed;
+      told = executed_by parts.value.deed;
+      change = changed_by parts.value.deed;
+    }

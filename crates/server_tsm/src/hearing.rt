@@ -22,7 +22,7 @@ use crate::assembly::Assembly;
 use crate::limits::{answer_chunk, fitted};
 use crate::plan::{Change, Effects, Executed, Plan};
 use crate::said::Said;
-use crate::sending::{Ack, ack_heard, given_up, quiet, repeated};
+use crate::sending::{Ack, ack_heard, given_up, repeated};
 use crate::server::ServerTsm;
 use objects::{Reply, Request};
 use remembered::{Asker, Record, Records};
@@ -352,7 +352,7 @@ impl<E: Executor<A> + Drop, A: Allocator + Copy> ServerTsm<E, A> {
             octets.now) self.now) }
     {
         if segment.sequence_number != 0 {
-            return quiet(self.alloc, Change::Stays);
+            return Ok(Plan::nothing());
         }
         if is_crowded(self.assemblies.as_slice(), now) {
             let said = Items::new(self.alloc);
@@ -381,7 +381,7 @@ impl<E: Executor<A> + Drop, A: Allocator + Copy> ServerTsm<E, A> {
             (part_joined (Some assembly.now) now asked.now segment.now octets.now self.now.assemblies) self.now) }
     {
         if asked.service != assembly.asked.service {
-            return quiet(self.alloc, Change::Stays);
+            return Ok(Plan::nothing());
         }
         let asked = Asked {
             way: asked.way,
@@ -440,7 +440,7 @@ impl<E: Executor<A> + Drop, A: Allocator + Copy> ServerTsm<E, A> {
             self.now) }
     {
         if by_broadcast || now < self.quiet_until {
-            return quiet(self.alloc, Change::Stays);
+            return Ok(Plan::nothing());
         }
         match segment {
             None => self.whole_heard(now, asked, octets),
@@ -497,7 +497,7 @@ impl<E: Executor<A> + Drop, A: Allocator + Copy> ServerTsm<E, A> {
             Apdu::Abort { server: false, .. } => {
                 given_up(self.alloc, self.remembered(now, asker), asker)
             }
-            _ => quiet(self.alloc, Change::Stays),
+            _ => Ok(Plan::nothing()),
         }
     }
 

@@ -1,6 +1,6 @@
 //! What is planned for an input, before anything changes.
 
-ghost use Rattle.std.specs.Prelude.{◌≡◌, ◌++◌, Some, None, option_copied};
+ghost use Rattle.std.specs.Prelude.{◌≡◌, option_copied};
 ghost use Rattle.server_tsm.specs.Plan.{said_whole, said_whole_if};
 
 use crate::assembly::Assembly;
@@ -62,31 +62,34 @@ pub(crate) enum Deed<A: Allocator> {
     Executes(Executed<A>, Record<A>),
 }
 
-/// What a plan is of.
+/// What is said first, and what is done.
 #[derive(Drop)]
 pub(crate) struct Parts<A: Allocator> {
     pub(crate) said: Items<Said<A>, A>,
     pub(crate) deed: Deed<A>,
 }
 
-/// What is said and executed of an input, and what it changes. It is large, and so lies in memory of its own: the calls
-/// that plan hand it on.
+/// What is kept of a plan. What it has is large, and so lies in memory of its own: the calls that plan hand it on.
+#[derive(Drop)]
+pub(crate) enum Held<A: Allocator> {
+    /// Nothing is said, executed or changed. It takes no memory.
+    Nothing,
+    /// This is.
+    Planned(Box<Parts<A>, A>),
+}
+
+/// What is said and executed of an input, and what it changes.
 #[derive(Drop)]
 pub struct Plan<A: Allocator> {
-    pub(crate) parts: Box<Parts<A>, A>,
+    pub(crate) held: Held<A>,
 }
 
 impl<A: Allocator> Model for Plan<A> {
-    ghost use Rattle.std.specs.Prelude.{◌++◌};
-    ghost use Rattle.server_tsm.specs.Plan.{Plan, changed_by, executed_by, said_by};
+    ghost use Rattle.server_tsm.specs.Plan.{Plan, plan_of};
 
     ghost Value = { Plan A };
 
-    ghost view = { λ p. record {
-      said = p.parts.value.said ++ said_by p.parts.value.deed;
-      told = executed_by p.parts.value.deed;
-      change = changed_by p.parts.value.deed;
-    } };
+    ghost view = { λ p. plan_of p.held };
 }
 
 /// What a plan says, in order.
@@ -125,7 +128,17 @@ impl<A: Allocator> Deed<A> {
 
 impl<A: Allocator> Plan<A> {
     ghost use Rattle.std.specs.Prelude.{◌≡◌, ◌++◌, Some, None, IfOk, option_copied};
+    ghost use Rattle.server_tsm.specs.Hearing.{quiet};
     ghost use Rattle.server_tsm.specs.Plan.{said_whole, said_whole_if};
+
+    /// Nothing is said, executed or changed. It takes no memory.
+    pub(crate) fn nothing() -> Self
+        ensures { result ≡ quiet Change.Stays }
+    {
+        Plan {
+            held: Held::Nothing,
+        }
+    }
 
     /// This is said and changes, and nothing is executed.
     ///
@@ -139,8 +152,9 @@ impl<A: Allocator> Plan<A> {
         ensures { IfOk result (λ plan. plan ≡ record { said = said; told = None; change = change }) }
     {
         let deed = Deed::Changes(change);
+        let parts = Box::new(alloc, Parts { said, deed })?;
         Ok(Plan {
-            parts: Box::new(alloc, Parts { said, deed })?,
+            held: Held::Planned(parts),
         })
     }
 
@@ -161,8 +175,9 @@ impl<A: Allocator> Plan<A> {
         }) }
     {
         let deed = Deed::Executes(executed, entry);
+        let parts = Box::new(alloc, Parts { said, deed })?;
         Ok(Plan {
-            parts: Box::new(alloc, Parts { said, deed })?,
+            held: Held::Planned(parts),
         })
     }
 
@@ -170,9 +185,15 @@ impl<A: Allocator> Plan<A> {
     pub fn spoken(&self) -> Spoken<'_, A>
         ensures { self.now.said ≡ result.listed.now ++ said_whole_if (option_copied result.whole) }
     {
-        Spoken {
-            listed: self.parts.said.as_slice(),
-            whole: self.parts.deed.whole(),
+        match &self.held {
+            Held::Nothing => Spoken {
+                listed: &[],
+                whole: None,
+            },
+            Held::Planned(parts) => Spoken {
+                listed: parts.said.as_slice(),
+                whole: parts.deed.whole(),
+            },
         }
     }
 }

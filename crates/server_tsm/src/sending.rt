@@ -16,7 +16,7 @@ use std::alloc::{AllocError, Allocator};
 use tags::Items;
 
 /// Nothing is said or executed, and this changes.
-pub(crate) fn quiet<A: Allocator + Copy>(alloc: A, change: Change<A>) -> Result<Plan<A>, AllocError>
+fn quiet<A: Allocator + Copy>(alloc: A, change: Change<A>) -> Result<Plan<A>, AllocError>
     ensures { IfOk result (λ plan. plan ≡ quiet change) }
 {
     Plan::changing(alloc, Items::new(alloc), change)
@@ -61,7 +61,7 @@ pub(crate) fn repeated<A: Allocator + Copy>(
     ensures { IfOk result (λ plan. plan ≡ repeated now way entry.now) }
 {
     if is_sending(now, entry.sending) {
-        return quiet(alloc, Change::Stays);
+        return Ok(Plan::nothing());
     }
     said_with(alloc, begun(now, entry.chunk, &entry.answer), way, entry)
 }
@@ -88,7 +88,7 @@ fn turned_by<A: Allocator + Copy>(
     ensures { IfOk result (λ plan. plan ≡ turned_by turn sender way entry.now) }
 {
     match turn {
-        Turn::Waits => quiet(alloc, Change::Stays),
+        Turn::Waits => Ok(Plan::nothing()),
         Turn::Sends => said_with(alloc, Some(sender), way, entry),
         Turn::Ends => quiet(alloc, ended(way, entry)),
     }
@@ -106,7 +106,7 @@ fn ack_taken<A: Allocator + Copy>(
         ack_taken entry.now.sending now ack.number ack.window ack.negative way entry.now) }
 {
     match entry.sending {
-        None => quiet(alloc, Change::Stays),
+        None => Ok(Plan::nothing()),
         Some(mut sender) => {
             let turn = sender.on_ack(ack.number, ack.window, ack.negative, now);
             turned_by(alloc, turn, sender, way, entry)
@@ -149,7 +149,7 @@ pub(crate) fn ack_heard<A: Allocator + Copy>(
         ack_heard (option_copied found.entry) now ack.number ack.window ack.negative way) }
 {
     match found {
-        None => quiet(alloc, Change::Stays),
+        None => Ok(Plan::nothing()),
         Some(entry) => ack_taken(alloc, now, ack, way, entry),
     }
 }

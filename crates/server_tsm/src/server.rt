@@ -7,13 +7,14 @@ ghost use Rattle.server_tsm.specs.Waking.{all_said_so};
 use crate::answering::list_whole;
 use crate::assembling::{copied, keep_gathered};
 use crate::assembly::Assembly;
-use crate::plan::{Change, Deed, Effects, Executed, Parts, Plan, Saying};
+use crate::plan::{Change, Deed, Effects, Executed, Held, Parts, Plan, Saying};
 use objects::Request;
 use remembered::{Asker, Record, Records, SlabRecords};
 use server_rules::restart;
 use services::{Executor, MaxApdu};
 use std::alloc::{AllocError, Allocator};
 use std::marker::Model;
+use tags::Items;
 
 /// The server of transactions.
 #[derive(Drop)]
@@ -142,7 +143,13 @@ impl<E: Executor<A> + Drop, A: Allocator + Copy> ServerTsm<E, A> {
         ensures told { IfOk result (λ told. told ≡ plan.told) }
         ensures unchanged { OnErr result (self.new ≡ self.old) }
     {
-        self.carry_out(Box::into_inner(plan.parts).deed, now)
+        match plan.held {
+            Held::Nothing => {
+                self.moment = now;
+                Ok(None)
+            }
+            Held::Planned(parts) => self.carry_out(Box::into_inner(parts).deed, now),
+        }
     }
 
     /// Does what was planned, and answers what is said and executed.
@@ -153,7 +160,14 @@ impl<E: Executor<A> + Drop, A: Allocator + Copy> ServerTsm<E, A> {
         ensures left { OnOk result (self.new ≡ committed now plan.change self.old) }
         ensures unchanged { OnErr result (self.new ≡ self.old) }
     {
-        let Parts { mut said, deed } = Box::into_inner(plan.parts);
+        let Held::Planned(parts) = plan.held else {
+            self.moment = now;
+            return Ok(Effects {
+                said: Items::new(self.alloc),
+                told: None,
+            });
+        };
+        let Parts { mut said, deed } = Box::into_inner(parts);
         list_whole(self.alloc, deed.whole(), &mut said)?;
         let told = self.carry_out(deed, now)?;
         Ok(Effects { said, told })
