@@ -8,7 +8,6 @@ use Rattle.std.specs.Ordering.{is_eq, nat_cmp}
 use Rattle.std.proofs.lemmas.Map.Lookups.{exact_unsigned}
 use Rattle.std.specs.Prelude.{◌==◌}
 use Rattle.std.proofs.lemmas.Bool.{eqb-true, eq-eqb}
-use Rattle.std.specs.BTreeMap as tree
 use Rattle.npdu.proofs.Stations.{then_equal, station_order}
 use Rattle.npdu.specs.declared.mac.Way.{Way}
 use Rattle.segments.specs.Cutting.{Cutting}
@@ -17,7 +16,7 @@ use Rattle.remembered.specs.declared.record.Asker.{Asker}
 use Rattle.npdu.specs.Mac.{station_cmp}
 use Rattle.remembered.specs.declared.record.Record.{Record}
 use Rattle.remembered.specs.Records.{asker_cmp, later_or, some_if, is_of, lives, newest, said_on, said_again, said_by, begins_dead, forgotten}
-use Rattle.remembered.specs.Keeping.{cons_some, at, listed, is_at, key_of, IsFilled, AreApart, IsKept, IsSet, IsDropped, first}
+use Rattle.remembered.specs.Keeping.{cons_some, at, listed, is_at, key_of, IsFilled, AreApart, IsKept, IsSet, IsDropped, IsForgotten, Keys, get, first}
 
 -- ---- askers that compare alike are one
 pub exact_asker : (a b : Asker) → asker_cmp a b ≡ Equal → a ≡ b
@@ -141,7 +140,7 @@ module _ {A : Type 0} where
   filled_push held [] k all one = (one, tt)
   filled_push held (j ∷ ks) k all one = (all.0, filled_push held ks k all.1 one)
 
-  pub kept_pushed : (held now : List (Option (Record A))) (keys mapped : tree.BTreeMap Asker ℕ) (ks : List ℕ) (k : ℕ) (r : Record A) → IsKept held keys ks → at held k ≡ None → Updated held now k (Some r) → IsSet r.asker k keys mapped → IsKept now mapped (ks ++ k ∷ [])
+  pub kept_pushed : (held now : List (Option (Record A))) (keys mapped : Keys) (ks : List ℕ) (k : ℕ) (r : Record A) → IsKept held keys ks → at held k ≡ None → Updated held now k (Some r) → IsSet r.asker k keys mapped → IsKept now mapped (ks ++ k ∷ [])
   kept_pushed held now keys mapped ks k r kept none up put =
       let apart = vacant_apart held k ks none kept.filled in
       let same = others held now k (Some r) ks up apart in
@@ -151,7 +150,7 @@ module _ {A : Type 0} where
         found = λ a. put a ∙ ap (cond (is_eq (asker_cmp r.asker a)) (Some k)) (kept.found a ∙ sym (key_same held now a ks same)) ∙ sym (key_push now a ks k r up.changed ∙ later_cond (is_of a r) k (key_of now a ks));
       }
 
-  pub listed_pushed : (held now : List (Option (Record A))) (keys : tree.BTreeMap Asker ℕ) (ks : List ℕ) (k : ℕ) (r : Record A) → IsKept held keys ks → at held k ≡ None → Updated held now k (Some r) → listed now (ks ++ k ∷ []) ≡ listed held ks ++ r ∷ []
+  pub listed_pushed : (held now : List (Option (Record A))) (keys : Keys) (ks : List ℕ) (k : ℕ) (r : Record A) → IsKept held keys ks → at held k ≡ None → Updated held now k (Some r) → listed now (ks ++ k ∷ []) ≡ listed held ks ++ r ∷ []
   listed_pushed held now keys ks k r kept none up =
       listed_push now ks k r up.changed ∙ ap (λ (rs : List (Record A)). rs ++ r ∷ []) (listed_same held now ks (others held now k (Some r) ks up (vacant_apart held k ks none kept.filled)))
 
@@ -168,10 +167,10 @@ module _ {A : Type 0} where
       key_among_by None true not e = apart.0 (cc e)
       key_among_by None false not e = cc e
 
-  key_first : (held : List (Option (Record A))) (keys : tree.BTreeMap Asker ℕ) (k : ℕ) (ks : List ℕ) (r : Record A) (a : Asker) → IsKept held keys (k ∷ ks) → at held k ≡ Some r → tree.get asker_cmp keys a ≡ later_or (key_of held a ks) (some_if (is_of a r) k)
+  key_first : (held : List (Option (Record A))) (keys : Keys) (k : ℕ) (ks : List ℕ) (r : Record A) (a : Asker) → IsKept held keys (k ∷ ks) → at held k ≡ Some r → get keys a ≡ later_or (key_of held a ks) (some_if (is_of a r) k)
   key_first held keys k ks r a kept is = kept.found a ∙ ap (λ (o : Option (Record A)). later_or (key_of held a ks) (some_if (is_at a o) k)) is
 
-  pub kept_removed : (held now : List (Option (Record A))) (keys mapped : tree.BTreeMap Asker ℕ) (k : ℕ) (ks : List ℕ) (r : Record A) → IsKept held keys (k ∷ ks) → at held k ≡ Some r → Updated held now k None → tree.get asker_cmp keys r.asker ≡ Some k → IsDropped r.asker keys mapped → IsKept now mapped ks
+  kept_removed : (held now : List (Option (Record A))) (keys mapped : Keys) (k : ℕ) (ks : List ℕ) (r : Record A) → IsKept held keys (k ∷ ks) → at held k ≡ Some r → Updated held now k None → get keys r.asker ≡ Some k → IsDropped r.asker keys mapped → IsKept now mapped ks
   kept_removed held now keys mapped k ks r kept is up mine removed =
       let same = others held now k None ks up kept.apart.0 in
       record {
@@ -179,25 +178,39 @@ module _ {A : Type 0} where
         apart = kept.apart.1;
         found = λ a.
             removed a
-            ∙ found_removed (key_of held a ks) (tree.get asker_cmp keys a) (is_of a r) k
+            ∙ found_removed (key_of held a ks) (get keys a) (is_of a r) k
             (λ b. none_behind (key_of held a ks) (is_of a r) k (key_among held a k ks kept.apart.0)
-            (sym (key_first held keys k ks r a kept is) ∙ ap (tree.get asker_cmp keys) (sym (exact_asker r.asker a (is_equal _ b))) ∙ mine))
+            (sym (key_first held keys k ks r a kept is) ∙ ap (get keys) (sym (exact_asker r.asker a (is_equal _ b))) ∙ mine))
             (key_first held keys k ks r a kept is)
             ∙ sym (key_same held now a ks same);
       }
 
-  pub kept_left : (held now : List (Option (Record A))) (keys : tree.BTreeMap Asker ℕ) (k : ℕ) (ks : List ℕ) (r : Record A) → IsKept held keys (k ∷ ks) → at held k ≡ Some r → Updated held now k None → (tree.get asker_cmp keys r.asker ≡ Some k → ⊥) → IsKept now keys ks
+  kept_left : (held now : List (Option (Record A))) (keys : Keys) (k : ℕ) (ks : List ℕ) (r : Record A) → IsKept held keys (k ∷ ks) → at held k ≡ Some r → Updated held now k None → (get keys r.asker ≡ Some k → ⊥) → IsKept now keys ks
   kept_left held now keys k ks r kept is up other =
       let same = others held now k None ks up kept.apart.0 in
       record {
         filled = filled_same held now ks same kept.filled.1;
         apart = kept.apart.1;
         found = λ a.
-            found_left (key_of held a ks) (tree.get asker_cmp keys a) (is_of a r) k
-            (λ b e. other (ap (tree.get asker_cmp keys) (exact_asker r.asker a (is_equal _ b)) ∙ e))
+            found_left (key_of held a ks) (get keys a) (is_of a r) k
+            (λ b e. other (ap (get keys) (exact_asker r.asker a (is_equal _ b)) ∙ e))
             (key_first held keys k ks r a kept is)
             ∙ sym (key_same held now a ks same);
       }
+
+  pub kept_forgotten : (held now : List (Option (Record A))) (keys mapped : Keys) (k : ℕ) (ks : List ℕ) (r : Record A) → IsKept held keys (k ∷ ks) → at held k ≡ Some r → Updated held now k None → IsForgotten r.asker k keys mapped → IsKept now mapped ks
+  kept_forgotten held now keys mapped k ks r kept is up f = by_key (get keys r.asker) refl
+    where
+      other : (get keys r.asker ≡ Some k → ⊥) → IsKept now mapped ks
+      other not = subst (λ (m : Keys). IsKept now m ks) (sym (f.left not)) (kept_left held now keys k ks r kept is up not)
+
+      by_test : (j : ℕ) (b : Bool) → (j == k) ≡ b → get keys r.asker ≡ Some j → IsKept now mapped ks
+      by_test j true t e = let mine : get keys r.asker ≡ Some k = e ∙ ap Some (eqb-true j k t) in kept_removed held now keys mapped k ks r kept is up mine (f.dropped mine)
+      by_test j false t e = other (λ mine. true_is_not (sym t ∙ eq-eqb j k (cc (sym e ∙ mine))))
+
+      by_key : (o : Option ℕ) → get keys r.asker ≡ o → IsKept now mapped ks
+      by_key None e = other (λ mine. cc (sym e ∙ mine))
+      by_key (Some j) e = by_test j (j == k) refl e
 
   pub length_listed : (held : List (Option (Record A))) (ks : List ℕ) → AllByRecursion (IsFilled held) ks → length (listed held ks) ≡ length ks
   length_listed held [] all = refl
@@ -264,7 +277,7 @@ module _ {A : Type 0} where
       by_test true e = record { r = said_on w s r; is = ap (at now) (eqb-true j k e) ∙ up.changed }
       by_test false e = record { r = all.0.r; is = up.others j (λ same. true_is_not (sym e ∙ eq-eqb j k same)) ∙ all.0.is }
 
-  pub kept_sent : (held now : List (Option (Record A))) (keys : tree.BTreeMap Asker ℕ) (ks : List ℕ) (k : ℕ) (w : Way) (s : Option Cutting) (r : Record A) → IsKept held keys ks → at held k ≡ Some r → Updated held now k (Some (said_on w s r)) → IsKept now keys ks
+  pub kept_sent : (held now : List (Option (Record A))) (keys : Keys) (ks : List ℕ) (k : ℕ) (w : Way) (s : Option Cutting) (r : Record A) → IsKept held keys ks → at held k ≡ Some r → Updated held now k (Some (said_on w s r)) → IsKept now keys ks
   kept_sent held now keys ks k w s r kept is up =
       record {
         filled = filled_sent held now k w s r is up ks kept.filled;

@@ -1,4 +1,5 @@
 pub mod Keeping
 pub mod Ordering
+pub mod Sorted
 pub mod Living
 pub mod Places

@@ -1,8 +1,8 @@
 -- Records in a slab, under keys in order of execution.
-use Rattle.std.specs.Prelude.{◌≡◌, ◌≢◌, ℕ, suc, Bool, false, cond, option_map, List, [], ◌∷◌, Option, Some, None, slice_index_or}
-use Rattle.std.specs.List.{AllByRecursion}
-use Rattle.std.specs.BTreeMap as tree
+use Rattle.std.specs.Prelude.{◌≡◌, ◌≢◌, ◌≤◌, ℕ, suc, Bool, false, cond, option_map, List, [], ◌∷◌, length, Option, Some, None, slice_get, slice_index_or}
+use Rattle.std.specs.List.{AllByRecursion, AllWithin}
 use Rattle.std.specs.Ordering.{is_eq}
+use Rattle.std.specs.declared.cmp.Ordering.TheVariants.{Less, Greater}
 use Rattle.remembered.specs.declared.record.Asker.{Asker}
 use Rattle.remembered.specs.declared.record.Record.{Record}
 use Rattle.remembered.specs.Records.{asker_cmp, is_of, later_or, some_if}
@@ -41,29 +41,59 @@ abbrev pub AreApart : List ℕ → Type 0
 AreApart [] = Unit {0}
 AreApart (k ∷ ks) = AllByRecursion (λ j. j ≢ k) ks × AreApart ks
 
+-- askers with their keys
+abbrev pub Keys : Type 0
+Keys = List (Asker × ℕ)
+
+-- the key of an asker
+abbrev pub get : Keys → Asker → Option ℕ
+get [] a = None
+get (e ∷ es) a = cond (is_eq (asker_cmp e.0 a)) (Some e.1) (get es a)
+
+-- each asker comes before those behind it, so it stands once
+abbrev pub AreSorted : Keys → Type 0
+AreSorted [] = Unit {0}
+AreSorted (e ∷ es) = AllByRecursion (λ f. asker_cmp e.0 f.0 ≡ Less) es × AreSorted es
+
+-- the asker is at this place
+pub record IsAt (keys : Keys) (a : Asker) (i : ℕ) : Type 0 where
+  pub key : ℕ
+  pub is : slice_get keys i ≡ Some (a, key)
+
+-- the asker would go to this place: those before it are less, and those from it on greater
+pub record IsGap (keys : Keys) (a : Asker) (i : ℕ) : Type 0 where
+  pub within : i ≤ length keys
+  pub less : AllWithin (λ e. asker_cmp e.0 a ≡ Less) keys 0 i
+  pub greater : AllWithin (λ e. asker_cmp e.0 a ≡ Greater) keys i (length keys)
+
 -- each key in order has a record and stands once, and the map leads from each asker to its newest
-pub record IsKept {A : Type 0} (held : List (Option (Record A))) (keys : tree.BTreeMap Asker ℕ) (order : List ℕ) :
+pub record IsKept {A : Type 0} (held : List (Option (Record A))) (keys : Keys) (order : List ℕ) :
     Type 0 where
   pub filled : AllByRecursion (IsFilled held) order
   pub apart : AreApart order
-  pub found : (a : Asker) → tree.get asker_cmp keys a ≡ key_of held a order
+  pub found : (a : Asker) → get keys a ≡ key_of held a order
 
 -- the asker has this key or none, and each other what it had
-abbrev pub HasNow : Asker → Option ℕ → tree.BTreeMap Asker ℕ → tree.BTreeMap Asker ℕ → Type 0
+abbrev pub HasNow : Asker → Option ℕ → Keys → Keys → Type 0
 HasNow asker key old new =
-    (q : Asker) → tree.get asker_cmp new q ≡ cond (is_eq (asker_cmp asker q)) key (tree.get asker_cmp old q)
+    (q : Asker) → get new q ≡ cond (is_eq (asker_cmp asker q)) key (get old q)
 
 -- the asker has this key, and each other what it had
-abbrev pub IsSet : Asker → ℕ → tree.BTreeMap Asker ℕ → tree.BTreeMap Asker ℕ → Type 0
+abbrev pub IsSet : Asker → ℕ → Keys → Keys → Type 0
 IsSet asker key = HasNow asker (Some key)
 
 -- the asker has none, and each other what it had
-abbrev pub IsDropped : Asker → tree.BTreeMap Asker ℕ → tree.BTreeMap Asker ℕ → Type 0
+abbrev pub IsDropped : Asker → Keys → Keys → Type 0
 IsDropped asker = HasNow asker None
 
+-- the asker has none where it had this key, and else all is as it was
+pub record IsForgotten (asker : Asker) (key : ℕ) (old new : Keys) : Type 0 where
+  pub dropped : get old asker ≡ Some key → IsDropped asker old new
+  pub left : get old asker ≢ Some key → new ≡ old
+
 -- each asker has the key that it had
-abbrev pub IsSameMap : tree.BTreeMap Asker ℕ → tree.BTreeMap Asker ℕ → Type 0
-IsSameMap old new = (q : Asker) → tree.get asker_cmp new q ≡ tree.get asker_cmp old q
+abbrev pub IsSameMap : Keys → Keys → Type 0
+IsSameMap old new = (q : Asker) → get new q ≡ get old q
 
 -- the oldest
 abbrev pub first : {A : Type 0} → List (Record A) → Option (Record A)

@@ -1,67 +1,128 @@
 //! The map from who asked to the key of the newest record.
 
-ghost use Rattle.std.specs.Prelude.{◌≡◌, ◌≢◌, None, IfOk, OnOk, OnErr, slice_get};
-ghost use Rattle.std.specs.BTreeMap as tree;
+ghost use Rattle.std.specs.Prelude.{◌≡◌, Some, OnOk, OnErr, slice_get};
 ghost use Rattle.objects.specs.Machine.{after};
-ghost use Rattle.remembered.specs.Keeping.{HasNow, IsSet, IsDropped, IsSameMap};
-ghost use Rattle.remembered.specs.Records.{asker_cmp};
+ghost use Rattle.remembered.specs.Keeping.{HasNow, IsSet, IsSameMap};
+ghost use Rattle.remembered.specs.Keeping as map;
 
 use crate::record::Asker;
 use objects::Request;
 use services::Executor;
 use std::alloc::{AllocError, Allocator};
-use std::collections::{BTreeMap, VecDeque};
+use std::collections::VecDeque;
+use std::marker::Model;
 
-/// The key of an asker.
-#[inline(always)]
-pub(crate) fn key_at<A: Allocator>(keys: &BTreeMap<Asker, usize, A>, asker: Asker) -> Option<usize>
-    ensures { result ≡ tree.get asker_cmp keys.now asker }
-{
-    keys.get(&asker).copied()
+/// Askers and their keys, in the order of the askers: a map of few entries, searched by halves. A contract sees it as
+/// their list.
+#[derive(Drop)]
+pub struct AskerKeys<A: Allocator> {
+    entries: Vec<(Asker, usize), A>,
 }
 
-/// Sets the key of an asker, and answers the one that it had.
-pub(crate) fn set_key<A: Allocator + Copy>(
-    keys: &mut BTreeMap<Asker, usize, A>,
+impl<A: Allocator> Model for AskerKeys<A> {
+    ghost use Rattle.remembered.specs.Keeping.{Keys, AreSorted};
+
+    ghost Value = { Keys };
+
+    ghost view = { λ m. m.entries.items };
+
+    ghost invariant = { λ m. AreSorted m.entries.items };
+}
+
+impl<A: Allocator + Copy> AskerKeys<A> {
+    ghost use Rattle.std.specs.Prelude.{◌≡◌, [], None, IfOk, IfErr, OnOk, OnErr};
+    ghost use Rattle.remembered.specs.Keeping.{IsAt, IsGap, IsSet, IsForgotten, get};
+
+    /// No keys, whose memory will be that of `alloc`. It takes none.
+    pub(crate) fn new(alloc: A) -> Self
+        ensures { result ≡ [] }
+    {
+        AskerKeys {
+            entries: Vec::new(alloc),
+        }
+    }
+
+    /// The key of an asker.
+    pub(crate) fn get(&self, asker: Asker) -> Option<usize>
+        ensures { result ≡ get self.now asker }
+    {
+        match self.search(asker) {
+            Ok(place) => Some(self.entries[place].1),
+            Err(_) => None,
+        }
+    }
+
+    /// Sets the key of an asker, and answers the one that it had.
+    pub(crate) fn set(&mut self, asker: Asker, key: usize) -> Result<Option<usize>, AllocError>
+        ensures had { IfOk result (λ had. had ≡ get self.old asker) }
+        ensures set { OnOk result (IsSet asker key self.old self.new) }
+        ensures unchanged { OnErr result (self.new ≡ self.old) }
+        ensures absent { OnErr result (get self.old asker ≡ None) }
+    {
+        match self.search(asker) {
+            Ok(place) => {
+                let had = self.entries[place].1;
+                self.entries[place] = (asker, key);
+                Ok(Some(had))
+            }
+            Err(place) => {
+                self.entries.insert(place, (asker, key))?;
+                Ok(None)
+            }
+        }
+    }
+
+    /// Takes an asker away where its key is this one.
+    pub(crate) fn forget(&mut self, asker: Asker, key: usize)
+        ensures { IsForgotten asker key self.old self.new }
+    {
+        let Ok(place) = self.search(asker) else {
+            return;
+        };
+        if self.entries[place].1 == key {
+            self.entries.remove(place);
+        }
+    }
+
+    /// Takes all away. It takes no memory.
+    pub(crate) fn clear(&mut self)
+        ensures { self.new ≡ [] }
+    {
+        self.entries.clear();
+    }
+
+    /// Where an asker is, or where it would go.
+    #[inline(always)]
+    fn search(&self, asker: Asker) -> Result<usize, usize>
+        ensures found { IfOk result (IsAt self.now asker) }
+        ensures absent { IfErr result (IsGap self.now asker) }
+    {
+        self.entries.binary_search_by(|entry| entry.0.cmp(&asker))
+    }
+}
+
+/// Gives an asker that has this key the one again that it had, or none. It takes no memory.
+fn put_back<A: Allocator + Copy>(
+    keys: &mut AskerKeys<A>,
     asker: Asker,
     key: usize,
-) -> Result<Option<usize>, AllocError>
-    ensures had { IfOk result (λ had. had ≡ tree.get asker_cmp keys.old asker) }
-    ensures set { OnOk result (IsSet asker key keys.old keys.new) }
-    ensures unchanged { OnErr result (keys.new.entries ≡ keys.old.entries) }
-    ensures absent { OnErr result (tree.get asker_cmp keys.old asker ≡ None) }
-{
-    Ok(keys.insert(asker, key)?)
-}
-
-/// Takes an asker away.
-pub(crate) fn drop_key<A: Allocator + Copy>(keys: &mut BTreeMap<Asker, usize, A>, asker: Asker)
-    ensures { IsDropped asker keys.old keys.new }
-{
-    keys.remove(&asker);
-}
-
-/// Gives an asker that has a key the one again that it had, or none. It takes no memory.
-fn put_back<A: Allocator + Copy>(
-    keys: &mut BTreeMap<Asker, usize, A>,
-    asker: Asker,
     had: Option<usize>,
 )
-    requires { tree.get asker_cmp keys.old asker ≢ None }
+    requires { map.get keys.old asker ≡ Some key }
     ensures { HasNow asker had keys.old keys.new }
 {
     match had {
-        Some(key) => {
-            set_key(keys, asker, key).unwrap();
+        Some(before) => {
+            keys.set(asker, before).unwrap();
         }
-        None => drop_key(keys, asker),
+        None => keys.forget(asker, key),
     }
 }
 
 /// Sets the key of an asker, and has a request executed: where that finds no memory, the asker has again the key that
 /// it had.
 pub(crate) fn run_with_key<E: Executor<A>, A: Allocator + Copy>(
-    keys: &mut BTreeMap<Asker, usize, A>,
+    keys: &mut AskerKeys<A>,
     asker: Asker,
     key: usize,
     executor: &mut E,
@@ -72,9 +133,9 @@ pub(crate) fn run_with_key<E: Executor<A>, A: Allocator + Copy>(
     ensures same_keys { OnErr result (IsSameMap keys.old keys.new) }
     ensures same_table { OnErr result (E.table_of executor.new ≡ E.table_of executor.old) }
 {
-    let had = set_key(keys, asker, key)?;
+    let had = keys.set(asker, key)?;
     if executor.run(request).is_err() {
-        put_back(keys, asker, had);
+        put_back(keys, asker, key, had);
         return Err(AllocError);
     }
     Ok(())

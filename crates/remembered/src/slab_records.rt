@@ -5,7 +5,7 @@ ghost use Rattle.std.specs.Prelude.{◌≡◌, ◌∷◌, ◌++◌, [], OnOk, On
 ghost use Rattle.objects.specs.Machine.{after};
 ghost use Rattle.remembered.specs.Keeping.{first};
 
-use crate::keys::{drop_key, key_at, key_in, run_with_key, set_key};
+use crate::keys::{AskerKeys, key_in, run_with_key};
 use crate::record::{Asker, Record};
 use crate::records::Records;
 use npdu::Way;
@@ -15,7 +15,7 @@ use segments::numbers::KEEP_MS;
 use services::Executor;
 use slab::Slab;
 use std::alloc::{AllocError, Allocator};
-use std::collections::{BTreeMap, VecDeque};
+use std::collections::VecDeque;
 use std::marker::Model;
 
 /// Records under keys. A contract sees them as a list in order of execution.
@@ -23,7 +23,7 @@ use std::marker::Model;
 pub struct SlabRecords<A: Allocator> {
     alloc: A,
     held: Slab<Record<A>, A>,
-    keys: BTreeMap<Asker, usize, A>,
+    keys: AskerKeys<A>,
     order: VecDeque<usize, A>,
 }
 
@@ -48,7 +48,7 @@ impl<A: Allocator + Copy> SlabRecords<A> {
         SlabRecords {
             alloc,
             held: Slab::new(alloc),
-            keys: BTreeMap::new(alloc),
+            keys: AskerKeys::new(alloc),
             order: VecDeque::new(alloc),
         }
     }
@@ -85,7 +85,7 @@ impl<A: Allocator + Copy> SlabRecords<A> {
         self.held.reserve(1)?;
         self.order.reserve(1)?;
         let key = self.held.vacant_key();
-        set_key(&mut self.keys, entry.asker, key)?;
+        self.keys.set(entry.asker, key)?;
         self.held.insert_reserved(entry);
         self.order.push_back(key).unwrap();
         Ok(())
@@ -109,9 +109,7 @@ impl<A: Allocator + Copy> SlabRecords<A> {
         let Some(record) = self.held.try_remove(key) else {
             return;
         };
-        if key_at(&self.keys, record.asker) == Some(key) {
-            drop_key(&mut self.keys, record.asker);
-        }
+        self.keys.forget(record.asker, key);
     }
 }
 
@@ -120,7 +118,7 @@ impl<A: Allocator + Copy> Records<A> for SlabRecords<A> {
     ghost content = { λ s. s };
 
     fn find(&self, asker: Asker) -> Option<&Record<A>> {
-        let key = key_at(&self.keys, asker)?;
+        let key = self.keys.get(asker)?;
         self.held.get(key)
     }
 
@@ -131,7 +129,7 @@ impl<A: Allocator + Copy> Records<A> for SlabRecords<A> {
     }
 
     fn replace(&mut self, asker: Asker, way: Way, sending: Option<Sender>) {
-        let Some(key) = key_at(&self.keys, asker) else {
+        let Some(key) = self.keys.get(asker) else {
             return;
         };
         let Some(entry) = self.held.try_remove(key) else {
