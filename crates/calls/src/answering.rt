@@ -7,6 +7,7 @@ use device::Device;
 use npdu::{Mac, Parcel, Target};
 use segments::numbers::MAX_MOMENT_MS;
 use std::alloc::Allocator;
+use std::mem;
 use tags::{Fault, Octets};
 
 /// From where the datagram comes.
@@ -15,15 +16,15 @@ const FROM: Mac = Mac::Six([127, 0, 0, 1, 0xBA, 0xC2]);
 /// The longest NPDU on the link, in octets.
 const LONGEST_NPDU: usize = 1497;
 
-/// How many octets the link header has.
-const HEADER: usize = 4;
-
-/// A device that hears one datagram again and again, each time with another invoke ID, and so many ms later.
+/// A device that hears one datagram again and again, each time with another invoke ID, and so many ms later. What it
+/// hears and what it says lie each in one buffer that is kept.
 #[derive(Drop)]
 pub struct Answering<A: Allocator + Copy> {
     alloc: A,
     device: Device<A>,
     datagram: Vec<u8, A>,
+    parcel: Parcel<A>,
+    out: Vec<u8, A>,
     gap: u64,
     now: u64,
     turn: u8,
@@ -40,6 +41,13 @@ impl<A: Allocator + Copy> Answering<A> {
             alloc,
             device: device(alloc, objects)?,
             datagram: Vec::from_slice(alloc, datagram)?,
+            parcel: Parcel {
+                from: FROM,
+                to: Target::One(OWN),
+                npdu: Octets::new(alloc),
+                stamp: 0,
+            },
+            out: Vec::new(alloc),
             gap,
             now: 0,
             turn: 0,
@@ -71,32 +79,37 @@ impl<A: Allocator + Copy> Answering<A> {
         let Ok(Bvll::OriginalUnicastNpdu(npdu)) = Bvll::read(self.datagram.as_slice()) else {
             return Ok(0);
         };
-        let parcel = Parcel {
-            from: FROM,
-            to: Target::One(OWN),
-            npdu: Octets::from_slice(self.alloc, npdu)?,
-            stamp: self.now,
-        };
-        let told = self.device.on_parcel(&parcel, self.now)?;
-        say_all(self.alloc, told.said.as_slice())
+        let before = mem::replace(&mut self.parcel.npdu, Octets::new(self.alloc));
+        self.parcel.npdu = refilled(before, npdu)?;
+        self.parcel.stamp = self.now;
+        let told = self.device.on_parcel(&self.parcel, self.now)?;
+        say_all(told.said.as_slice(), &mut self.out)
     }
 }
 
-/// Writes the datagram of each parcel, and answers how many octets they have.
-fn say_all<A: Allocator + Copy>(alloc: A, parcels: &[Parcel<A>]) -> Result<u64, Fault> {
+/// These octets in the memory of those before them.
+fn refilled<A: Allocator + Copy>(before: Octets<A>, octets: &[u8]) -> Result<Octets<A>, Fault> {
+    let mut kept = before.into_vec();
+    kept.clear();
+    kept.extend_from_slice(octets)?;
+    Ok(Octets::from_vec(kept))
+}
+
+/// Writes the datagram of each parcel into one buffer in turn, and answers how many octets they have.
+fn say_all<A: Allocator + Copy>(parcels: &[Parcel<A>], out: &mut Vec<u8, A>) -> Result<u64, Fault> {
     let mut octets = 0u64;
     for parcel in parcels {
-        octets = octets.saturating_add(say(alloc, parcel.npdu.as_slice())?);
+        octets = octets.saturating_add(say(parcel.npdu.as_slice(), out)?);
     }
     Ok(octets)
 }
 
 /// Writes the datagram of an NPDU to one station.
-fn say<A: Allocator + Copy>(alloc: A, npdu: &[u8]) -> Result<u64, Fault> {
+fn say<A: Allocator + Copy>(npdu: &[u8], out: &mut Vec<u8, A>) -> Result<u64, Fault> {
     if npdu.len() > LONGEST_NPDU {
         return Ok(0);
     }
-    let mut out = Vec::with_capacity(alloc, HEADER + npdu.len())?;
-    Bvll::OriginalUnicastNpdu(npdu).write(&mut out)?;
+    out.clear();
+    Bvll::OriginalUnicastNpdu(npdu).write(out)?;
     Ok(out.len() as u64)
 }
