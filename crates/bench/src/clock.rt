@@ -20,18 +20,33 @@ pub(crate) trait Work {
 /// What came of it, and the tenths of nanoseconds that each time took.
 #[derive(Clone, Copy)]
 pub(crate) struct Timed {
-    pub(crate) came: u64,
+    came: u64,
     tenths: u64,
 }
 
 impl Timed {
-    /// The nanoseconds of one time, in words.
+    /// What came of it, in this unit, or the nanoseconds of one time, in words.
     ///
     /// # Errors
     /// Want of memory.
-    pub(crate) fn text(self, alloc: Global) -> Result<String, AllocError> {
-        format!(in alloc; "{}.{} ns", self.tenths / 10, self.tenths % 10)
+    pub(crate) fn text(
+        self,
+        alloc: Global,
+        has_times: bool,
+        unit: &str,
+    ) -> Result<String, AllocError> {
+        if has_times {
+            return format!(in alloc; "{}.{} ns", self.tenths / 10, self.tenths % 10);
+        }
+        format!(in alloc; "{} {unit}", self.came)
     }
+}
+
+/// How often work is done in a run without words, and in one that is timed.
+#[derive(Clone, Copy)]
+pub(crate) struct Often {
+    pub(crate) few: u64,
+    pub(crate) timed: u64,
 }
 
 /// The tenths of nanoseconds that each of so many calls took.
@@ -42,10 +57,7 @@ fn per_call(nanoseconds: u128, calls: u64) -> u64 {
 }
 
 /// Does work so many times in each run, and takes the time of the best run.
-///
-/// # Errors
-/// Those of the clock, and want of memory.
-pub(crate) fn time<W: Work>(rt: &HostRuntime, work: &mut W, times: u64) -> io::Result<Timed> {
+fn time<W: Work>(rt: &HostRuntime, work: &mut W, times: u64) -> io::Result<Timed> {
     let mut best = Timed {
         came: 0,
         tenths: u64::MAX,
@@ -57,4 +69,27 @@ pub(crate) fn time<W: Work>(rt: &HostRuntime, work: &mut W, times: u64) -> io::R
         best.tenths = min(best.tenths, per_call(took, times));
     }
     Ok(best)
+}
+
+/// Times work, and says what came of it, in this unit, or what it took.
+///
+/// # Errors
+/// Those of the clock, and want of memory.
+pub(crate) fn told<W: Work>(
+    rt: &HostRuntime,
+    has_times: bool,
+    often: Often,
+    unit: &str,
+    work: &mut W,
+) -> io::Result<String> {
+    let times = if has_times { often.timed } else { often.few };
+    Ok(time(rt, work, times)?.text(rt.alloc(), has_times, unit)?)
+}
+
+/// Prints a name, and what is told of it.
+///
+/// # Errors
+/// Those of printing, and want of memory.
+pub(crate) fn print(rt: &HostRuntime, name: &str, told: &str) -> io::Result<()> {
+    rt.println(format!(in rt.alloc(); "{name}: {told}")?.as_str())
 }

@@ -1,15 +1,16 @@
 //! A device on BACnet/IP (ANSI/ASHRAE 135, clauses 5.4.5, 15.5 and 15.7): decoding a request, answering it, and what
 //! its objects take.
 
-use crate::clock::{Work, time};
+use crate::clock::{Often, Work, print, told};
 use calls::{Answering, Reading, decode};
-use std::alloc::{AllocError, Global};
+use std::alloc::{AllocError, Allocator, Global};
 use std::io;
 
-/// How often a call is made in a run without words, and in one that is timed.
-const FEW: u64 = 256;
-
-const OFTEN: u64 = 1_000_000;
+/// How often a call is made.
+const OFTEN: Often = Often {
+    few: 256,
+    timed: 1_000_000,
+};
 
 /// How many objects the device has.
 const OBJECTS: u16 = 8;
@@ -48,9 +49,9 @@ impl Work for Decoding {
 
 /// Answering a datagram.
 #[derive(Drop)]
-struct Answers(Answering<Global>);
+struct Answers<A: Allocator + Copy>(Answering<A>);
 
-impl Work for Answers {
+impl<A: Allocator + Copy> Work for Answers<A> {
     fn go(&mut self, times: u64) -> Result<u64, AllocError> {
         self.0.go(times).map_err(|_| AllocError)
     }
@@ -58,9 +59,9 @@ impl Work for Answers {
 
 /// Reading present values.
 #[derive(Drop)]
-struct Reads(Reading<Global>);
+struct Reads<A: Allocator + Copy>(Reading<A>);
 
-impl Work for Reads {
+impl<A: Allocator + Copy> Work for Reads<A> {
     fn go(&mut self, times: u64) -> Result<u64, AllocError> {
         self.0.go(times)
     }
@@ -74,15 +75,8 @@ fn run_work<W: Work>(
     unit: &str,
     work: &mut W,
 ) -> io::Result<()> {
-    let timed = time(rt, work, if has_times { OFTEN } else { FEW })?;
-    if has_times {
-        let took = timed.text(rt.alloc())?;
-        rt.println(format!(in rt.alloc(); "{name}: {took}")?.as_str())?;
-    } else {
-        let came = timed.came;
-        rt.println(format!(in rt.alloc(); "{name}: {came} {unit}")?.as_str())?;
-    }
-    Ok(())
+    let told = told(rt, has_times, OFTEN, unit, work)?;
+    print(rt, name, told.as_str())
 }
 
 /// Times the answer of a device of so many objects to a datagram each `gap` ms.
@@ -93,26 +87,23 @@ fn run_answer(
     datagram: &[u8],
     gap: u64,
 ) -> io::Result<()> {
-    let Ok(answering) = Answering::new(rt.alloc(), OBJECTS, datagram, gap) else {
-        return Err(io::Error::from(AllocError));
-    };
-    run_work(rt, has_times, name, "octets said", &mut Answers(answering))
+    match Answering::new(rt.alloc(), OBJECTS, datagram, gap) {
+        Ok(answering) => run_work(rt, has_times, name, "octets said", &mut Answers(answering)),
+        Err(_) => Err(io::Error::from(AllocError)),
+    }
 }
 
 /// Times the reads of a table of so many objects.
 fn run_reads(rt: &HostRuntime, has_times: bool, objects: u16) -> io::Result<()> {
-    let Ok(reading) = Reading::new(rt.alloc(), objects) else {
-        return Err(io::Error::from(AllocError));
-    };
     let name = format!(in rt.alloc(); "read of one of {objects} objects")?;
-    run_work(rt, has_times, name.as_str(), "values", &mut Reads(reading))
+    match Reading::new(rt.alloc(), objects) {
+        Ok(reading) => run_work(rt, has_times, name.as_str(), "values", &mut Reads(reading)),
+        Err(_) => Err(io::Error::from(AllocError)),
+    }
 }
 
-/// Times a device's calls, and prints them.
-///
-/// # Errors
-/// Those of the clock and of printing, and want of memory.
-pub(crate) fn run(rt: &HostRuntime, has_times: bool) -> io::Result<()> {
+/// Times decoding a datagram.
+fn run_decoding(rt: &HostRuntime, has_times: bool) -> io::Result<()> {
     let mut decoding = Decoding {
         alloc: rt.alloc(),
         datagram: READ_PROPERTY,
@@ -123,7 +114,15 @@ pub(crate) fn run(rt: &HostRuntime, has_times: bool) -> io::Result<()> {
         "ReadProperty decoded",
         "in sum",
         &mut decoding,
-    )?;
+    )
+}
+
+/// Times a device's calls, and prints them.
+///
+/// # Errors
+/// Those of the clock and of printing, and want of memory.
+pub(crate) fn run(rt: &HostRuntime, has_times: bool) -> io::Result<()> {
+    run_decoding(rt, has_times)?;
     run_answer(rt, has_times, "ReadProperty answered", &READ_PROPERTY, RARE)?;
     let remembering = "ReadProperty answered, 64 remembered";
     run_answer(rt, has_times, remembering, &READ_PROPERTY, DENSE)?;

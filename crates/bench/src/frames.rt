@@ -1,14 +1,15 @@
 //! MS/TP frames (ANSI/ASHRAE 135, clause 9.3, Annex G): the check of data, and hearing a frame in pieces.
 
-use crate::clock::{Work, time};
+use crate::clock::{Often, Work, print, told};
 use mstp_frame::{Deframer, Frame, FrameType, data_check, write_frame};
 use std::alloc::{AllocError, Global};
 use std::io;
 
-/// How often a call is made in a run without words, and in one that is timed.
-const FEW: u64 = 100;
-
-const OFTEN: u64 = 20_000;
+/// How often a call is made.
+const OFTEN: Often = Often {
+    few: 100,
+    timed: 20_000,
+};
 
 /// The octets of data.
 const OCTETS: usize = 500;
@@ -92,33 +93,30 @@ impl Work for Hearing {
     }
 }
 
+/// Times the check of data.
+fn run_check(rt: &HostRuntime, has_times: bool) -> io::Result<()> {
+    let mut checking = Checking(octets(rt.alloc())?);
+    let told = told(rt, has_times, OFTEN, "in sum", &mut checking)?;
+    let name = format!(in rt.alloc(); "data_check of {OCTETS} octets")?;
+    print(rt, name.as_str(), told.as_str())
+}
+
+/// Times hearing a frame in pieces of so many octets.
+fn run_hearing(rt: &HostRuntime, has_times: bool, piece: usize) -> io::Result<()> {
+    let mut hearing = Hearing::new(rt.alloc(), piece)?;
+    let told = told(rt, has_times, OFTEN, "octets heard", &mut hearing)?;
+    let name = format!(in rt.alloc(); "feed in pieces of {piece}")?;
+    print(rt, name.as_str(), told.as_str())
+}
+
 /// Times the check of data, and hearing a frame.
 ///
 /// # Errors
 /// Those of the clock and of printing, and want of memory.
 pub(crate) fn run(rt: &HostRuntime, has_times: bool) -> io::Result<()> {
-    let times = if has_times { OFTEN } else { FEW };
-    let checked = time(rt, &mut Checking(octets(rt.alloc())?), times)?;
-    if has_times {
-        let took = checked.text(rt.alloc())?;
-        rt.println(format!(in rt.alloc(); "data_check of {OCTETS} octets: {took}")?.as_str())?;
-    } else {
-        let came = checked.came;
-        rt.println(format!(in rt.alloc(); "data_check of {OCTETS} octets: {came}")?.as_str())?;
-    }
+    run_check(rt, has_times)?;
     for piece in PIECES {
-        let heard = time(rt, &mut Hearing::new(rt.alloc(), piece)?, times)?;
-        if has_times {
-            let took = heard.text(rt.alloc())?;
-            rt.println(format!(in rt.alloc();
-                "feed of {OCTETS} octets in pieces of {piece}: {took}"
-            )?.as_str())?;
-        } else {
-            let came = heard.came;
-            rt.println(format!(in rt.alloc();
-                "feed in pieces of {piece}: {came} octets heard"
-            )?.as_str())?;
-        }
+        run_hearing(rt, has_times, piece)?;
     }
     Ok(())
 }

@@ -1,15 +1,16 @@
 //! Broadcast managers of BACnet/IP (ANSI/ASHRAE 135, clause J.4.5): forwarding a broadcast to the members of a subnet.
 
-use crate::clock::{Work, time};
+use crate::clock::{Often, Work, print, told};
 use bbmd::Bbmd;
 use bvll::Address;
-use std::alloc::{AllocError, Global};
+use std::alloc::{AllocError, Allocator};
 use std::io;
 
-/// How often a call is made in a run without words, and in one that is timed.
-const FEW: u64 = 1_000;
-
-const OFTEN: u64 = 100_000;
+/// How often a call is made.
+const OFTEN: Often = Often {
+    few: 1_000,
+    timed: 100_000,
+};
 
 /// How many members the subnet has beside its manager.
 const MEMBERS: u16 = 16;
@@ -33,13 +34,13 @@ fn at_port(port: u16) -> Address {
 
 /// Forwarding what another manager sends.
 #[derive(Drop)]
-struct Forwarding {
-    manager: Bbmd<Global>,
+struct Forwarding<A: Allocator + Copy> {
+    manager: Bbmd<A>,
 }
 
-impl Forwarding {
+impl<A: Allocator + Copy> Forwarding<A> {
     /// A manager with a peer and the members of its subnet.
-    fn new(alloc: Global) -> io::Result<Forwarding> {
+    fn new(alloc: A) -> io::Result<Forwarding<A>> {
         let own = at_port(FIRST);
         let managers = [own, at_port(FIRST + 1)];
         if !managers.as_slice().contains(&own) {
@@ -56,7 +57,7 @@ impl Forwarding {
     }
 }
 
-impl Work for Forwarding {
+impl<A: Allocator + Copy> Work for Forwarding<A> {
     fn go(&mut self, times: u64) -> Result<u64, AllocError> {
         let now = self.manager.moment();
         let mut sent = 0u64;
@@ -81,16 +82,8 @@ impl Work for Forwarding {
 /// # Errors
 /// Those of the clock and of printing, and want of memory.
 pub(crate) fn run(rt: &HostRuntime, has_times: bool) -> io::Result<()> {
-    let times = if has_times { OFTEN } else { FEW };
-    let forwarded = time(rt, &mut Forwarding::new(rt.alloc())?, times)?;
-    if has_times {
-        let took = forwarded.text(rt.alloc())?;
-        rt.println(format!(in rt.alloc(); "forwarded to {MEMBERS} members: {took}")?.as_str())?;
-    } else {
-        let came = forwarded.came;
-        rt.println(format!(in rt.alloc();
-            "forwarded to {MEMBERS} members: {came} datagrams"
-        )?.as_str())?;
-    }
-    Ok(())
+    let mut forwarding = Forwarding::new(rt.alloc())?;
+    let told = told(rt, has_times, OFTEN, "datagrams", &mut forwarding)?;
+    let name = format!(in rt.alloc(); "forwarded to {MEMBERS} members")?;
+    print(rt, name.as_str(), told.as_str())
 }

@@ -1,19 +1,20 @@
 //! Remembered answers (ANSI/ASHRAE 135, clause 5.4.5): finding one, and executing a request with so many there.
 
-use crate::clock::{Work, time};
+use crate::clock::{Often, Work, print, told};
 use npdu::{Mac, Station, Way};
 use objects::{DataLink, Request, SiteObjects, Table};
 use remembered::{Asker, ListRecords, Record, Records, RememberedAnswer, SlabRecords};
 use segments::numbers::KEEP_MS;
 use services::{ConfirmedService, ObjectExecutor};
-use std::alloc::{AllocError, Global};
+use std::alloc::{AllocError, Allocator, Global};
 use std::io;
 use tags::{Items, ObjectId};
 
-/// How often a call is made in a run without words, and in one that is timed.
-const FEW: u64 = 1_000;
-
-const OFTEN: u64 = 1_000_000;
+/// How often a call is made.
+const OFTEN: Often = Often {
+    few: 1_000,
+    timed: 1_000_000,
+};
 
 /// How many answers are remembered.
 const COUNTS: [u8; 3] = [1, 8, 64];
@@ -74,7 +75,7 @@ fn asker(number: u8) -> Asker {
 }
 
 /// The record of a request of this asker, executed at this moment.
-fn entry(asker: Asker, at: u64) -> Record<Global> {
+fn entry<A: Allocator>(asker: Asker, at: u64) -> Record<A> {
     Record {
         asker,
         service: ConfirmedService::ReadProperty,
@@ -86,6 +87,33 @@ fn entry(asker: Asker, at: u64) -> Record<Global> {
             destination: None,
         },
         sending: None,
+    }
+}
+
+/// A table of a device without objects.
+fn table<A: Allocator + Copy>(alloc: A) -> io::Result<Table<A>> {
+    let site = SiteObjects {
+        name: Items::new(alloc),
+        instance: 1,
+        vendor: 260,
+        data_link: DataLink::BacnetIp,
+        objects: Items::new(alloc),
+    };
+    match Table::new(alloc, site) {
+        Ok(table) => Ok(table),
+        Err(_) => Err(io::Error::from(AllocError)),
+    }
+}
+
+/// The request for the name of a device.
+fn request<A: Allocator>() -> Request<A> {
+    Request::Read {
+        object: ObjectId {
+            object_type: 8,
+            instance: 1,
+        },
+        property: 77,
+        index: None,
     }
 }
 
@@ -102,27 +130,12 @@ struct Device<R: Drop> {
 impl<R: Records<Global> + Form + Drop> Device<R> {
     /// A device with so many records.
     fn new(alloc: Global, count: u8) -> io::Result<Device<R>> {
-        let site = SiteObjects {
-            name: Items::new(alloc),
-            instance: 1,
-            vendor: 260,
-            data_link: DataLink::BacnetIp,
-            objects: Items::new(alloc),
-        };
-        let Ok(table) = Table::new(alloc, site) else {
-            return Err(io::Error::from(AllocError));
-        };
         let mut device = Device {
             records: R::none(alloc),
-            executor: ObjectExecutor { table },
-            request: Request::Read {
-                object: ObjectId {
-                    object_type: 8,
-                    instance: 1,
-                },
-                property: 77,
-                index: None,
+            executor: ObjectExecutor {
+                table: table(alloc)?,
             },
+            request: request(),
             count,
             now: 0,
         };
@@ -183,36 +196,38 @@ impl<R: Records<Global> + Form + Drop> Work for Executing<R> {
     }
 }
 
+/// Times finding in a form, with so many records there.
+fn find_told<R: Records<Global> + Form + Drop>(
+    rt: &HostRuntime,
+    count: u8,
+    has_times: bool,
+) -> io::Result<String> {
+    let mut finding = Finding(Device::<R>::new(rt.alloc(), count)?);
+    told(rt, has_times, OFTEN, "found", &mut finding)
+}
+
+/// Times executing in a form, with so many records there.
+fn execute_told<R: Records<Global> + Form + Drop>(
+    rt: &HostRuntime,
+    count: u8,
+    has_times: bool,
+) -> io::Result<String> {
+    let mut executing = Executing(Device::<R>::new(rt.alloc(), count)?);
+    told(rt, has_times, OFTEN, "remembered", &mut executing)
+}
+
 /// Times the calls of a form, and prints them.
 fn run_form<R: Records<Global> + Form + Drop>(
     rt: &HostRuntime,
     name: &str,
     has_times: bool,
 ) -> io::Result<()> {
-    let times = if has_times { OFTEN } else { FEW };
     for count in COUNTS {
-        let found = time(
-            rt,
-            &mut Finding(Device::<R>::new(rt.alloc(), count)?),
-            times,
-        )?;
-        let held = time(
-            rt,
-            &mut Executing(Device::<R>::new(rt.alloc(), count)?),
-            times,
-        )?;
-        if has_times {
-            let find = found.text(rt.alloc())?;
-            let execute = held.text(rt.alloc())?;
-            rt.println(format!(in rt.alloc();
-                "{name} {count}: find {find}, execute {execute}"
-            )?.as_str())?;
-        } else {
-            let (found, held) = (found.came, held.came);
-            rt.println(format!(in rt.alloc();
-                "{name} {count}: {found} found, {held} remembered"
-            )?.as_str())?;
-        }
+        let found = find_told::<R>(rt, count, has_times)?;
+        let executed = execute_told::<R>(rt, count, has_times)?;
+        let told = format!(in rt.alloc(); "find {found}, execute {executed}")?;
+        let name = format!(in rt.alloc(); "{name} {count}")?;
+        print(rt, name.as_str(), told.as_str())?;
     }
     Ok(())
 }

@@ -6,7 +6,9 @@ ghost use Rattle.std.specs.Prelude.{◌<◌};
 ghost use Rattle.apdu.specs.Sizes.{apdu_code};
 
 use crate::input::{Input, TakesInputs, read_input, run_copy, try_input};
-use crate::told::{push_mark, push_parcel, push_parcels, push_reply, told_or_nothing};
+use crate::told::{
+    push_mark, push_parcel, push_parcels, push_reply, run_number, run_word, told_or_nothing,
+};
 use client::{Binding, Client, Told};
 use client_tsm::Outcome;
 use npdu::{Mac, Parcel, Station, Target};
@@ -14,8 +16,7 @@ use objects::Request;
 use segments::numbers::MAX_MOMENT_MS;
 use services::{MaxApdu, Segmentation};
 use sheets::{
-    Counts, Given, Memory, Part, Stop, number, push_octets, refusal, request_in, run_text,
-    two_words,
+    Counts, Given, Part, Stop, number, push_octets, refusal, request_in, run_text, two_words,
 };
 use std::alloc::{AllocError, Allocator, Global};
 use tags::{Fault, Octets};
@@ -221,32 +222,65 @@ fn issue_often<A: Allocator + Copy>(
 }
 
 /// Runs a row of a client.
-pub(crate) fn run<'a>(
-    given: Given<'a>,
-    client: &mut Client<Memory<'a>>,
+pub(crate) fn run<A: Allocator + Copy>(
+    given: Given<'_>,
+    memory: A,
+    client: &mut Client<A>,
     asked: &str,
     wanted: &str,
 ) -> Result<Counts, Stop> {
     let (first, rest) = two_words(asked);
     match first {
-        "binding" => return run_binding(given, client, rest, wanted),
-        "bindings" => return run_text(
-            format!(in given.alloc; "{}", client.bindings().len())?,
+        "binding" => run_binding(given, client, rest, wanted),
+        "bindings" => run_number(given, client.bindings().len() as u64, wanted),
+        "moment" => run_number(given, client.moment(), wanted),
+        "copy" => run_copy(given, client, wanted),
+        "often" => run_often(given, memory, client, rest, wanted),
+        "introduce" => run_introduced(given, memory, client, rest, wanted),
+        _ => run_input(
+            given,
+            memory,
+            client,
+            u64::from(number(first)?),
+            rest,
             wanted,
         ),
-        "moment" => return run_text(format!(in given.alloc; "{}", client.moment())?, wanted),
-        "copy" => return run_copy(given, client, wanted),
-        "often" => {
-            issue_often(given.alloc, given.memory, client, rest)?;
-            return run_text(String::from_str(given.alloc, "issued")?, wanted);
-        }
-        "introduce" => {
-            introduce(given.memory, client, rest)?;
-            return run_text(String::from_str(given.alloc, "introduced")?, wanted);
-        }
-        _ => {}
     }
-    let now = u64::from(number(first)?);
-    let input = read_input(given.alloc, given.memory, OWN, now, rest)?;
+}
+
+/// Runs a row of as many issues as it says.
+fn run_often<A: Allocator + Copy>(
+    given: Given<'_>,
+    memory: A,
+    client: &mut Client<A>,
+    words: &str,
+    wanted: &str,
+) -> Result<Counts, Stop> {
+    issue_often(given.alloc, memory, client, words)?;
+    run_word(given, "issued", wanted)
+}
+
+/// Runs a row of the I-Ams of as many devices as it says.
+fn run_introduced<A: Allocator + Copy>(
+    given: Given<'_>,
+    memory: A,
+    client: &mut Client<A>,
+    words: &str,
+    wanted: &str,
+) -> Result<Counts, Stop> {
+    introduce(memory, client, words)?;
+    run_word(given, "introduced", wanted)
+}
+
+/// Runs a row of what a client hears or does at this moment.
+fn run_input<A: Allocator + Copy>(
+    given: Given<'_>,
+    memory: A,
+    client: &mut Client<A>,
+    now: u64,
+    words: &str,
+    wanted: &str,
+) -> Result<Counts, Stop> {
+    let input = read_input(given.alloc, memory, OWN, now, words)?;
     try_input(given, client, now, &input, wanted)
 }

@@ -3,13 +3,13 @@
 
 use crate::input::{Input, TakesInputs, read_input, run_copy, try_input};
 use crate::opened::table;
-use crate::told::{push_mark, push_parcels, push_reply, told_or_nothing};
+use crate::told::{push_mark, push_parcels, push_reply, run_number, run_word, told_or_nothing};
 use device::{Device, Told};
 use npdu::Mac;
+use objects::Request;
 use segments::numbers::MAX_MOMENT_MS;
-use sheets::{Counts, Given, Memory, Part, Stop, number, request_in, run_text, two_words};
+use sheets::{Counts, Given, Part, Stop, number, request_in, run_text, two_words};
 use std::alloc::{AllocError, Allocator, Global};
-use words::Words;
 
 /// The address of the device on BACnet/IP, to which what is for it alone is sent.
 const OWN: Mac = Mac::Six([127, 0, 0, 1, 0xBA, 0xC3]);
@@ -30,18 +30,34 @@ fn told<A: Allocator + Copy>(
     }
 }
 
+/// What a device says and executes, in words.
+fn in_words<A: Allocator + Copy>(
+    alloc: Global,
+    from: Mac,
+    now: u64,
+    told: &Told<A>,
+) -> Result<String, Stop> {
+    let mut out = String::new(alloc);
+    push_parcels(alloc, from, now, &told.said, &mut out)?;
+    push_executed(told, &mut out)?;
+    told_or_nothing(out)
+}
+
+/// Appends what was executed, if a request was.
+fn push_executed<A: Allocator + Copy>(told: &Told<A>, out: &mut String) -> Result<(), AllocError> {
+    let Some(executed) = &told.executed else {
+        return Ok(());
+    };
+    push_mark(out)?;
+    out.push_str("executed ")?;
+    push_reply(&executed.reply, out)
+}
+
 impl<A: Allocator + Copy> TakesInputs<A> for Device<A> {
     fn take(&mut self, alloc: Global, now: u64, input: &Input<A>) -> Result<String, Stop> {
         let from = self.mac();
         let told = told(self, now, input)?;
-        let mut out = String::new(alloc);
-        push_parcels(alloc, from, now, &told.said, &mut out)?;
-        if let Some(executed) = &told.executed {
-            push_mark(&mut out)?;
-            out.push_str("executed ")?;
-            push_reply(&executed.reply, &mut out)?;
-        }
-        told_or_nothing(out)
+        in_words(alloc, from, now, &told)
     }
 
     fn copied(&self) -> Result<Self, AllocError> {
@@ -50,53 +66,83 @@ impl<A: Allocator + Copy> TakesInputs<A> for Device<A> {
 }
 
 /// Restarts the device, which takes no memory.
-fn run_restart<'a>(
-    given: Given<'a>,
-    device: &mut Device<Memory<'a>>,
+fn run_restart<A: Allocator + Copy>(
+    given: Given<'_>,
+    memory: A,
+    device: &mut Device<A>,
     now: u64,
     wanted: &str,
 ) -> Result<Counts, Stop> {
     if now > MAX_MOMENT_MS || now < device.moment() {
         return Err(Stop::Unread(Part::Number));
     }
-    let opening = table(given.memory)?;
+    let opening = table(memory)?;
     given.memory.refuse_all();
     device.restart(opening, now);
     given.memory.refuse_only(0);
-    run_text(String::from_str(given.alloc, "restarted")?, wanted)
+    run_word(given, "restarted", wanted)
 }
 
 /// What the objects reply to a request, in words.
+fn replied<A: Allocator + Copy>(
+    alloc: Global,
+    device: &Device<A>,
+    request: &Request<A>,
+) -> Result<String, Stop> {
+    let reply = device.table().reply(request)?;
+    let mut out = String::new(alloc);
+    push_reply(&reply, &mut out)?;
+    Ok(out)
+}
+
+/// Runs a row of what the objects reply to a request.
 fn run_read<A: Allocator + Copy>(
     given: Given<'_>,
-    other: A,
+    memory: A,
     device: &Device<A>,
     request: &str,
     wanted: &str,
 ) -> Result<Counts, Stop> {
-    let request = request_in(other, request)?;
-    let reply = device.table().reply(&request)?;
-    run_text(format!(in given.alloc; "{}", Words(&reply))?, wanted)
+    let request = request_in(memory, request)?;
+    run_text(replied(given.alloc, device, &request)?, wanted)
 }
 
 /// Runs a row of a device.
-pub(crate) fn run<'a>(
-    given: Given<'a>,
-    device: &mut Device<Memory<'a>>,
+pub(crate) fn run<A: Allocator + Copy>(
+    given: Given<'_>,
+    memory: A,
+    device: &mut Device<A>,
     asked: &str,
     wanted: &str,
 ) -> Result<Counts, Stop> {
     let (first, rest) = two_words(asked);
     match first {
-        "read" => return run_read(given, given.other, device, rest, wanted),
-        "moment" => return run_text(format!(in given.alloc; "{}", device.moment())?, wanted),
-        "copy" => return run_copy(given, device, wanted),
-        _ => {}
+        "read" => run_read(given, memory, device, rest, wanted),
+        "moment" => run_number(given, device.moment(), wanted),
+        "copy" => run_copy(given, device, wanted),
+        _ => run_input(
+            given,
+            memory,
+            device,
+            u64::from(number(first)?),
+            rest,
+            wanted,
+        ),
     }
-    let now = u64::from(number(first)?);
-    if let ("restart", "") = two_words(rest) {
-        return run_restart(given, device, now, wanted);
+}
+
+/// Runs a row of what a device hears or does at this moment.
+fn run_input<A: Allocator + Copy>(
+    given: Given<'_>,
+    memory: A,
+    device: &mut Device<A>,
+    now: u64,
+    words: &str,
+    wanted: &str,
+) -> Result<Counts, Stop> {
+    if words == "restart" {
+        return run_restart(given, memory, device, now, wanted);
     }
-    let input = read_input(given.alloc, given.memory, OWN, now, rest)?;
+    let input = read_input(given.alloc, memory, OWN, now, words)?;
     try_input(given, device, now, &input, wanted)
 }

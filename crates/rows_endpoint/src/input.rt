@@ -3,12 +3,11 @@
 //! Of a client also `MOMENT issue INSTANCE REQUEST` and `MOMENT who-is`, or `MOMENT who-is LOW HIGH`. Each allocation
 //! of an input is refused in turn: the same input then comes again.
 
+use crate::told::run_refused;
 use npdu::{Mac, Parcel, Target};
 use objects::Request;
 use services::Limits;
-use sheets::{
-    Counts, Given, Memory, Part, Stop, compare, differs, number, octets, request_in, two_words,
-};
+use sheets::{Counts, Given, Part, Stop, differs, number, octets, request_in, two_words};
 use std::alloc::{AllocError, Allocator, Global};
 
 /// How many runs have an allocation refused at most.
@@ -100,15 +99,16 @@ pub(crate) fn read_input<A: Allocator + Copy>(
     }
 }
 
-/// Runs an input with each allocation refused in turn, until a run meets no refusal.
+/// Runs an input of a station in the memory of `given` with each allocation refused in turn, until a run meets no
+/// refusal.
 ///
 /// # Errors
 /// `Differs` where another thing comes of it than is wanted, or a refusal for another cause than want of memory.
-pub(crate) fn try_input<'a, S: TakesInputs<Memory<'a>>>(
-    given: Given<'a>,
+pub(crate) fn try_input<A: Allocator, S: TakesInputs<A>>(
+    given: Given<'_>,
     station: &mut S,
     now: u64,
-    input: &Input<Memory<'a>>,
+    input: &Input<A>,
     wanted: &str,
 ) -> Result<Counts, Stop> {
     for refused in 0..MANY {
@@ -118,14 +118,7 @@ pub(crate) fn try_input<'a, S: TakesInputs<Memory<'a>>>(
         given.memory.refuse_only(0);
         match came {
             Err(Stop::Memory) if !is_waiting => {}
-            Ok(found) if is_waiting => {
-                compare(found, wanted)?;
-                return Ok(Counts {
-                    rows: 1,
-                    refused,
-                    changed: 0,
-                });
-            }
+            Ok(found) if is_waiting => return run_refused(found, refused, wanted),
             Err(Stop::Differs(found)) => return Err(Stop::Differs(found)),
             Err(Stop::Unread(part)) => return Err(Stop::Unread(part)),
             _ => return Err(differs(given.alloc, "want of memory for another cause")),
@@ -137,12 +130,12 @@ pub(crate) fn try_input<'a, S: TakesInputs<Memory<'a>>>(
     ))
 }
 
-/// Goes on with a copy, each allocation of which was refused in turn.
+/// Goes on with a copy of a station in the memory of `given`, each allocation of which was refused in turn.
 ///
 /// # Errors
 /// `Differs` where it is refused for another cause than want of memory.
-pub(crate) fn run_copy<'a, S: TakesInputs<Memory<'a>>>(
-    given: Given<'a>,
+pub(crate) fn run_copy<A: Allocator, S: TakesInputs<A>>(
+    given: Given<'_>,
     station: &mut S,
     wanted: &str,
 ) -> Result<Counts, Stop> {
@@ -155,12 +148,8 @@ pub(crate) fn run_copy<'a, S: TakesInputs<Memory<'a>>>(
             Err(_) if !is_waiting => {}
             Ok(copy) if is_waiting => {
                 *station = copy;
-                compare(String::from_str(given.alloc, "copied")?, wanted)?;
-                return Ok(Counts {
-                    rows: 1,
-                    refused,
-                    changed: 0,
-                });
+                let found = String::from_str(given.alloc, "copied")?;
+                return run_refused(found, refused, wanted);
             }
             _ => return Err(differs(given.alloc, "want of memory for another cause")),
         }

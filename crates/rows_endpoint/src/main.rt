@@ -1,22 +1,26 @@
 //! The program `rows_endpoint`: what a device and a client on their network say, execute and tell over time
-//! (ANSI/ASHRAE 135, clauses 5.4.4, 5.4.5, 6 and 16.10), run on the rows of its `data/`.
+//! (ANSI/ASHRAE 135, clauses 5.4.4, 5.4.5, 6 and 16.10), and what carries broadcasts between subnets (Annex J), run
+//! on the rows of its `data/`.
 //!
 //! - `opened`: the device of the rows.
 //! - `input`: what they hear and do at a moment, with each allocation refused in turn.
 //! - `heard`: the rows of a device; `asked`: those of a client.
 //! - `told`: what is said and told, in words.
+//! - `network`: what carries broadcasts through an internetwork.
 #![tactic(auto)]
 
 mod asked;
 mod heard;
 mod input;
+mod network;
 mod opened;
 mod told;
 
 use client::Client;
 use device::Device;
-use sheets::{Bench, Counts, Given, Memory, Part, Report, Row, Stop, run_text, two_words};
-use std::alloc::AllocError;
+use network::{managers, spreading};
+use sheets::{Bench, Counts, Given, Part, Report, Row, Stop, two_words};
+use std::alloc::{AllocError, Allocator};
 use std::io;
 
 /// What the rows of the program run on.
@@ -24,10 +28,10 @@ struct EndpointRows;
 
 /// The device or the client that a row opened last.
 #[derive(Drop)]
-enum Endpoint<'a> {
+enum Endpoint<A: Allocator + Copy> {
     Nothing,
-    ADevice(Device<Memory<'a>>),
-    AClient(Client<Memory<'a>>),
+    ADevice(Device<A>),
+    AClient(Client<A>),
 }
 
 impl Bench for EndpointRows {
@@ -37,38 +41,76 @@ impl Bench for EndpointRows {
         rows: &[Row<'_>],
         report: &mut Report<'_>,
     ) -> Result<(), AllocError> {
-        let mut opened = Endpoint::Nothing;
-        for row in rows {
-            report.add(row, run_row(given, &mut opened, name, row))?;
-        }
-        Ok(())
+        run_rows(given, given.memory, name, rows, report)
     }
 }
 
+/// Runs the rows of a file of this name in their order. What they open lies in `memory`, that of `given`.
+fn run_rows<A: Allocator + Copy>(
+    given: Given<'_>,
+    memory: A,
+    name: &str,
+    rows: &[Row<'_>],
+    report: &mut Report<'_>,
+) -> Result<(), AllocError> {
+    let mut opened = Endpoint::Nothing;
+    for row in rows {
+        report.add(row, run_row(given, memory, &mut opened, name, row))?;
+    }
+    Ok(())
+}
+
 /// What a row of a file of this name opens.
-fn open<'a>(given: Given<'a>, name: &str, word: &str) -> Result<Endpoint<'a>, Stop> {
+fn open<A: Allocator + Copy>(memory: A, name: &str, word: &str) -> Result<Endpoint<A>, Stop> {
     match name {
-        "device.txt" => Ok(Endpoint::ADevice(opened::open(given.memory, word)?)),
-        "client.txt" => Ok(Endpoint::AClient(asked::open(given.memory, word)?)),
+        "device.txt" => Ok(Endpoint::ADevice(opened::open(memory, word)?)),
+        "client.txt" => Ok(Endpoint::AClient(asked::open(memory, word)?)),
         _ => Err(Stop::Unread(Part::Asked)),
     }
 }
 
 /// Runs a row of a file of this name, on what a row opened last.
-fn run_row<'a>(
-    given: Given<'a>,
-    opened: &mut Endpoint<'a>,
+fn run_row<A: Allocator + Copy>(
+    given: Given<'_>,
+    memory: A,
+    opened: &mut Endpoint<A>,
     name: &str,
     row: &Row<'_>,
 ) -> Result<Counts, Stop> {
     let wanted = row.wanted()?;
-    if let ("open", word) = two_words(row.asked) {
-        *opened = open(given, name, word)?;
-        return run_text(String::from_str(given.alloc, "opened")?, wanted);
+    match name {
+        "managers.txt" => managers::run(given, memory, row.asked, wanted),
+        "reach.txt" => spreading::run(given, memory, row.asked, wanted),
+        _ => run_station(given, memory, opened, (name, row.asked), wanted),
     }
+}
+
+/// Runs a row that opens a station of a file of this name, or asks what is open.
+fn run_station<A: Allocator + Copy>(
+    given: Given<'_>,
+    memory: A,
+    opened: &mut Endpoint<A>,
+    (name, asked): (&str, &str),
+    wanted: &str,
+) -> Result<Counts, Stop> {
+    if let ("open", word) = two_words(asked) {
+        *opened = open(memory, name, word)?;
+        return told::run_word(given, "opened", wanted);
+    }
+    run_opened(given, memory, opened, asked, wanted)
+}
+
+/// Runs a row on what is open.
+fn run_opened<A: Allocator + Copy>(
+    given: Given<'_>,
+    memory: A,
+    opened: &mut Endpoint<A>,
+    asked: &str,
+    wanted: &str,
+) -> Result<Counts, Stop> {
     match opened {
-        Endpoint::ADevice(device) => heard::run(given, device, row.asked, wanted),
-        Endpoint::AClient(client) => asked::run(given, client, row.asked, wanted),
+        Endpoint::ADevice(device) => heard::run(given, memory, device, asked, wanted),
+        Endpoint::AClient(client) => asked::run(given, memory, client, asked, wanted),
         Endpoint::Nothing => Err(Stop::Unread(Part::Asked)),
     }
 }

@@ -4,7 +4,7 @@
 
 use npdu::{Mac, Parcel, Target};
 use objects::Reply;
-use sheets::{Stop, differs, push_octets};
+use sheets::{Counts, Given, Stop, compare, differs, push_octets, run_text};
 use std::alloc::{AllocError, Allocator, Global};
 use tags::Items;
 use words::Words;
@@ -96,4 +96,33 @@ pub(crate) fn told_or_nothing(mut out: String) -> Result<String, Stop> {
         out.push('-')?;
     }
     Ok(out)
+}
+
+/// A row that told this word.
+///
+/// # Errors
+/// `Differs` where another is wanted.
+pub(crate) fn run_word(given: Given<'_>, word: &str, wanted: &str) -> Result<Counts, Stop> {
+    run_text(String::from_str(given.alloc, word)?, wanted)
+}
+
+/// A row that told this number.
+///
+/// # Errors
+/// `Differs` where another is wanted.
+pub(crate) fn run_number(given: Given<'_>, number: u64, wanted: &str) -> Result<Counts, Stop> {
+    run_text(format!(in given.alloc; "{number}")?, wanted)
+}
+
+/// A row that told this, where as many allocations were refused.
+///
+/// # Errors
+/// `Differs` where other words are wanted.
+pub(crate) fn run_refused(found: String, refused: u64, wanted: &str) -> Result<Counts, Stop> {
+    compare(found, wanted)?;
+    Ok(Counts {
+        rows: 1,
+        refused,
+        changed: 0,
+    })
 }

@@ -4,7 +4,7 @@
 use crate::sites::Described;
 use crate::tables::{Opened, replied};
 use objects::{SiteObjects, Table};
-use sheets::{Counts, Given, Memory, Part, Stop, Trial, refusal, try_row};
+use sheets::{Counts, Given, Part, Stop, Trial, refusal, try_row};
 use std::alloc::{Allocator, Global};
 
 /// A site that opens, or not.
@@ -36,9 +36,14 @@ struct CopiedSite<'r>(Described<'r>);
 impl<'r, 'a> Trial<'a> for CopiedSite<'r> {
     fn answer(&self, given: Given<'a>, _octets: &[u8]) -> Result<String, Stop> {
         let is_equal = is_site_copied(given, given.other, given.memory, self.0)?;
-        let found = if is_equal { "equal" } else { "not equal" };
-        Ok(String::from_str(given.alloc, found)?)
+        equality(given.alloc, is_equal)
     }
+}
+
+/// Whether a copy is equal, in words.
+fn equality(alloc: Global, is_equal: bool) -> Result<String, Stop> {
+    let found = if is_equal { "equal" } else { "not equal" };
+    Ok(String::from_str(alloc, found)?)
 }
 
 /// Whether the copy of a site is equal.
@@ -56,14 +61,16 @@ fn is_site_copied<A: Allocator + Copy>(
 }
 
 /// A table that is copied.
-#[derive(Clone, Copy)]
-struct CopiedTable<'t, 'a>(&'t Opened<Memory<'a>>);
+#[derive(Drop)]
+struct CopiedTable<'t, A: Allocator + Copy> {
+    opened: &'t Opened<A>,
+    other: A,
+}
 
-impl<'t, 'a> Trial<'a> for CopiedTable<'t, 'a> {
+impl<'t, 'a, A: Allocator + Copy> Trial<'a> for CopiedTable<'t, A> {
     fn answer(&self, given: Given<'a>, _octets: &[u8]) -> Result<String, Stop> {
-        let is_equal = is_table_copied(given.alloc, given.other, self.0)?;
-        let found = if is_equal { "equal" } else { "not equal" };
-        Ok(String::from_str(given.alloc, found)?)
+        let is_equal = is_table_copied(given.alloc, self.other, self.opened)?;
+        equality(given.alloc, is_equal)
     }
 }
 
@@ -74,26 +81,30 @@ fn is_table_copied<A: Allocator + Copy>(
     opened: &Opened<A>,
 ) -> Result<bool, Stop> {
     let copy = opened.table.copy()?;
-    let found = replied(alloc, other, &copy, opened.everything.as_str())?;
     let wanted = replied(alloc, other, &opened.table, opened.everything.as_str())?;
-    Ok(found == wanted)
+    Ok(replied(alloc, other, &copy, opened.everything.as_str())? == wanted)
 }
 
-/// Opens the table of a site as its row says, where it opens.
-pub(crate) fn open<'a>(
-    given: Given<'a>,
+/// Opens a site as its row says, and copies it.
+pub(crate) fn try_site(
+    given: Given<'_>,
     described: Described<'_>,
     wanted: &str,
-) -> Result<(Option<Opened<Memory<'a>>>, Counts), Stop> {
+) -> Result<Counts, Stop> {
     let opening = try_row(given, &Opening(described), &[], wanted)?;
     let copies = try_row(given, &CopiedSite(described), &[], "equal")?;
-    let counts = with_refused(opening, copies.refused);
-    if wanted != "opened" {
-        return Ok((None, counts));
-    }
-    let opened = open_table(given.alloc, given.memory, given.other, described)?;
-    let copies = try_row(given, &CopiedTable(&opened), &[], "equal")?;
-    Ok((Some(opened), with_refused(counts, copies.refused)))
+    Ok(with_refused(opening, copies.refused))
+}
+
+/// Copies a table, and adds to the counts what was refused.
+pub(crate) fn try_copies<A: Allocator + Copy>(
+    given: Given<'_>,
+    other: A,
+    opened: &Opened<A>,
+    counts: Counts,
+) -> Result<Counts, Stop> {
+    let copies = try_row(given, &CopiedTable { opened, other }, &[], "equal")?;
+    Ok(with_refused(counts, copies.refused))
 }
 
 /// The counts of a row, and allocations that were refused besides.
@@ -104,11 +115,11 @@ pub(crate) fn with_refused(counts: Counts, refused: u64) -> Counts {
     }
 }
 
-/// The table of a site, and the request that reads all of it.
-fn open_table<A: Allocator + Copy>(
+/// The table of a site, which lies in the first memory, and the request that reads all of it. The site lies in the
+/// second.
+pub(crate) fn open_table<A: Allocator + Copy>(
     alloc: Global,
-    memory: A,
-    other: A,
+    (memory, other): (A, A),
     described: Described<'_>,
 ) -> Result<Opened<A>, Stop> {
     let site = described.site(other)?;
@@ -127,15 +138,25 @@ fn everything<A: Allocator + Copy>(
 ) -> Result<String, Stop> {
     let asked = format!(in alloc; "read 8:{instance} 76")?;
     let list = replied(alloc, other, table, asked.as_str())?;
-    let Some(list) = list.strip_prefix("values ") else {
-        return Err(Stop::Unread(Part::Wanted));
-    };
+    match list.strip_prefix("values ") {
+        Some(list) => many_in(alloc, list),
+        None => Err(Stop::Unread(Part::Wanted)),
+    }
+}
+
+/// The request for all properties of the objects in this list.
+fn many_in(alloc: Global, list: &str) -> Result<String, Stop> {
     let mut words = String::from_str(alloc, "many")?;
     for value in list.split(", ") {
-        let Some(object) = value.strip_prefix("object ") else {
-            return Err(Stop::Unread(Part::Wanted));
-        };
-        write!(words, " {object} 8")?;
+        push_object(value, &mut words)?;
     }
     Ok(words)
+}
+
+/// Appends an object, all properties of which are asked for.
+fn push_object(value: &str, words: &mut String) -> Result<(), Stop> {
+    match value.strip_prefix("object ") {
+        Some(object) => Ok(write!(words, " {object} 8")?),
+        None => Err(Stop::Unread(Part::Wanted)),
+    }
 }

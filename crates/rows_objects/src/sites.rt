@@ -4,7 +4,7 @@
 use objects::{DataLink, SiteObject, SiteObjects, ValueKind};
 use sheets::{Part, Row, Stop, two_words};
 use std::alloc::Allocator;
-use tags::{Items, Value};
+use tags::{Items, Octets, Value};
 use words::{parse_number, parse_octets, parse_value};
 
 /// The words of a device that no row describes yet.
@@ -29,19 +29,30 @@ impl<'r> Described<'r> {
             return Err(Stop::Unread(Part::Asked));
         }
         let mut site = device(memory, NO_DEVICE)?;
-        let mut is_named = false;
-        for row in self.rows {
-            if row.asked.starts_with("site ") {
-                is_named = row.asked.strip_prefix("site ") == Some(name);
-            } else if is_named && row.wanted.is_none() {
-                add(memory, &mut site, row.asked)?;
-            }
-        }
+        add_rows(memory, &mut site, self.rows, name)?;
         if !change.is_empty() {
             add(memory, &mut site, change)?;
         }
         Ok(site)
     }
+}
+
+/// Adds what the rows of this name say to a site.
+fn add_rows<A: Allocator + Copy>(
+    memory: A,
+    site: &mut SiteObjects<A>,
+    rows: &[Row<'_>],
+    name: &str,
+) -> Result<(), Stop> {
+    let mut is_named = false;
+    for row in rows {
+        match row.asked.strip_prefix("site ") {
+            Some(site_name) => is_named = site_name == name,
+            None if is_named && row.wanted.is_none() => add(memory, site, row.asked)?,
+            None => {}
+        }
+    }
+    Ok(())
 }
 
 /// Whether a row begins the site of this name.
@@ -58,13 +69,28 @@ fn is_described(rows: &[Row<'_>], name: &str) -> bool {
 fn add<A: Allocator + Copy>(memory: A, site: &mut SiteObjects<A>, words: &str) -> Result<(), Stop> {
     let (word, rest) = two_words(words);
     match word {
-        "device" => *site = device(memory, rest)?,
-        "object" | "with" => site.objects.push(object(memory, rest)?)?,
-        "crowd" => add_crowd(memory, site, parse_number(rest)?)?,
-        "as" => rename(memory, site, rest)?,
-        "on" => site.data_link = data_link(rest)?,
-        _ => return Err(Stop::Unread(Part::Asked)),
+        "device" => {
+            *site = device(memory, rest)?;
+            Ok(())
+        }
+        "object" | "with" => add_object(memory, site, rest),
+        "crowd" => add_crowd(memory, site, parse_number(rest)?),
+        "as" => rename(memory, site, rest),
+        "on" => {
+            site.data_link = data_link(rest)?;
+            Ok(())
+        }
+        _ => Err(Stop::Unread(Part::Asked)),
     }
+}
+
+/// Adds a value object to a site.
+fn add_object<A: Allocator + Copy>(
+    memory: A,
+    site: &mut SiteObjects<A>,
+    words: &str,
+) -> Result<(), Stop> {
+    site.objects.push(object(memory, words)?)?;
     Ok(())
 }
 
@@ -111,16 +137,28 @@ fn object<A: Allocator + Copy>(memory: A, words: &str) -> Result<SiteObject<A>, 
     let (type_word, rest) = two_words(words);
     let (instance, rest) = two_words(rest);
     let (name, rest) = two_words(rest);
-    let (description, default) = two_words(rest);
     let kind = kind(type_word)?;
     let instance = parse_number(instance)?;
+    let (default, description) = default_and_description(memory, rest)?;
     Ok(SiteObject {
         kind,
         instance,
         name: parse_octets(memory, name)?,
-        default: parse_value(memory, default)?,
-        description: parse_octets(memory, description)?,
+        default,
+        description,
     })
+}
+
+/// The default and the description of a value object, which stands before it.
+fn default_and_description<A: Allocator + Copy>(
+    memory: A,
+    words: &str,
+) -> Result<(Value<A>, Octets<A>), Stop> {
+    let (description, default) = two_words(words);
+    Ok((
+        parse_value(memory, default)?,
+        parse_octets(memory, description)?,
+    ))
 }
 
 /// A type of value object: `binary-value`, `multi-state-value/3`, `character-string-value` or

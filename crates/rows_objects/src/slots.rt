@@ -39,16 +39,19 @@ fn run_row<'t>(alloc: Global, slots: &mut Commanded<'t>, row: &Row<'t>) -> Resul
 fn answer<'t>(alloc: Global, slots: &mut Commanded<'t>, asked: &'t str) -> Result<String, Stop> {
     let (verb, rest) = two_words(asked);
     match verb {
-        "put" => {
-            let (word, value) = two_words(rest);
-            shown(alloc, slots.put(level(word)?, Some(value)))
-        }
+        "put" => put(alloc, slots, rest),
         "relinquish" => shown(alloc, slots.put(level(rest)?, None)),
         "at" => shown(alloc, slots.at(level(rest)?).copied()),
         "current" => shown(alloc, slots.current().copied()),
         "levels" => Ok(levels(alloc, slots)?),
         _ => Err(Stop::Unread(Part::Asked)),
     }
+}
+
+/// What a level held before it is commanded.
+fn put<'t>(alloc: Global, slots: &mut Commanded<'t>, words: &'t str) -> Result<String, Stop> {
+    let (word, value) = two_words(words);
+    shown(alloc, slots.put(level(word)?, Some(value)))
 }
 
 /// A level, 1 to 16.

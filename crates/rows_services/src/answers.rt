@@ -2,6 +2,7 @@
 //! of a ComplexACK; `| simple`; `| error 2 40 at 5:1 77`; `| apdu 20020F`, a whole APDU. A reply is written
 //! again. With `bare` in front the answer is read while each allocation is refused.
 
+use crate::said::{bare, reply_in_words};
 use objects::{ErrorClass, ErrorCode, Reply, Request};
 use services::{
     Answer, Apdu, ObjectPropertyReference, ServiceError, answer_of, decode_reply, encode_reply,
@@ -12,7 +13,7 @@ use sheets::{
     run_text, run_trial, try_row, two_words, written_octets,
 };
 use std::alloc::Allocator;
-use words::{Words, parse_number, parse_object, parse_reference};
+use words::{parse_number, parse_object, parse_reference};
 
 /// What the octets of an answer are.
 #[derive(Clone, Copy)]
@@ -43,8 +44,7 @@ impl<'w, 'a> Trial<'a> for Answers<'w> {
     }
 }
 
-/// The reply that an answer to a request is, both in words. The request lies in other memory, which is
-/// refused meanwhile.
+/// The reply that an answer to a request is, both in words. The request lies in other memory.
 fn told<A: Allocator + Copy>(
     given: Given<'_>,
     other: A,
@@ -53,11 +53,21 @@ fn told<A: Allocator + Copy>(
     answer: &Answer<'_>,
 ) -> Result<String, Stop> {
     let request = request_in(other, request)?;
+    told_to(given, memory, &request, answer)
+}
+
+/// The reply that an answer to a request is, in words. The memory that the request lies in is refused meanwhile.
+fn told_to<A: Allocator + Copy>(
+    given: Given<'_>,
+    memory: A,
+    request: &Request<A>,
+    answer: &Answer<'_>,
+) -> Result<String, Stop> {
     given.other.refuse_all();
-    let found = decode_reply(memory, &request, answer);
+    let found = decode_reply(memory, request, answer);
     given.other.refuse_only(0);
     match found? {
-        Some(reply) => replied(given, memory, &request, &reply, answer),
+        Some(reply) => replied(given, memory, request, &reply, answer),
         None => Ok(String::from_str(given.alloc, "none")?),
     }
 }
@@ -84,11 +94,11 @@ fn answer_in(octets: &[u8]) -> Option<Answer<'_>> {
     }
 }
 
-/// Whether a reply goes in this answer.
-fn goes_in<A: Allocator>(reply: &Reply<A>, answer: &Answer<'_>) -> bool {
+/// The service data of an answer, which is nothing where it has none.
+fn data_of<'o>(answer: &Answer<'o>) -> &'o [u8] {
     match answer {
-        Answer::Complex(data) => answer_of(reply, data) == *answer,
-        Answer::Simple | Answer::Error(_) => answer_of(reply, &[]) == *answer,
+        Answer::Complex(data) => data,
+        Answer::Simple | Answer::Error(_) => &[],
     }
 }
 
@@ -100,29 +110,35 @@ fn replied<A: Allocator + Copy>(
     reply: &Reply<A>,
     answer: &Answer<'_>,
 ) -> Result<String, Stop> {
+    let data = data_of(answer);
+    if answer_of(reply, data) != *answer {
+        return Err(differs(given.alloc, "a reply that goes in another answer"));
+    }
+    let mut text = reply_in_words(given.alloc, reply)?;
+    push_again(given, memory, (request, reply), data, &mut text)?;
+    Ok(text)
+}
+
+/// Appends what is written of a reply to a request, where that is not what was read.
+fn push_again<A: Allocator + Copy>(
+    given: Given<'_>,
+    memory: A,
+    (request, reply): (&Request<A>, &Reply<A>),
+    data: &[u8],
+    text: &mut String,
+) -> Result<(), Stop> {
     if !request.is_sound() || !reply.is_sound() || !is_answer_to(request, reply) {
         return Err(differs(given.alloc, "a reply without a spelling"));
     }
-    if !goes_in(reply, answer) {
-        return Err(differs(given.alloc, "a reply that goes in another answer"));
-    }
     let mut out = buffer_in(memory)?;
     let came = encode_reply(request, reply, &mut out);
-    let again = written_octets(given, came, out.as_slice())?;
-    let mut text = format!(in given.alloc; "{}", Words(reply))?;
-    match answer {
-        Answer::Complex(data) => push_written(data, again, &mut text)?,
-        Answer::Simple | Answer::Error(_) => push_written(&[], again, &mut text)?,
-    }
-    Ok(text)
+    push_written(data, written_octets(given, came, out.as_slice())?, text)?;
+    Ok(())
 }
 
 /// Runs a row.
 pub(crate) fn run(given: Given<'_>, asked: &str, wanted: &str) -> Result<Counts, Stop> {
-    let (asked, is_bare) = match asked.strip_prefix("bare ") {
-        Some(rest) => (rest, true),
-        None => (asked, false),
-    };
+    let (asked, is_bare) = bare(asked);
     let Some((request, answer)) = asked.split_once(" | ") else {
         return Err(Stop::Unread(Part::Asked));
     };
@@ -130,12 +146,21 @@ pub(crate) fn run(given: Given<'_>, asked: &str, wanted: &str) -> Result<Counts,
     if is_bare {
         return run_bare(given, request, form, wanted);
     }
-    let answers = Answers { request, form };
+    run_answers(given, &Answers { request, form }, word, wanted)
+}
+
+/// Runs an answer on its octets, which are changed where there are any.
+fn run_answers(
+    given: Given<'_>,
+    answers: &Answers<'_>,
+    word: &str,
+    wanted: &str,
+) -> Result<Counts, Stop> {
     let octets = octets(given.alloc, word)?;
     if octets.is_empty() {
-        return try_row(given, &answers, &[], wanted);
+        return try_row(given, answers, &[], wanted);
     }
-    run_trial(given, &answers, octets.as_slice(), wanted)
+    run_trial(given, answers, octets.as_slice(), wanted)
 }
 
 /// The form of an answer, and its octets in words.
@@ -174,7 +199,7 @@ fn failed_at(place: &str) -> Result<ObjectPropertyReference, Stop> {
     })
 }
 
-/// The reply that an answer without service data is, in words, read while each allocation is refused.
+/// The reply that an answer without service data is, in words.
 fn told_bare<A: Allocator + Copy>(
     given: Given<'_>,
     other: A,
@@ -183,11 +208,21 @@ fn told_bare<A: Allocator + Copy>(
     answer: &Answer<'_>,
 ) -> Result<String, Stop> {
     let request = request_in(other, request)?;
+    told_bare_to(given, memory, &request, answer)
+}
+
+/// The reply that an answer to a request is, in words, read while each allocation is refused.
+fn told_bare_to<A: Allocator + Copy>(
+    given: Given<'_>,
+    memory: A,
+    request: &Request<A>,
+    answer: &Answer<'_>,
+) -> Result<String, Stop> {
     given.memory.refuse_all();
-    let found = decode_reply(memory, &request, answer);
+    let found = decode_reply(memory, request, answer);
     given.memory.refuse_only(0);
     match found? {
-        Some(reply) => Ok(format!(in given.alloc; "{}", Words(&reply))?),
+        Some(reply) => reply_in_words(given.alloc, &reply),
         None => Ok(String::from_str(given.alloc, "none")?),
     }
 }

@@ -1,14 +1,15 @@
 //! Bodies of the confirmed services (15): `12 0C014000011955 -> read 5:1 85`, which is written again, and
 //! `12 0C01400001 -> reject 5`. With `bare` in front the body is read while each allocation is refused.
 
+use crate::said::{bare, request_in_words};
 use objects::Request;
-use services::{decode_request, encode_request, service_of};
+use services::{RejectReason, decode_request, encode_request, service_of};
 use sheets::{
     Counts, Given, Stop, Trial, buffer_in, differs, octets, push_written, run_octets, run_text,
     two_words, written_octets,
 };
-use std::alloc::Allocator;
-use words::{Words, parse_number};
+use std::alloc::{Allocator, Global};
+use words::parse_number;
 
 /// Octets that a request of a service is read from, and that are written of it.
 #[derive(Clone, Copy)]
@@ -31,13 +32,26 @@ fn told<A: Allocator + Copy>(
     octets: &[u8],
 ) -> Result<String, Stop> {
     match decode_request(memory, service, octets)? {
-        Ok(request) => {
-            let mut text = format!(in given.alloc; "{}", Words(&request))?;
-            push_again(given, memory, (service, octets), &request, &mut text)?;
-            Ok(text)
-        }
-        Err(reason) => Ok(format!(in given.alloc; "reject {}", u8::from(reason))?),
+        Ok(request) => asked(given, memory, (service, octets), &request),
+        Err(reason) => rejected(given.alloc, reason),
     }
+}
+
+/// A request of a service in words, with what is written of it where that is not what was read.
+fn asked<A: Allocator + Copy>(
+    given: Given<'_>,
+    memory: A,
+    read: (u8, &[u8]),
+    request: &Request<A>,
+) -> Result<String, Stop> {
+    let mut text = request_in_words(given.alloc, request)?;
+    push_again(given, memory, read, request, &mut text)?;
+    Ok(text)
+}
+
+/// The number of a Reject, in words.
+fn rejected(alloc: Global, reason: RejectReason) -> Result<String, Stop> {
+    Ok(format!(in alloc; "reject {}", u8::from(reason))?)
 }
 
 /// Appends what is written of a request of a service, where that is not what was read.
@@ -59,10 +73,7 @@ fn push_again<A: Allocator + Copy>(
 
 /// Runs a row.
 pub(crate) fn run(given: Given<'_>, asked: &str, wanted: &str) -> Result<Counts, Stop> {
-    let (asked, is_bare) = match asked.strip_prefix("bare ") {
-        Some(rest) => (rest, true),
-        None => (asked, false),
-    };
+    let (asked, is_bare) = bare(asked);
     let (service, word) = two_words(asked);
     let service = parse_number(service)?;
     if is_bare {
@@ -83,7 +94,7 @@ fn told_bare<A: Allocator + Copy>(
     let found = decode_request(memory, service, octets.as_slice());
     given.memory.refuse_only(0);
     match found? {
-        Ok(request) => Ok(format!(in given.alloc; "{}", Words(&request))?),
-        Err(reason) => Ok(format!(in given.alloc; "reject {}", u8::from(reason))?),
+        Ok(request) => request_in_words(given.alloc, &request),
+        Err(reason) => rejected(given.alloc, reason),
     }
 }

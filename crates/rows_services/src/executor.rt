@@ -3,52 +3,124 @@
 //! it; `copy REQUEST | READ -> REPLY` is the same on a copy, and leaves the executor as it is. With `bare` in
 //! front a reply is given, or a request runs, while each allocation is refused.
 
-use objects::{DataLink, SiteObject, SiteObjects, Table, ValueKind};
+use crate::said::{reply_in_words, run_word};
+use objects::{DataLink, Request, SiteObject, SiteObjects, Table, ValueKind};
 use services::{Executor, ObjectExecutor};
 use sheets::{
-    Counts, Given, Memory, Part, Report, Row, Stop, Trial, compare, differs, request_in, run_text,
-    try_row, two_words,
+    Counts, Given, Part, Report, Row, Stop, Trial, compare, differs, request_in, run_text, try_row,
+    two_words,
 };
 use std::alloc::{AllocError, Allocator};
 use tags::Items;
-use words::{Words, parse_number, parse_octets, parse_value};
+use words::{parse_number, parse_octets, parse_value};
 
-/// What executes the requests of rows.
-type Opened<'a> = ObjectExecutor<Memory<'a>>;
+/// An executor that a row opens.
+pub(crate) trait Opens<A: Allocator>: Sized {
+    /// Opens a device of one Binary Value, as words say.
+    ///
+    /// # Errors
+    /// `Unread` where they say none, and `Memory`.
+    fn open(memory: A, words: &str) -> Result<Self, Stop>;
+}
 
-/// Runs the rows of a file on the executor that a row opened last.
-pub(crate) fn run(
+impl<A: Allocator + Copy> Opens<A> for ObjectExecutor<A> {
+    fn open(memory: A, words: &str) -> Result<Self, Stop> {
+        let Some((device, object)) = words.split_once(" | binary-value ") else {
+            return Err(Stop::Unread(Part::Asked));
+        };
+        let (instance, device) = two_words(device);
+        let (vendor, name) = two_words(device);
+        let instance = parse_number(instance)?;
+        let vendor = parse_number(vendor)?;
+        let name = parse_octets(memory, name)?;
+        let mut objects = Items::new(memory);
+        objects.push(binary_value(memory, object)?)?;
+        let site = SiteObjects {
+            name,
+            instance,
+            vendor,
+            data_link: DataLink::BacnetIp,
+            objects,
+        };
+        Ok(ObjectExecutor {
+            table: Table::new(memory, site)?,
+        })
+    }
+}
+
+/// Runs the rows of a file on the executor that a row opened last. It lies in `memory`, and the requests in `other`,
+/// those of `given`.
+pub(crate) fn run<A: Allocator + Copy>(
     given: Given<'_>,
+    memory: A,
+    other: A,
     rows: &[Row<'_>],
     report: &mut Report<'_>,
 ) -> Result<(), AllocError> {
-    let mut opened = None;
+    run_rows::<A, ObjectExecutor<A>>(given, memory, other, rows, report)
+}
+
+/// Runs the rows of a file on the executor of this type that a row opened last.
+fn run_rows<A: Allocator + Copy, E: Executor<A> + Opens<A> + Drop>(
+    given: Given<'_>,
+    memory: A,
+    other: A,
+    rows: &[Row<'_>],
+    report: &mut Report<'_>,
+) -> Result<(), AllocError> {
+    let mut opened: Option<E> = None;
     for row in rows {
-        report.add(row, run_row(given, &mut opened, row))?;
+        report.add(row, run_row(given, memory, other, &mut opened, row))?;
     }
     Ok(())
 }
 
 /// Runs a row.
-fn run_row<'a>(
-    given: Given<'a>,
-    opened: &mut Option<Opened<'a>>,
+fn run_row<A: Allocator + Copy, E: Executor<A> + Opens<A> + Drop>(
+    given: Given<'_>,
+    memory: A,
+    other: A,
+    opened: &mut Option<E>,
     row: &Row<'_>,
 ) -> Result<Counts, Stop> {
     let wanted = row.wanted()?;
     let (verb, rest) = two_words(row.asked);
     if verb == "device" {
-        *opened = Some(open(given.memory, rest)?);
-        return run_text(String::from_str(given.alloc, "opened")?, wanted);
+        *opened = Some(E::open(memory, rest)?);
+        return run_word(given.alloc, "opened", wanted);
     }
     match opened {
-        Some(executor) => run_asked(given, executor, verb, rest, wanted),
+        Some(executor) => run_asked(given, other, executor, (verb, rest), wanted),
         None => Err(Stop::Unread(Part::Asked)),
     }
 }
 
-/// What any executor replies to a request, both in words. The memory that the request lies in is refused
-/// meanwhile.
+/// Runs a row that asks an executor for something.
+fn run_asked<A: Allocator + Copy, E: Executor<A> + Drop>(
+    given: Given<'_>,
+    other: A,
+    executor: &mut E,
+    (verb, rest): (&str, &str),
+    wanted: &str,
+) -> Result<Counts, Stop> {
+    match verb {
+        "reply" => run_reply(given, other, &*executor, rest, wanted),
+        "bare" => run_bare(given, other, executor, rest, wanted),
+        "copy" => run_copied(given, other, &*executor, pair(rest)?, wanted),
+        "run" => run_whole(given, other, executor, pair(rest)?, wanted),
+        _ => Err(Stop::Unread(Part::Asked)),
+    }
+}
+
+/// The request that runs, and the one that is read behind it.
+fn pair(rest: &str) -> Result<(&str, &str), Stop> {
+    match rest.split_once(" | ") {
+        Some(pair) => Ok(pair),
+        None => Err(Stop::Unread(Part::Asked)),
+    }
+}
+
+/// What any executor replies to a request, both in words.
 fn replied<A: Allocator + Copy, E: Executor<A>>(
     given: Given<'_>,
     other: A,
@@ -56,10 +128,19 @@ fn replied<A: Allocator + Copy, E: Executor<A>>(
     request: &str,
 ) -> Result<String, Stop> {
     let request = request_in(other, request)?;
+    replied_to(given, executor, &request)
+}
+
+/// What any executor replies to a request, in words. The memory that the request lies in is refused meanwhile.
+fn replied_to<A: Allocator + Copy, E: Executor<A>>(
+    given: Given<'_>,
+    executor: &E,
+    request: &Request<A>,
+) -> Result<String, Stop> {
     given.other.refuse_all();
-    let reply = executor.reply(&request);
+    let reply = executor.reply(request);
     given.other.refuse_only(0);
-    Ok(format!(in given.alloc; "{}", Words(&reply?))?)
+    reply_in_words(given.alloc, &reply?)
 }
 
 /// Whether any executor had the memory to run a request, while that in which the request lies is refused.
@@ -76,30 +157,60 @@ fn ran<A: Allocator + Copy, E: Executor<A>>(
     Ok(is_done)
 }
 
-/// A request to which an executor replies.
-#[derive(Clone, Copy)]
-struct Asked<'t, 'w, 'a> {
-    executor: &'t Opened<'a>,
+/// Whether any executor had the memory to run a request, and what is read behind it, in words.
+fn ran_and_read<A: Allocator + Copy, E: Executor<A>>(
+    given: Given<'_>,
+    other: A,
+    executor: &mut E,
+    (request, read): (&str, &str),
+) -> Result<(bool, String), Stop> {
+    let is_done = ran(given, other, executor, request)?;
+    let found = replied(given, other, &*executor, read)?;
+    Ok((is_done, found))
+}
+
+/// A request to which an executor replies. The request lies in `other`.
+#[derive(Drop)]
+struct Asked<'t, 'w, A: Allocator + Copy, E: Executor<A> + Drop> {
+    other: A,
+    executor: &'t E,
     request: &'w str,
 }
 
-impl<'t, 'w, 'a> Trial<'a> for Asked<'t, 'w, 'a> {
+impl<'t, 'w, 'a, A: Allocator + Copy, E: Executor<A> + Drop> Trial<'a> for Asked<'t, 'w, A, E> {
     fn answer(&self, given: Given<'a>, _octets: &[u8]) -> Result<String, Stop> {
-        replied(given, given.other, self.executor, self.request)
+        replied(given, self.other, self.executor, self.request)
     }
 }
 
-/// A request that runs on a copy of an executor, and one that is read behind it.
-#[derive(Clone, Copy)]
-struct Runs<'t, 'w, 'a> {
-    executor: &'t Opened<'a>,
+/// Runs a row of a reply, with each allocation refused in turn.
+fn run_reply<A: Allocator + Copy, E: Executor<A> + Drop>(
+    given: Given<'_>,
+    other: A,
+    executor: &E,
+    request: &str,
+    wanted: &str,
+) -> Result<Counts, Stop> {
+    let asked = Asked {
+        other,
+        executor,
+        request,
+    };
+    try_row(given, &asked, &[], wanted)
+}
+
+/// A request that runs on a copy of an executor, and one that is read behind it. They lie in `other`.
+#[derive(Drop)]
+struct Runs<'t, 'w, A: Allocator + Copy, E: Executor<A> + Drop> {
+    other: A,
+    executor: &'t E,
     request: &'w str,
     read: &'w str,
 }
 
-impl<'t, 'w, 'a> Trial<'a> for Runs<'t, 'w, 'a> {
+impl<'t, 'w, 'a, A: Allocator + Copy, E: Executor<A> + Drop> Trial<'a> for Runs<'t, 'w, A, E> {
     fn answer(&self, given: Given<'a>, _octets: &[u8]) -> Result<String, Stop> {
-        run_on_copy(given, given.other, self.executor, self.request, self.read)
+        run_on_copy(given, self.other, self.executor, (self.request, self.read))
     }
 }
 
@@ -109,13 +220,10 @@ fn run_on_copy<A: Allocator + Copy, E: Executor<A> + Drop>(
     given: Given<'_>,
     other: A,
     executor: &E,
-    request: &str,
-    read: &str,
+    (request, read): (&str, &str),
 ) -> Result<String, Stop> {
     let before = replied(given, other, executor, read)?;
-    let mut copy = executor.copy()?;
-    let is_done = ran(given, other, &mut copy, request)?;
-    let found = replied(given, other, &copy, read)?;
+    let (is_done, found) = ran_copy(given, other, executor, (request, read))?;
     if replied(given, other, executor, read)? != before {
         return Err(differs(given.alloc, "a change by what runs on a copy"));
     }
@@ -126,54 +234,27 @@ fn run_on_copy<A: Allocator + Copy, E: Executor<A> + Drop>(
     }
 }
 
-/// Runs a row that asks an executor for something.
-fn run_asked<'a>(
-    given: Given<'a>,
-    executor: &mut Opened<'a>,
-    verb: &str,
-    rest: &str,
-    wanted: &str,
-) -> Result<Counts, Stop> {
-    match verb {
-        "reply" => {
-            let request = rest;
-            let asked = Asked {
-                executor: &*executor,
-                request,
-            };
-            try_row(given, &asked, &[], wanted)
-        }
-        "bare" => run_text(run_bare(given, executor, rest)?, wanted),
-        "copy" => copied(given, executor, pair(rest)?, wanted),
-        "run" => {
-            let (request, read) = pair(rest)?;
-            let counts = copied(given, executor, (request, read), wanted)?;
-            if !ran(given, given.other, executor, request)? {
-                return Err(Stop::Memory);
-            }
-            compare(replied(given, given.other, &*executor, read)?, wanted)?;
-            Ok(counts)
-        }
-        _ => Err(Stop::Unread(Part::Asked)),
-    }
-}
-
-/// The request that runs, and the one that is read behind it.
-fn pair(rest: &str) -> Result<(&str, &str), Stop> {
-    match rest.split_once(" | ") {
-        Some(pair) => Ok(pair),
-        None => Err(Stop::Unread(Part::Asked)),
-    }
+/// Whether a copy of an executor had the memory to run a request, and what is read of it then, in words.
+fn ran_copy<A: Allocator + Copy, E: Executor<A> + Drop>(
+    given: Given<'_>,
+    other: A,
+    executor: &E,
+    requests: (&str, &str),
+) -> Result<(bool, String), Stop> {
+    let mut copy = executor.copy()?;
+    ran_and_read(given, other, &mut copy, requests)
 }
 
 /// Runs a request on copies of an executor, with each allocation refused in turn.
-fn copied<'a>(
-    given: Given<'a>,
-    executor: &Opened<'a>,
+fn run_copied<A: Allocator + Copy, E: Executor<A> + Drop>(
+    given: Given<'_>,
+    other: A,
+    executor: &E,
     (request, read): (&str, &str),
     wanted: &str,
 ) -> Result<Counts, Stop> {
     let runs = Runs {
+        other,
         executor,
         request,
         read,
@@ -181,45 +262,67 @@ fn copied<'a>(
     try_row(given, &runs, &[], wanted)
 }
 
-/// What comes of `reply REQUEST` or `run REQUEST` while each allocation is refused, in words.
-fn run_bare<'a>(given: Given<'a>, executor: &mut Opened<'a>, rest: &str) -> Result<String, Stop> {
-    let (verb, request) = two_words(rest);
-    if verb != "run" {
-        given.memory.refuse_all();
-        let text = replied(given, given.other, &*executor, request);
-        given.memory.refuse_only(0);
-        return text;
+/// Runs a request on copies of an executor, and then on the executor.
+fn run_whole<A: Allocator + Copy, E: Executor<A> + Drop>(
+    given: Given<'_>,
+    other: A,
+    executor: &mut E,
+    requests: (&str, &str),
+    wanted: &str,
+) -> Result<Counts, Stop> {
+    let counts = run_copied(given, other, &*executor, requests, wanted)?;
+    let (is_done, found) = ran_and_read(given, other, executor, requests)?;
+    if !is_done {
+        return Err(Stop::Memory);
     }
-    given.memory.refuse_all();
-    let is_done = ran(given, given.other, executor, request);
-    given.memory.refuse_only(0);
-    match is_done? {
-        true => Ok(String::from_str(given.alloc, "done")?),
-        false => Err(Stop::Memory),
+    compare(found, wanted)?;
+    Ok(counts)
+}
+
+/// Runs a row of `reply REQUEST` or `run REQUEST` while each allocation is refused.
+fn run_bare<A: Allocator + Copy, E: Executor<A>>(
+    given: Given<'_>,
+    other: A,
+    executor: &mut E,
+    rest: &str,
+    wanted: &str,
+) -> Result<Counts, Stop> {
+    let (verb, request) = two_words(rest);
+    match verb {
+        "run" => run_bare_run(given, other, executor, request, wanted),
+        _ => run_bare_reply(given, other, &*executor, request, wanted),
     }
 }
 
-/// Opens a device of one Binary Value.
-fn open<A: Allocator + Copy>(memory: A, rest: &str) -> Result<ObjectExecutor<A>, Stop> {
-    let Some((device, object)) = rest.split_once(" | binary-value ") else {
-        return Err(Stop::Unread(Part::Asked));
-    };
-    let (instance, device) = two_words(device);
-    let (vendor, name) = two_words(device);
-    let instance = parse_number(instance)?;
-    let vendor = parse_number(vendor)?;
-    let mut objects = Items::new(memory);
-    objects.push(binary_value(memory, object)?)?;
-    let site = SiteObjects {
-        name: parse_octets(memory, name)?,
-        instance,
-        vendor,
-        data_link: DataLink::BacnetIp,
-        objects,
-    };
-    Ok(ObjectExecutor {
-        table: Table::new(memory, site)?,
-    })
+/// Runs a row of what an executor replies while each allocation is refused.
+fn run_bare_reply<A: Allocator + Copy, E: Executor<A>>(
+    given: Given<'_>,
+    other: A,
+    executor: &E,
+    request: &str,
+    wanted: &str,
+) -> Result<Counts, Stop> {
+    given.memory.refuse_all();
+    let text = replied(given, other, executor, request);
+    given.memory.refuse_only(0);
+    run_text(text?, wanted)
+}
+
+/// Runs a row of a request that an executor runs while each allocation is refused.
+fn run_bare_run<A: Allocator + Copy, E: Executor<A>>(
+    given: Given<'_>,
+    other: A,
+    executor: &mut E,
+    request: &str,
+    wanted: &str,
+) -> Result<Counts, Stop> {
+    given.memory.refuse_all();
+    let is_done = ran(given, other, executor, request);
+    given.memory.refuse_only(0);
+    match is_done? {
+        true => run_word(given.alloc, "done", wanted),
+        false => Err(Stop::Memory),
+    }
 }
 
 /// A Binary Value: its instance, name, description and default.
@@ -232,7 +335,7 @@ fn binary_value<A: Allocator + Copy>(memory: A, words: &str) -> Result<SiteObjec
         kind: ValueKind::Binary,
         instance,
         name: parse_octets(memory, name)?,
-        default: parse_value(memory, default)?,
         description: parse_octets(memory, description)?,
+        default: parse_value(memory, default)?,
     })
 }

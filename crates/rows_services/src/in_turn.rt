@@ -3,7 +3,7 @@
 use crate::said::octets_of;
 use console::{Builtin, respond};
 use npdu::Mac;
-use sheets::{Counts, Given, Memory, Report, Row, Stop, compare, differs};
+use sheets::{Counts, Given, Report, Row, Stop, compare, differs};
 use std::alloc::{AllocError, Allocator, Global};
 use tags::{Fault, Items, Octets};
 
@@ -17,52 +17,65 @@ const ALL: &str =
 /// How many runs have an allocation refused at most.
 const MANY: u64 = 1000;
 
-/// Runs the rows of a file on one device.
+/// Runs the rows of a file on one device, which lies in `memory`, that of `given`.
 ///
 /// # Errors
 /// Want of memory.
-pub(crate) fn run(
+pub(crate) fn run<A: Allocator + Copy>(
     given: Given<'_>,
+    memory: A,
     rows: &[Row<'_>],
     report: &mut Report<'_>,
 ) -> Result<(), AllocError> {
-    let Ok(mut device) = Builtin::new(given.memory) else {
-        return Err(AllocError);
-    };
+    match Builtin::new(memory) {
+        Ok(mut device) => run_rows(given, &mut device, rows, report),
+        Err(_) => Err(AllocError),
+    }
+}
+
+/// Runs the rows of a file on a device.
+fn run_rows<A: Allocator + Copy>(
+    given: Given<'_>,
+    device: &mut Builtin<A>,
+    rows: &[Row<'_>],
+    report: &mut Report<'_>,
+) -> Result<(), AllocError> {
     for row in rows {
-        report.add(row, run_row(given, &mut device, row))?;
+        report.add(row, run_row(given, device, row))?;
     }
     Ok(())
 }
 
-/// Says a datagram to the device with each allocation refused in turn, until a run meets no refusal: what its objects
-/// hold reads as before wherever memory was refused, and then the row's answer comes.
-fn run_row<'a>(
-    given: Given<'a>,
-    device: &mut Builtin<Memory<'a>>,
+/// Runs a row on a device.
+fn run_row<A: Allocator + Copy>(
+    given: Given<'_>,
+    device: &mut Builtin<A>,
     row: &Row<'_>,
 ) -> Result<Counts, Stop> {
     let wanted = row.wanted()?;
     let datagram = octets_of(given.alloc, row.asked)?;
-    let all = octets_of(given.alloc, ALL)?;
-    let before = held(given.alloc, device, all.as_slice())?;
+    let before = held(given.alloc, device)?;
+    refuse_in_turn(given, device, datagram.as_slice(), before.as_str(), wanted)
+}
+
+/// Says a datagram to the device with each allocation refused in turn, until a run meets no refusal: what its objects
+/// hold reads as before wherever memory was refused, and then the row's answer comes.
+fn refuse_in_turn<A: Allocator + Copy>(
+    given: Given<'_>,
+    device: &mut Builtin<A>,
+    datagram: &[u8],
+    before: &str,
+    wanted: &str,
+) -> Result<Counts, Stop> {
     for refused in 0..MANY {
-        given.memory.refuse_only(refused.saturating_add(1));
-        let answer = said(given.alloc, device, datagram.as_slice());
-        let is_waiting = given.memory.is_waiting();
-        given.memory.refuse_only(0);
-        match answer {
-            Err(Stop::Memory) if !is_waiting => {
-                let now = held(given.alloc, device, all.as_slice())?;
-                compare(now, before.as_str())?;
-            }
-            Ok(found) if is_waiting => {
-                compare(found, wanted)?;
-                return Ok(counts(refused));
-            }
-            Err(Stop::Differs(found)) => return Err(Stop::Differs(found)),
-            _ => return Err(differs(given.alloc, "want of memory for another cause")),
+        if is_answered(given, device, datagram, refused, wanted)? {
+            return Ok(Counts {
+                rows: 1,
+                refused,
+                changed: 0,
+            });
         }
+        compare(held(given.alloc, device)?, before)?;
     }
     Err(differs(
         given.alloc,
@@ -70,17 +83,47 @@ fn run_row<'a>(
     ))
 }
 
-/// One row, with this number of refusals.
-fn counts(refused: u64) -> Counts {
-    Counts {
-        rows: 1,
-        refused,
-        changed: 0,
+/// Whether the device answers a datagram, and as is wanted, where memory is refused behind so many allocations.
+fn is_answered<A: Allocator + Copy>(
+    given: Given<'_>,
+    device: &mut Builtin<A>,
+    datagram: &[u8],
+    allocations: u64,
+    wanted: &str,
+) -> Result<bool, Stop> {
+    given.memory.refuse_only(allocations.saturating_add(1));
+    let answer = said(given.alloc, device, datagram);
+    let is_waiting = given.memory.is_waiting();
+    given.memory.refuse_only(0);
+    is_wanted(given.alloc, answer, is_waiting, wanted)
+}
+
+/// Whether an answer came, and as is wanted, where the refusal still waits, and want of memory where it doesn't.
+fn is_wanted(
+    alloc: Global,
+    answer: Result<String, Stop>,
+    is_waiting: bool,
+    wanted: &str,
+) -> Result<bool, Stop> {
+    match answer {
+        Err(Stop::Memory) if !is_waiting => Ok(false),
+        Ok(found) if is_waiting => {
+            compare(found, wanted)?;
+            Ok(true)
+        }
+        Err(Stop::Differs(found)) => Err(Stop::Differs(found)),
+        _ => Err(differs(alloc, "want of memory for another cause")),
     }
 }
 
+/// What the objects of a device hold, as an equal device says it, in words.
+fn held<A: Allocator + Copy>(alloc: Global, device: &Builtin<A>) -> Result<String, Stop> {
+    let all = octets_of(alloc, ALL)?;
+    said_by_copy(alloc, device, all.as_slice())
+}
+
 /// What an equal device says to a datagram, in words.
-fn held<A: Allocator + Copy>(
+fn said_by_copy<A: Allocator + Copy>(
     alloc: Global,
     device: &Builtin<A>,
     datagram: &[u8],

@@ -43,16 +43,26 @@ impl Bench for Services {
         report: &mut Report<'_>,
     ) -> Result<(), AllocError> {
         match name {
-            "services_executor.txt" => executor::run(given, rows, report),
-            "device_in_turn.txt" => in_turn::run(given, rows, report),
-            _ => {
-                for row in rows {
-                    report.add(row, run_row(given, name, row))?;
-                }
-                Ok(())
+            "services_executor.txt" => {
+                executor::run(given, given.memory, given.other, rows, report)
             }
+            "device_in_turn.txt" => in_turn::run(given, given.memory, rows, report),
+            _ => run_rows(given, name, rows, report),
         }
     }
+}
+
+/// Runs the rows of a file of this name, none of which needs another.
+fn run_rows(
+    given: Given<'_>,
+    name: &str,
+    rows: &[Row<'_>],
+    report: &mut Report<'_>,
+) -> Result<(), AllocError> {
+    for row in rows {
+        report.add(row, run_row(given, name, row))?;
+    }
+    Ok(())
 }
 
 /// Runs a row of a file of this name.

@@ -1,7 +1,9 @@
-//! What was printed, in words, and words as a command line has them.
+//! What was printed, requests and replies, all in words, and words as a command line has them.
 
-use sheets::{Stop, differs, number, octets};
-use std::alloc::{AllocError, Global};
+use objects::{Reply, Request};
+use sheets::{Counts, Stop, differs, number, octets, run_text};
+use std::alloc::{AllocError, Allocator, Global};
+use words::Words;
 
 /// How often a line stands that is written with its count.
 const MANY_LINES: u64 = 24;
@@ -91,6 +93,44 @@ impl Run<'_> {
 /// What stands before a line.
 fn mark(is_first: bool) -> &'static str {
     if is_first { " " } else { " / " }
+}
+
+/// A request in words.
+///
+/// # Errors
+/// Want of memory.
+pub(crate) fn request_in_words<A: Allocator>(
+    alloc: Global,
+    request: &Request<A>,
+) -> Result<String, Stop> {
+    Ok(format!(in alloc; "{}", Words(request))?)
+}
+
+/// A reply in words.
+///
+/// # Errors
+/// Want of memory.
+pub(crate) fn reply_in_words<A: Allocator>(
+    alloc: Global,
+    reply: &Reply<A>,
+) -> Result<String, Stop> {
+    Ok(format!(in alloc; "{}", Words(reply))?)
+}
+
+/// Runs a row that told this word.
+///
+/// # Errors
+/// `Differs` where another is wanted, and `Memory`.
+pub(crate) fn run_word(alloc: Global, word: &str, wanted: &str) -> Result<Counts, Stop> {
+    run_text(String::from_str(alloc, word)?, wanted)
+}
+
+/// What stands behind `bare`, and whether that stands in front.
+pub(crate) fn bare(asked: &str) -> (&str, bool) {
+    match asked.strip_prefix("bare ") {
+        Some(rest) => (rest, true),
+        None => (asked, false),
+    }
 }
 
 /// Words that are parted by single spaces; `3E*700` stands for as many.

@@ -5,7 +5,7 @@
 use crate::said::{Said, octets_of, words_of};
 use console::{answer_line, explain_line};
 use sheets::{Counts, Given, Stop, Trial, change_octets, differs, try_row};
-use std::alloc::Global;
+use std::alloc::{AllocError, Allocator, Global};
 
 /// What a tool prints on standard error where it is refused memory.
 const REFUSED: &[u8] = b"bacsite: refused 1 Memory\n";
@@ -76,16 +76,21 @@ fn cut(alloc: Global, octets: &[u8], end: usize) -> Result<Vec<u8>, Stop> {
     Ok(cut)
 }
 
-/// Runs a tool on words.
-fn said(given: Given<'_>, tool: Tool, words: &[String]) -> Result<Said, Stop> {
-    let mut out = Vec::new(given.alloc);
-    let mut err = Vec::new(given.alloc);
+/// Runs a tool on words in this memory.
+fn said<A: Allocator + Copy>(
+    alloc: Global,
+    memory: A,
+    tool: Tool,
+    words: &[String],
+) -> Result<Said, Stop> {
+    let mut out = Vec::new(alloc);
+    let mut err = Vec::new(alloc);
     let status = match tool {
-        Tool::Answer => answer_line(given.memory, words, &mut out, &mut err),
-        Tool::Explain => explain_line(given.memory, words, &mut out, &mut err),
+        Tool::Answer => answer_line(memory, words, &mut out, &mut err),
+        Tool::Explain => explain_line(memory, words, &mut out, &mut err),
     };
     if err.as_slice() == REFUSED {
-        return Err(refused(given.alloc, status, out.as_slice()));
+        return Err(refused(alloc, status, out.as_slice()));
     }
     Ok(Said { status, out, err })
 }
@@ -107,7 +112,7 @@ struct WordsTrial<'b> {
 
 impl<'a> Trial<'a> for WordsTrial<'_> {
     fn answer(&self, given: Given<'a>, _octets: &[u8]) -> Result<String, Stop> {
-        said(given, self.tool, self.words)?.in_words(given.alloc)
+        said(given.alloc, given.memory, self.tool, self.words)?.in_words(given.alloc)
     }
 }
 
@@ -119,18 +124,23 @@ struct DatagramTrial {
 
 impl<'a> Trial<'a> for DatagramTrial {
     fn answer(&self, given: Given<'a>, octets: &[u8]) -> Result<String, Stop> {
-        let mut word = String::new(given.alloc);
-        for octet in octets {
-            write!(word, "{octet:02x}")?;
-        }
         let mut words = Vec::new(given.alloc);
-        words.push(word)?;
-        let said = said(given, self.tool, words.as_slice())?;
+        words.push(digits(given.alloc, octets)?)?;
+        let said = said(given.alloc, given.memory, self.tool, words.as_slice())?;
         if !is_fitting(self.tool, &said, octets.is_empty()) {
             return Err(differs(given.alloc, "a status that does not go with the text"));
         }
         Ok(String::new(given.alloc))
     }
+}
+
+/// The pairs of digits of a datagram, as one word.
+fn digits(alloc: Global, octets: &[u8]) -> Result<String, AllocError> {
+    let mut word = String::new(alloc);
+    for octet in octets {
+        write!(word, "{octet:02x}")?;
+    }
+    Ok(word)
 }
 
 /// Whether status 1 goes with no digits, or with a text that ends with a refusal, and status 0 with all else.

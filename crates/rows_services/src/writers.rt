@@ -34,13 +34,18 @@ pub(crate) fn run(alloc: Global, asked: &str, wanted: &str) -> Result<Counts, St
     let (room, words) = two_words(rest);
     let room = number(room)? as usize;
     let words = words_of(alloc, words)?;
+    let found = filled(alloc, tool, words.as_slice(), room)?;
+    run_text(format!(in alloc; "{found}")?, wanted)
+}
+
+/// The exit status where standard output has this room: with less it is 1.
+fn filled(alloc: Global, tool: &str, words: &[String], room: usize) -> Result<u8, Stop> {
     for less in 0..room {
-        if status(alloc, tool, words.as_slice(), less)? != 1 {
+        if status(alloc, tool, words, less)? != 1 {
             return Err(differs(alloc, "another status than 1 with less room"));
         }
     }
-    let found = status(alloc, tool, words.as_slice(), room)?;
-    run_text(format!(in alloc; "{found}")?, wanted)
+    status(alloc, tool, words, room)
 }
 
 /// The exit status where standard output has this room, and standard error none.

@@ -8,23 +8,26 @@ mod heard;
 mod opened;
 mod told;
 
-pub(crate) use opened::Opened;
+use crate::telling::run_word;
+pub(crate) use opened::Served;
 use opened::open;
-use sheets::{Counts, Given, Part, Stop, run_text, two_words};
+use sheets::{Counts, Given, Part, Stop, two_words};
+use std::alloc::Allocator;
 
 /// Runs a row on the server that a row opened last.
-pub(crate) fn run<'a>(
-    given: Given<'a>,
-    opened: &mut Option<Opened<'a>>,
+pub(crate) fn run<A: Allocator + Copy>(
+    given: Given<'_>,
+    memory: A,
+    opened: &mut Option<Served<A>>,
     asked: &str,
     wanted: &str,
 ) -> Result<Counts, Stop> {
     if let ("open", link) = two_words(asked) {
-        *opened = Some(open(given.memory, link)?);
-        return run_text(String::from_str(given.alloc, "opened")?, wanted);
+        *opened = Some(open(memory, link)?);
+        return run_word(given, "opened", wanted);
     }
     match opened {
-        Some(server) => heard::run(given, server, asked, wanted),
+        Some(server) => heard::run(given, memory, server, asked, wanted),
         None => Err(Stop::Unread(Part::Asked)),
     }
 }

@@ -1,9 +1,10 @@
 //! Who asks, in words: `1:C0A8010ABAC0/7` is the invoke ID 7 of the station with these octets of address on
 //! network 1, and `1:05/0..63` are 64 of another's.
 
+use crate::asked::first_and_last;
 use npdu::{Mac, Station};
 use remembered::Asker;
-use sheets::{Part, Stop, octets, push_octets, small};
+use sheets::{Part, Stop, octets, push_octets};
 use std::alloc::{AllocError, Global};
 use words::parse_number;
 
@@ -16,11 +17,11 @@ pub(crate) struct Askers {
 }
 
 impl Askers {
-    /// The first of them.
-    pub(crate) fn asker(self) -> Asker {
+    /// The asker of this invoke ID.
+    pub(crate) fn with(self, invoke_id: u8) -> Asker {
         Asker {
             station: self.station,
-            invoke_id: self.first,
+            invoke_id,
         }
     }
 }
@@ -34,10 +35,7 @@ pub(crate) fn read_askers(alloc: Global, word: &str) -> Result<Askers, Stop> {
         return Err(Stop::Unread(Part::Asked));
     };
     let station = read_station(alloc, station)?;
-    let (first, last) = match numbers.split_once("..") {
-        Some((first, last)) => (small(first)?, small(last)?),
-        None => (small(numbers)?, small(numbers)?),
-    };
+    let (first, last) = first_and_last(numbers)?;
     Ok(Askers {
         station,
         first,

@@ -4,7 +4,7 @@
 //! says, the last of the body with a dot. Of `?/4` each number is told that counts, with what is done on it,
 //! and the sender is left as it is.
 
-use crate::asked::{body, head_and_words, length, push_comma};
+use crate::asked::{body, head_and_words, length, push_mark};
 use segments::{Sender, Turn};
 use sheets::{Counts, Given, Part, Stop, number, run_text, small, two_words};
 use std::alloc::{AllocError, Global};
@@ -81,6 +81,7 @@ impl Bench {
 
     /// Takes a word, and appends what the sender does.
     fn take(&mut self, body: &[u8], word: &str, out: &mut String) -> Result<(), Stop> {
+        push_mark(", ", out)?;
         if word == "tick" {
             let turn = self.sender.on_tick(self.now);
             return Ok(self.push_turn(body, turn, out)?);
@@ -94,21 +95,6 @@ impl Bench {
             }
         }
     }
-}
-
-/// What a sender does on words, in words.
-fn send(alloc: Global, bench: &mut Bench, body: &[u8], words: &str) -> Result<String, Stop> {
-    let mut out = String::new(alloc);
-    for word in words.split(' ') {
-        match word.strip_prefix("@") {
-            Some(moment) => bench.now = u64::from(number(moment)?),
-            None => {
-                push_comma(&mut out)?;
-                bench.take(body, word, &mut out)?;
-            }
-        }
-    }
-    Ok(out)
 }
 
 /// A sender of a body in pieces of `chunk` octets, at the moment 0.
@@ -126,10 +112,20 @@ fn sender_of(body: &[u8], chunk: usize) -> Result<Bench, Stop> {
 pub(crate) fn run(given: Given<'_>, asked: &str, wanted: &str) -> Result<Counts, Stop> {
     let (head, words) = head_and_words(asked)?;
     let (size, chunk) = two_words(head);
+    let chunk = length(chunk)?;
     let body = body(given.alloc, length(size)?)?;
-    let mut bench = sender_of(body.as_slice(), length(chunk)?)?;
-    run_text(
-        send(given.alloc, &mut bench, body.as_slice(), words)?,
-        wanted,
-    )
+    run_text(send(given.alloc, body.as_slice(), chunk, words)?, wanted)
+}
+
+/// What a sender of a body in pieces of `chunk` octets does on words, in words.
+fn send(alloc: Global, body: &[u8], chunk: usize, words: &str) -> Result<String, Stop> {
+    let mut bench = sender_of(body, chunk)?;
+    let mut out = String::new(alloc);
+    for word in words.split(' ') {
+        match word.strip_prefix("@") {
+            Some(moment) => bench.now = u64::from(number(moment)?),
+            None => bench.take(body, word, &mut out)?,
+        }
+    }
+    Ok(out)
 }

@@ -1,13 +1,12 @@
 //! A device that remembers its answers: Integer Value 1, what executes writes to it, and the records.
 
-use crate::askers::Askers;
 use crate::entries::{entry_of, push_entry};
 use crate::forms::Form;
 use objects::{DataLink, Request, SiteObject, SiteObjects, Table, ValueKind};
 use remembered::Asker;
 use segments::numbers::{KEEP_MS, MAX_REMEMBERED};
 use services::{Executor, ObjectExecutor};
-use sheets::{Given, Stop, differs, request_in};
+use sheets::{Given, Stop, differs, request_in, two_words};
 use std::alloc::{AllocError, Allocator};
 use tags::{Items, Value};
 use words::Words;
@@ -21,6 +20,33 @@ pub(crate) struct Run<'a, A> {
     pub(crate) given: Given<'a>,
     pub(crate) own: A,
     pub(crate) other: A,
+}
+
+/// A write that an asker asks for: the value, and the answer that is remembered of it, in words.
+#[derive(Clone, Copy)]
+pub(crate) struct Write<'w> {
+    asker: Asker,
+    value: &'w str,
+    answer: &'w str,
+}
+
+impl<'w> Write<'w> {
+    /// The write of an asker of which these are the words: the value, and the answer.
+    pub(crate) fn of(asker: Asker, words: &'w str) -> Write<'w> {
+        let (value, answer) = two_words(words);
+        Write {
+            asker,
+            value,
+            answer,
+        }
+    }
+}
+
+/// All that a device has, in words: before a write, and once it is executed.
+#[derive(Clone, Copy)]
+struct States<'w> {
+    before: &'w str,
+    after: &'w str,
 }
 
 /// A device, and the moment.
@@ -44,16 +70,24 @@ pub(crate) enum Taken {
     Full,
 }
 
-/// The objects of the device: Integer Value 1, at 7.
-fn table<A: Allocator + Copy>(alloc: A) -> Result<Table<A>, Stop> {
-    let mut objects = Items::new(alloc);
-    objects.push(SiteObject {
+/// Integer Value 1, at 7.
+fn level<A: Allocator + Copy>(alloc: A) -> Result<SiteObject<A>, AllocError> {
+    Ok(SiteObject {
         kind: ValueKind::Integer { units: 95 },
         instance: 1,
         name: Items::from_slice(alloc, b"level")?,
         default: Value::Signed(7),
         description: Items::new(alloc),
-    })?;
+    })
+}
+
+/// The objects of the device: Integer Value 1.
+///
+/// # Errors
+/// Want of memory.
+pub(crate) fn table<A: Allocator + Copy>(alloc: A) -> Result<Table<A>, Stop> {
+    let mut objects = Items::new(alloc);
+    objects.push(level(alloc)?)?;
     let site = SiteObjects {
         name: Items::from_slice(alloc, b"station")?,
         instance: 99,
@@ -62,19 +96,6 @@ fn table<A: Allocator + Copy>(alloc: A) -> Result<Table<A>, Stop> {
         objects,
     };
     Ok(Table::new(alloc, site)?)
-}
-
-/// A device with these records, at the moment 0.
-///
-/// # Errors
-/// Want of memory.
-pub(crate) fn opened<A: Allocator + Copy>(own: A, records: Form<A>) -> Result<Device<A>, Stop> {
-    Ok(Device {
-        records,
-        executor: ObjectExecutor { table: table(own)? },
-        now: 0,
-        refused: 0,
-    })
 }
 
 impl<A: Allocator + Copy> Device<A> {
@@ -92,65 +113,48 @@ impl<A: Allocator + Copy> Device<A> {
     }
 
     /// Takes a request of this asker, as a device does: a write of a value, and what is remembered of it.
-    pub(crate) fn ask(
-        &mut self,
-        run: &Run<'_, A>,
-        asker: Asker,
-        value: &str,
-        answer: &str,
-    ) -> Result<Taken, Stop> {
-        if self.is_remembered(asker) {
+    pub(crate) fn ask(&mut self, run: &Run<'_, A>, write: Write<'_>) -> Result<Taken, Stop> {
+        if self.is_remembered(write.asker) {
             return Ok(Taken::Again);
         }
         if self.is_full() {
             return Ok(Taken::Full);
         }
-        self.execute(run, asker, value, answer)?;
+        self.execute(run, write)?;
         self.records.forget_dead(self.now);
         Ok(Taken::Executed)
     }
 
     /// Executes a write, once each of its allocations has been refused in turn on copies.
-    pub(crate) fn execute(
-        &mut self,
-        run: &Run<'_, A>,
-        asker: Asker,
-        value: &str,
-        answer: &str,
-    ) -> Result<(), Stop> {
-        let refused = self.refuse_each(run, asker, value, answer)?;
+    pub(crate) fn execute(&mut self, run: &Run<'_, A>, write: Write<'_>) -> Result<(), Stop> {
+        let refused = self.refuse_each(run, write)?;
         self.refused = self.refused.saturating_add(refused);
-        self.try_execute(run, asker, value, answer, 0)?;
+        self.try_execute(run, write, 0)?;
         Ok(())
     }
 
-    /// Executes a write on copies with each allocation refused in turn, until none is. A copy is then as it
-    /// was, and the same call made again on it succeeds. Answers how many were refused.
-    fn refuse_each(
+    /// Executes a write on copies with each allocation refused in turn, until none is. Answers how many were
+    /// refused.
+    fn refuse_each(&self, run: &Run<'_, A>, write: Write<'_>) -> Result<u64, Stop> {
+        let before = self.state(run)?;
+        let after = self.state_after(run, write)?;
+        let states = States {
+            before: before.as_str(),
+            after: after.as_str(),
+        };
+        self.refuse_in_turn(run, write, states)
+    }
+
+    /// Refuses the allocations of a write in turn, each on a copy, until none is. Answers how many were.
+    fn refuse_in_turn(
         &self,
         run: &Run<'_, A>,
-        asker: Asker,
-        value: &str,
-        answer: &str,
+        write: Write<'_>,
+        states: States<'_>,
     ) -> Result<u64, Stop> {
-        let before = self.state(run)?;
-        let mut other = self.copy()?;
-        other.try_execute(run, asker, value, answer, 0)?;
-        let after = other.state(run)?;
         for refused in 0..MANY {
-            let mut copy = self.copy()?;
-            if copy.try_execute(run, asker, value, answer, refused + 1)? {
+            if self.copy()?.refuse(run, write, states, refused + 1)? {
                 return Ok(refused);
-            }
-            if copy.state(run)? != before {
-                return Err(differs(run.given.alloc, "a change where memory was refused"));
-            }
-            copy.try_execute(run, asker, value, answer, 0)?;
-            if copy.state(run)? != after {
-                return Err(differs(
-                    run.given.alloc,
-                    "another change where the call is made again",
-                ));
             }
         }
         Err(differs(
@@ -159,30 +163,56 @@ impl<A: Allocator + Copy> Device<A> {
         ))
     }
 
+    /// Executes a write with this allocation refused, and answers whether there was none to refuse. Where there
+    /// was, the device is as it was, and the same call made again on it succeeds.
+    fn refuse(
+        &mut self,
+        run: &Run<'_, A>,
+        write: Write<'_>,
+        states: States<'_>,
+        refused: u64,
+    ) -> Result<bool, Stop> {
+        if self.try_execute(run, write, refused)? {
+            return Ok(true);
+        }
+        self.compare_state(run, states.before, "a change where memory was refused")?;
+        self.try_execute(run, write, 0)?;
+        self.compare_state(
+            run,
+            states.after,
+            "another change where the call is made again",
+        )?;
+        Ok(false)
+    }
+
+    /// Whether the device has what is wanted; a stop with these words where it hasn't.
+    fn compare_state(&self, run: &Run<'_, A>, wanted: &str, why: &str) -> Result<(), Stop> {
+        let state = self.state(run)?;
+        if state.as_str() == wanted {
+            return Ok(());
+        }
+        Err(differs(run.given.alloc, why))
+    }
+
+    /// What a copy has once it executed a write.
+    fn state_after(&self, run: &Run<'_, A>, write: Write<'_>) -> Result<String, Stop> {
+        let mut copy = self.copy()?;
+        copy.try_execute(run, write, 0)?;
+        copy.state(run)
+    }
+
     /// Executes a write with this allocation refused, none for 0. Answers whether it was executed.
     fn try_execute(
         &mut self,
         run: &Run<'_, A>,
-        asker: Asker,
-        value: &str,
-        answer: &str,
+        write: Write<'_>,
         refused: u64,
     ) -> Result<bool, Stop> {
-        let entry = entry_of(run.own, asker, self.now, answer)?;
-        let request = write_of(run, value)?;
-        let memory = run.given.memory;
-        memory.refuse_only(refused);
+        let request = write_of(run, write.value)?;
+        let entry = entry_of(run.own, write.asker, self.now, write.answer)?;
+        run.given.memory.refuse_only(refused);
         let came = self.records.execute(entry, &mut self.executor, &request);
-        let is_met = refused > 0 && !memory.is_waiting();
-        memory.refuse_only(0);
-        match came {
-            Ok(()) if !is_met => Ok(true),
-            Err(AllocError) if is_met => Ok(false),
-            _ => Err(differs(
-                run.given.alloc,
-                "want of memory where there was enough, or the reverse",
-            )),
-        }
+        judge(run.given, came, refused)
     }
 
     /// A device with equal records and objects.
@@ -195,16 +225,22 @@ impl<A: Allocator + Copy> Device<A> {
         })
     }
 
-    /// All that the device has, in words: its records in order and as they are found, and its object.
-    pub(crate) fn state(&self, run: &Run<'_, A>) -> Result<String, Stop> {
+    /// All that the device has, in words.
+    fn state(&self, run: &Run<'_, A>) -> Result<String, Stop> {
         let mut out = String::new(run.given.alloc);
-        self.push_list(&mut out)?;
-        self.push_found(&mut out)?;
-        push_entry(self.records.at(self.records.len()), &mut out)?;
-        self.push_value(run, &mut out)?;
+        self.push_state(run, &mut out)?;
+        Ok(out)
+    }
+
+    /// Appends all that the device has: its records in order and as they are found, and its object.
+    pub(crate) fn push_state(&self, run: &Run<'_, A>, out: &mut String) -> Result<(), Stop> {
+        self.push_list(out)?;
+        self.push_found(out)?;
+        push_entry(self.records.at(self.records.len()), out)?;
+        self.push_value(run, out)?;
         let is_dead = self.records.begins_dead(self.now);
         write!(out, " {is_dead} {}", self.records.len())?;
-        Ok(out)
+        Ok(())
     }
 
     /// Appends all records, in order of execution.
@@ -235,9 +271,29 @@ impl<A: Allocator + Copy> Device<A> {
     /// Appends the Present_Value of Integer Value 1.
     pub(crate) fn push_value(&self, run: &Run<'_, A>, out: &mut String) -> Result<(), Stop> {
         let request = request_in(run.other, "read 45:1 85")?;
-        let reply = self.executor.reply(&request)?;
+        self.push_reply(&request, out)
+    }
+
+    /// Appends what the objects reply to a request.
+    fn push_reply(&self, request: &Request<A>, out: &mut String) -> Result<(), Stop> {
+        let reply = self.executor.reply(request)?;
         write!(out, "{}", Words(&reply))?;
         Ok(())
+    }
+}
+
+/// Whether a call was executed of which this came with an allocation refused, none for 0. None is refused from
+/// then on.
+fn judge(given: Given<'_>, came: Result<(), AllocError>, refused: u64) -> Result<bool, Stop> {
+    let is_met = refused > 0 && !given.memory.is_waiting();
+    given.memory.refuse_only(0);
+    match came {
+        Ok(()) if !is_met => Ok(true),
+        Err(AllocError) if is_met => Ok(false),
+        _ => Err(differs(
+            given.alloc,
+            "want of memory where there was enough, or the reverse",
+        )),
     }
 }
 

@@ -102,8 +102,8 @@ impl Lists {
     }
 }
 
-/// Runs a row.
-pub(crate) fn run(given: Given<'_>, asked: &str, wanted: &str) -> Result<Counts, Stop> {
+/// The lists that a row asks for.
+fn read_lists(asked: &str) -> Result<Lists, Stop> {
     let (longest, rest) = two_words(asked);
     let (greatest, last) = two_words(rest);
     let lists = Lists {
@@ -114,8 +114,15 @@ pub(crate) fn run(given: Given<'_>, asked: &str, wanted: &str) -> Result<Counts,
     if lists.longest > 6 || lists.greatest > 6 {
         return Err(Stop::Unread(Part::Number));
     }
-    for window in 1..WINDOWS {
-        run_text(lists.show(given.alloc, window)?, wanted)?;
+    Ok(lists)
+}
+
+/// Runs a row.
+pub(crate) fn run(given: Given<'_>, asked: &str, wanted: &str) -> Result<Counts, Stop> {
+    let lists = read_lists(asked)?;
+    let mut counts = Counts::none();
+    for window in 0..WINDOWS {
+        counts = run_text(lists.show(given.alloc, window)?, wanted)?;
     }
-    run_text(lists.show(given.alloc, 0)?, wanted)
+    Ok(counts)
 }

@@ -4,26 +4,27 @@
 //! the last is told. Told are `ack` and `nak` with their numbers, `-` where a segment is taken and nothing is
 //! due, `drop`, `full`, and at the end the whole. Each octet of a segment is its number.
 
-use crate::asked::{head_and_words, push_comma};
+use crate::asked::{first_and_last, head_and_words, push_mark, run_number};
+use crate::devices::Run;
 use segments::{Receiver, Step, granted_window};
 use sheets::{
-    Counts, Given, Memory, Stop, Trial, differs, number, push_octets, refused_memory, run_text,
-    small, try_row,
+    Counts, Given, Stop, Trial, differs, number, push_octets, refused_memory, small, try_row,
 };
-use std::alloc::{AllocError, Global};
+use std::alloc::{AllocError, Allocator, Global};
 
-/// The segments of a row.
+/// The segments of a row, and the memory of the receiver that takes them.
 #[derive(Clone, Copy)]
-struct Segments<'w> {
+struct Segments<'w, A> {
+    memory: A,
     window: u8,
     words: &'w str,
 }
 
 /// A receiver, the moment, and how many octets a segment has.
 #[derive(Drop)]
-struct Bench<'a> {
+struct Bench<A: Allocator + Copy> {
     alloc: Global,
-    receiver: Receiver<Memory<'a>>,
+    receiver: Receiver<A>,
     now: u64,
     octets: u32,
 }
@@ -34,14 +35,11 @@ fn numbers(word: &str) -> Result<(u8, u8, bool), Stop> {
         Some(word) => (word, true),
         None => (word, false),
     };
-    let (first, last) = match word.split_once("..") {
-        Some((first, last)) => (small(first)?, small(last)?),
-        None => (small(word)?, small(word)?),
-    };
+    let (first, last) = first_and_last(word)?;
     Ok((first, last, is_last))
 }
 
-impl<'a> Bench<'a> {
+impl<A: Allocator + Copy> Bench<A> {
     /// Takes a word, and answers what the receiver does.
     fn take(&mut self, word: &str) -> Result<Option<Step>, Stop> {
         if let Some(moment) = word.strip_prefix("@") {
@@ -62,31 +60,52 @@ impl<'a> Bench<'a> {
 
     /// Takes a segment. The receiver is as it was where memory was refused.
     fn take_segment(&mut self, number: u8, more: bool) -> Result<Step, Stop> {
-        let mut octets = Vec::new(self.alloc);
-        for _ in 0..self.octets {
-            octets.push(number)?;
-        }
+        let octets = octets_of(self.alloc, number, self.octets)?;
         let before = Vec::from_slice(self.alloc, self.receiver.octets())?;
-        let foreseen = self
-            .receiver
-            .step(number, more, octets.as_slice(), self.now);
-        match self
-            .receiver
-            .on_segment(number, more, octets.as_slice(), self.now)
-        {
+        self.take_octets(number, more, octets.as_slice(), before.as_slice())
+    }
+
+    /// Takes a segment of these octets where those `before` were taken.
+    fn take_octets(
+        &mut self,
+        number: u8,
+        more: bool,
+        octets: &[u8],
+        before: &[u8],
+    ) -> Result<Step, Stop> {
+        let foreseen = self.receiver.step(number, more, octets, self.now);
+        match self.receiver.on_segment(number, more, octets, self.now) {
             Ok(step) if step == foreseen => Ok(step),
             Ok(_) => Err(differs(self.alloc, "a step that was not foreseen")),
-            Err(AllocError) => Err(refused_memory(
-                self.alloc,
-                before.as_slice(),
-                self.receiver.octets(),
-            )),
+            Err(AllocError) => Err(refused_memory(self.alloc, before, self.receiver.octets())),
         }
     }
+
+    /// What the receiver does on words, and the whole, in words.
+    fn join(&mut self, words: &str) -> Result<String, Stop> {
+        let mut out = String::new(self.alloc);
+        for word in words.split(' ') {
+            if let Some(step) = self.take(word)? {
+                push_step(step, &mut out)?;
+            }
+        }
+        push_whole(&self.receiver, &mut out)?;
+        Ok(out)
+    }
+}
+
+/// So many octets, each of which is the number of their segment.
+fn octets_of(alloc: Global, number: u8, count: u32) -> Result<Vec<u8>, AllocError> {
+    let mut octets = Vec::new(alloc);
+    for _ in 0..count {
+        octets.push(number)?;
+    }
+    Ok(octets)
 }
 
 /// Appends what a receiver does in words.
 fn push_step(step: Step, out: &mut String) -> Result<(), AllocError> {
+    push_mark(", ", out)?;
     match step {
         Step::Taken(Some(number)) => write!(out, "ack {number}"),
         Step::Taken(None) => out.push('-'),
@@ -97,44 +116,48 @@ fn push_step(step: Step, out: &mut String) -> Result<(), AllocError> {
 }
 
 /// Appends the whole in words, of a copy of the receiver, where there is one.
-fn push_whole(receiver: &Receiver<Memory<'_>>, out: &mut String) -> Result<(), AllocError> {
+fn push_whole<A: Allocator + Copy>(
+    receiver: &Receiver<A>,
+    out: &mut String,
+) -> Result<(), AllocError> {
     let copy = receiver.copy()?;
-    if let Some(whole) = copy.whole() {
-        out.push_str(", whole ")?;
-        push_octets(whole, out)?;
+    match copy.whole() {
+        Some(whole) => {
+            out.push_str(", whole ")?;
+            push_octets(whole, out)
+        }
+        None => Ok(()),
     }
-    Ok(())
 }
 
-impl<'w, 'a> Trial<'a> for Segments<'w> {
+impl<'w, 'a, A: Allocator + Copy> Trial<'a> for Segments<'w, A> {
     fn answer(&self, given: Given<'a>, _octets: &[u8]) -> Result<String, Stop> {
         let mut bench = Bench {
             alloc: given.alloc,
-            receiver: Receiver::new(given.memory, self.window),
+            receiver: Receiver::new(self.memory, self.window),
             now: 0,
             octets: 1,
         };
-        let mut out = String::new(given.alloc);
-        for word in self.words.split(' ') {
-            if let Some(step) = bench.take(word)? {
-                push_comma(&mut out)?;
-                push_step(step, &mut out)?;
-            }
-        }
-        push_whole(&bench.receiver, &mut out)?;
-        Ok(out)
+        bench.join(self.words)
     }
 }
 
 /// Runs a row.
-pub(crate) fn run(given: Given<'_>, asked: &str, wanted: &str) -> Result<Counts, Stop> {
+pub(crate) fn run<A: Allocator + Copy>(
+    run: &Run<'_, A>,
+    asked: &str,
+    wanted: &str,
+) -> Result<Counts, Stop> {
     let (window, words) = head_and_words(asked)?;
-    let window = small(window)?;
-    try_row(given, &Segments { window, words }, &[], wanted)
+    let segments = Segments {
+        memory: run.own,
+        window: small(window)?,
+        words,
+    };
+    try_row(run.given, &segments, &[], wanted)
 }
 
 /// Runs a row of the window that is granted where one is proposed: `grant 7 -> 4`.
 pub(crate) fn run_granted(given: Given<'_>, asked: &str, wanted: &str) -> Result<Counts, Stop> {
-    let granted = granted_window(small(asked)?);
-    run_text(format!(in given.alloc; "{granted}")?, wanted)
+    run_number(given, u64::from(granted_window(small(asked)?)), wanted)
 }

@@ -24,8 +24,9 @@ mod numbers;
 mod pieces;
 mod remembering;
 
+use devices::Run;
 use sheets::{Bench, Counts, Given, Part, Report, Row, Stop, two_words};
-use std::alloc::AllocError;
+use std::alloc::{AllocError, Allocator};
 use std::io;
 
 /// What the rows of the program run on.
@@ -38,31 +39,55 @@ impl Bench for Transactions {
         rows: &[Row<'_>],
         report: &mut Report<'_>,
     ) -> Result<(), AllocError> {
-        for row in rows {
-            report.add(row, run_row(given, name, row))?;
-        }
-        Ok(())
+        let run = Run {
+            given,
+            own: given.memory,
+            other: given.other,
+        };
+        run_rows(&run, name, rows, report)
     }
 }
 
+/// Runs the rows of a file of this name in their order.
+fn run_rows<A: Allocator + Copy>(
+    run: &Run<'_, A>,
+    name: &str,
+    rows: &[Row<'_>],
+    report: &mut Report<'_>,
+) -> Result<(), AllocError> {
+    for row in rows {
+        report.add(row, run_row(run, name, row))?;
+    }
+    Ok(())
+}
+
 /// Runs a row of a file of this name.
-fn run_row(given: Given<'_>, name: &str, row: &Row<'_>) -> Result<Counts, Stop> {
+fn run_row<A: Allocator + Copy>(
+    run: &Run<'_, A>,
+    name: &str,
+    row: &Row<'_>,
+) -> Result<Counts, Stop> {
     let wanted = row.wanted()?;
     match name {
-        "segments.txt" => run_segments(given, row.asked, wanted),
-        "remembered.txt" => remembering::run(given, row.asked, wanted),
+        "segments.txt" => run_segments(run, row.asked, wanted),
+        "remembered.txt" => remembering::run(run, row.asked, wanted),
         _ => Err(Stop::Unread(Part::Asked)),
     }
 }
 
 /// Runs a row of segments.
-fn run_segments(given: Given<'_>, asked: &str, wanted: &str) -> Result<Counts, Stop> {
+fn run_segments<A: Allocator + Copy>(
+    run: &Run<'_, A>,
+    asked: &str,
+    wanted: &str,
+) -> Result<Counts, Stop> {
+    let given = run.given;
     let (verb, rest) = two_words(asked);
     match verb {
         "number" => numbers::run(given, rest, wanted),
         "cut" => pieces::run(given, rest, wanted),
         "send" => cutting::run(given, rest, wanted),
-        "join" => joining::run(given, rest, wanted),
+        "join" => joining::run(run, rest, wanted),
         "grant" => joining::run_granted(given, rest, wanted),
         "every" => every::run(given, rest, wanted),
         _ => Err(Stop::Unread(Part::Asked)),

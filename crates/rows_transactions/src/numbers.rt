@@ -1,7 +1,8 @@
 //! Waits, lifetimes, counts and limits: `number APDU_TIMEOUT_MS -> 3000`.
 
+use crate::asked::run_number;
 use segments::numbers;
-use sheets::{Counts, Given, Part, Stop, run_text};
+use sheets::{Counts, Given, Part, Stop};
 
 /// The number of this name.
 fn number_of(name: &str) -> Option<u64> {
@@ -28,7 +29,7 @@ fn number_of(name: &str) -> Option<u64> {
 /// Runs a row.
 pub(crate) fn run(given: Given<'_>, asked: &str, wanted: &str) -> Result<Counts, Stop> {
     match number_of(asked) {
-        Some(number) => run_text(format!(in given.alloc; "{number}")?, wanted),
+        Some(number) => run_number(given, number, wanted),
         None => Err(Stop::Unread(Part::Asked)),
     }
 }

@@ -10,16 +10,17 @@
 //! - `replace ASKER MAC LENGTH`: its answer goes to this address, in segments of 475 octets, none for 0.
 //! - `find ASKER`, `list`, `full`, `value`: what is found, all records, whether there is no place, and the value.
 
-use crate::asked::{body, length};
-use crate::askers::{Askers, read_askers, read_mac};
-use crate::devices::{Device, Run, Taken, opened};
+use crate::asked::{body, length, push_mark};
+use crate::askers::{read_askers, read_mac};
+use crate::devices::{Device, Run, Taken, Write, table};
 use crate::entries::push_entry;
 use crate::forms::Form;
 use npdu::Way;
-use remembered::{Asker, ListRecords, SlabRecords};
+use remembered::{ListRecords, SlabRecords};
 use segments::{Sender, Turn};
-use sheets::{Counts, Given, Part, Stop, compare, differs, number, two_words};
-use std::alloc::{Allocator, Global};
+use services::ObjectExecutor;
+use sheets::{Counts, Given, Part, Stop, differs, number, run_text, two_words};
+use std::alloc::{AllocError, Allocator, Global};
 
 /// What a device answers to the steps of a row, and all that it has after each.
 #[derive(Drop)]
@@ -50,107 +51,142 @@ impl Tally {
 
     /// Appends the counts that are not 0.
     fn push(self, out: &mut String) -> Result<(), Stop> {
-        let mut mark = "";
-        for (count, word) in [
-            (self.executed, "executed"),
-            (self.again, "again"),
-            (self.full, "full"),
-        ] {
-            if count > 0 {
-                write!(out, "{mark}{count} {word}")?;
-                mark = " ";
-            }
-        }
+        let mark = push_count(self.executed, "executed", "", out)?;
+        let mark = push_count(self.again, "again", mark, out)?;
+        push_count(self.full, "full", mark, out)?;
         Ok(())
     }
 }
 
+/// Appends a count behind a mark unless it is 0, and answers the mark of what follows.
+fn push_count<'m>(
+    count: u64,
+    word: &str,
+    mark: &'m str,
+    out: &mut String,
+) -> Result<&'m str, AllocError> {
+    if count == 0 {
+        return Ok(mark);
+    }
+    write!(out, "{mark}{count} {word}")?;
+    Ok(" ")
+}
+
 impl<A: Allocator + Copy> Device<A> {
+    /// Takes steps, and tells what is answered and all that the device has after each.
+    fn tell(&mut self, run: &Run<'_, A>, steps: &str) -> Result<Told, Stop> {
+        let mut told = Told {
+            answers: String::new(run.given.alloc),
+            states: String::new(run.given.alloc),
+            refused: 0,
+        };
+        for step in steps.split("; ") {
+            self.take_or_go(run, step, &mut told.answers)?;
+            self.push_state(run, &mut told.states)?;
+        }
+        told.refused = self.refused;
+        Ok(told)
+    }
+
+    /// Takes a step, or goes to the moment that it says.
+    fn take_or_go(&mut self, run: &Run<'_, A>, step: &str, out: &mut String) -> Result<(), Stop> {
+        let Some(moment) = step.strip_prefix("@") else {
+            push_mark("; ", out)?;
+            return self.take(run, step, out);
+        };
+        self.now = u64::from(number(moment)?);
+        Ok(())
+    }
+
     /// Takes a step, and appends what is answered.
     fn take(&mut self, run: &Run<'_, A>, step: &str, out: &mut String) -> Result<(), Stop> {
         let (verb, rest) = two_words(step);
         match verb {
-            "ask" => return self.take_asked(run, rest, out),
-            "execute" => self.take_executed(run, rest)?,
-            "forget" => self.records.forget_dead(self.now),
-            "clear" => self.records.clear(),
-            "replace" => self.take_replaced(run.given, rest)?,
-            _ => return self.push_told(run, verb, rest, out),
+            "ask" => self.take_asked(run, rest, out),
+            "execute" => self.take_executed(run, rest, out),
+            "forget" => {
+                self.records.forget_dead(self.now);
+                self.push_remembered(out)
+            }
+            "clear" => {
+                self.records.clear();
+                self.push_remembered(out)
+            }
+            "replace" => self.take_replaced(run.given, rest, out),
+            "find" => {
+                let askers = read_askers(run.given.alloc, rest)?;
+                Ok(push_entry(self.records.find(askers.with(askers.first)), out)?)
+            }
+            _ => self.push_told(run, step, out),
         }
+    }
+
+    /// Appends how many are remembered.
+    fn push_remembered(&self, out: &mut String) -> Result<(), Stop> {
         write!(out, "{} remembered", self.records.len())?;
         Ok(())
     }
 
     /// Appends what is asked for.
-    fn push_told(
-        &self,
-        run: &Run<'_, A>,
-        verb: &str,
-        rest: &str,
-        out: &mut String,
-    ) -> Result<(), Stop> {
-        match verb {
-            "find" => {
-                let asker = read_askers(run.given.alloc, rest)?.asker();
-                push_entry(self.records.find(asker), out)?;
-            }
-            "list" => self.push_list(out)?,
-            "full" => out.push_str(if self.is_full() { "full" } else { "room" })?,
-            "value" => self.push_value(run, out)?,
-            _ => return Err(Stop::Unread(Part::Asked)),
+    fn push_told(&self, run: &Run<'_, A>, asked: &str, out: &mut String) -> Result<(), Stop> {
+        match asked {
+            "list" => Ok(self.push_list(out)?),
+            "full" => Ok(out.push_str(if self.is_full() { "full" } else { "room" })?),
+            "value" => self.push_value(run, out),
+            _ => Err(Stop::Unread(Part::Asked)),
         }
-        Ok(())
     }
 
     /// Takes requests, and appends how.
     fn take_asked(&mut self, run: &Run<'_, A>, words: &str, out: &mut String) -> Result<(), Stop> {
         let (askers, rest) = two_words(words);
-        let (value, answer) = two_words(rest);
-        let Askers {
-            station,
-            first,
-            last,
-        } = read_askers(run.given.alloc, askers)?;
+        let askers = read_askers(run.given.alloc, askers)?;
         let mut tally = Tally {
             executed: 0,
             again: 0,
             full: 0,
         };
-        for invoke_id in first..=last {
-            tally.count(self.ask(run, Asker { station, invoke_id }, value, answer)?);
+        for invoke_id in askers.first..=askers.last {
+            tally.count(self.ask(run, Write::of(askers.with(invoke_id), rest))?);
         }
         tally.push(out)
     }
 
     /// Executes requests.
-    fn take_executed(&mut self, run: &Run<'_, A>, words: &str) -> Result<(), Stop> {
+    fn take_executed(
+        &mut self,
+        run: &Run<'_, A>,
+        words: &str,
+        out: &mut String,
+    ) -> Result<(), Stop> {
         let (askers, rest) = two_words(words);
-        let (value, answer) = two_words(rest);
-        let Askers {
-            station,
-            first,
-            last,
-        } = read_askers(run.given.alloc, askers)?;
-        for invoke_id in first..=last {
-            self.execute(run, Asker { station, invoke_id }, value, answer)?;
+        let askers = read_askers(run.given.alloc, askers)?;
+        for invoke_id in askers.first..=askers.last {
+            self.execute(run, Write::of(askers.with(invoke_id), rest))?;
         }
-        Ok(())
+        self.push_remembered(out)
     }
 
     /// Has an answer said on another way, which takes no memory.
-    fn take_replaced(&mut self, given: Given<'_>, words: &str) -> Result<(), Stop> {
+    fn take_replaced(
+        &mut self,
+        given: Given<'_>,
+        words: &str,
+        out: &mut String,
+    ) -> Result<(), Stop> {
         let (asker, rest) = two_words(words);
         let (to, size) = two_words(rest);
-        let asker = read_askers(given.alloc, asker)?.asker();
+        let askers = read_askers(given.alloc, asker)?;
         let way = Way {
             to: read_mac(given.alloc, to)?,
             destination: None,
         };
         let sending = sending(given.alloc, length(size)?, self.now)?;
         given.memory.refuse_all();
-        self.records.replace(asker, way, sending);
+        self.records
+            .replace(askers.with(askers.first), way, sending);
         given.memory.refuse_only(0);
-        Ok(())
+        self.push_remembered(out)
     }
 }
 
@@ -166,50 +202,47 @@ fn sending(alloc: Global, size: usize, now: u64) -> Result<Option<Sender>, Stop>
     }
 }
 
-/// What a device with these records answers to steps.
+/// What a device with these records answers to steps, from the moment 0 on.
 fn tell<A: Allocator + Copy>(
     run: &Run<'_, A>,
     records: Form<A>,
     steps: &str,
 ) -> Result<Told, Stop> {
-    let mut device = opened(run.own, records)?;
-    let mut answers = String::new(run.given.alloc);
-    let mut states = String::new(run.given.alloc);
-    for step in steps.split("; ") {
-        if let Some(moment) = step.strip_prefix("@") {
-            device.now = u64::from(number(moment)?);
-        } else {
-            if !answers.is_empty() {
-                answers.push_str("; ")?;
-            }
-            device.take(run, step, &mut answers)?;
-        }
-        states.push_str(device.state(run)?.as_str())?;
-    }
-    Ok(Told {
-        answers,
-        states,
-        refused: device.refused,
-    })
+    let mut device = Device {
+        records,
+        executor: ObjectExecutor {
+            table: table(run.own)?,
+        },
+        now: 0,
+        refused: 0,
+    };
+    device.tell(run, steps)
 }
 
 /// Runs a row.
-pub(crate) fn run(given: Given<'_>, steps: &str, wanted: &str) -> Result<Counts, Stop> {
-    let own = given.memory;
-    let run = Run {
-        given,
-        own,
-        other: given.other,
-    };
-    let listed = tell(&run, Form::List(ListRecords::new(own)), steps)?;
-    let keyed = tell(&run, Form::Keys(SlabRecords::new(own)), steps)?;
+pub(crate) fn run<A: Allocator + Copy>(
+    run: &Run<'_, A>,
+    steps: &str,
+    wanted: &str,
+) -> Result<Counts, Stop> {
+    let listed = tell(run, Form::List(ListRecords::new(run.own)), steps)?;
+    run_keyed(run, &listed, steps, wanted)
+}
+
+/// Runs a row of which this was told in a list under keys.
+fn run_keyed<A: Allocator + Copy>(
+    run: &Run<'_, A>,
+    listed: &Told,
+    steps: &str,
+    wanted: &str,
+) -> Result<Counts, Stop> {
+    let keyed = tell(run, Form::Keys(SlabRecords::new(run.own)), steps)?;
     if listed.answers != keyed.answers || listed.states != keyed.states {
-        return Err(differs(given.alloc, "other answers under keys than in a list"));
+        return Err(differs(run.given.alloc, "other answers under keys than in a list"));
     }
-    compare(keyed.answers, wanted)?;
+    let refused = listed.refused.saturating_add(keyed.refused);
     Ok(Counts {
-        rows: 1,
-        refused: listed.refused.saturating_add(keyed.refused),
-        changed: 0,
+        refused,
+        ..run_text(keyed.answers, wanted)?
     })
 }

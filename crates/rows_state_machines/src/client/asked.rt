@@ -11,7 +11,7 @@ use client_tsm::{Bound, ClientTsm};
 use npdu::{Mac, Station, Way};
 use services::MaxApdu;
 use sheets::{Part, Stop, number};
-use std::alloc::{AllocError, Allocator, Global};
+use std::alloc::{Allocator, Global};
 use words::parse_number;
 
 /// The device that is asked: MAC 5 of network 2, behind a router.
@@ -26,6 +26,18 @@ pub(crate) const OTHER: Station = Station {
     mac: Mac::One(5),
 };
 
+/// The device that is asked, which takes APDUs of up to this many octets.
+fn device(max_apdu: u16) -> Bound {
+    Bound {
+        station: DEVICE,
+        way: Way {
+            to: Mac::Six([192, 168, 1, 10, 0xBA, 0xC0]),
+            destination: Some(DEVICE),
+        },
+        max_apdu,
+    }
+}
+
 /// A client in memory of an allocator, and the device that it asks.
 ///
 /// # Errors
@@ -38,19 +50,12 @@ pub(crate) fn client_and_device<A: Allocator + Copy>(
         Some(rest) => (rest, false),
         None => (words, true),
     };
-    let Some((own, device)) = words.split_once(" to ") else {
+    let Some((own, to)) = words.split_once(" to ") else {
         return Err(Stop::Unread(Part::Asked));
     };
-    let max_apdu: u16 = parse_number(device)?;
-    let to = Bound {
-        station: DEVICE,
-        way: Way {
-            to: Mac::Six([192, 168, 1, 10, 0xBA, 0xC0]),
-            destination: Some(DEVICE),
-        },
-        max_apdu,
-    };
-    Ok((ClientTsm::new(memory, segmented, max_apdu_of(own)?), to))
+    let to = device(parse_number(to)?);
+    let own = max_apdu_of(own)?;
+    Ok((ClientTsm::new(memory, segmented, own), to))
 }
 
 /// How many octets an APDU to a client may have.
@@ -70,26 +75,24 @@ fn max_apdu_of(word: &str) -> Result<MaxApdu, Stop>
 /// # Errors
 /// `Unread` where the number is none, `Memory`.
 pub(crate) fn unfolded(alloc: Global, words: &str) -> Result<String, Stop> {
-    let mut out = String::new(alloc);
     let Some((before, rest)) = words.split_once('{') else {
-        out.push_str(words)?;
-        return Ok(out);
+        return Ok(String::from_str(alloc, words)?);
     };
     let Some((folded, after)) = rest.split_once('}') else {
         return Err(Stop::Unread(Part::Asked));
     };
-    let Some((text, count)) = folded.rsplit_once('*') else {
-        return Err(Stop::Unread(Part::Asked));
-    };
-    out.push_str(before)?;
-    push_often(text, number(count)?, &mut out)?;
+    let mut out = String::from_str(alloc, before)?;
+    push_often(folded, &mut out)?;
     out.push_str(after)?;
     Ok(out)
 }
 
-/// Appends a text as often as this.
-fn push_often(text: &str, count: u32, out: &mut String) -> Result<(), AllocError> {
-    for _ in 0..count {
+/// Appends a text as often as the number behind its last `*` says.
+fn push_often(folded: &str, out: &mut String) -> Result<(), Stop> {
+    let Some((text, count)) = folded.rsplit_once('*') else {
+        return Err(Stop::Unread(Part::Asked));
+    };
+    for _ in 0..number(count)? {
         out.push_str(text)?;
     }
     Ok(())

@@ -2,11 +2,13 @@
 //! outcome under its invoke ID. What is longer than 48 octets or characters is told by its front and its length.
 //! More than eight outcomes that are alike, in order of their invoke IDs, are told as one: `tell 0..255 timed out`.
 
-use client_tsm::{Outcome, Said, Told};
+use crate::telling::{push_front, push_mark};
+use client_tsm::{Effects, Issued, Outcome, Said, Told};
 use npdu::Way;
+use objects::Reply;
 use services::Apdu;
-use sheets::{Stop, differs, push_octets};
-use std::alloc::{AllocError, Allocator, Global};
+use sheets::{Stop, differs};
+use std::alloc::{AllocError, Allocator};
 use tags::Items;
 use words::Words;
 
@@ -16,72 +18,73 @@ const SHORT: usize = 48;
 /// How many octets of a longer APDU are told.
 const FRONT: usize = 12;
 
-/// Appends what is said, all of it on this way.
+/// Appends the invoke ID of a request, and what is said of it, all of it on this way.
 ///
 /// # Errors
 /// `Differs` where it is said on another, `Memory`.
-pub(crate) fn push_said<A: Allocator>(
-    alloc: Global,
+pub(crate) fn push_issued<A: Allocator>(
+    issued: &Issued<A>,
+    way: Way,
+    out: &mut String,
+) -> Result<(), Stop> {
+    write!(out, "as {}", issued.invoke_id)?;
+    push_said(&issued.said, way, out)
+}
+
+/// Appends what is said, all of it on this way, and what is told.
+///
+/// # Errors
+/// `Differs` where it is said on another, `Memory`.
+pub(crate) fn push_effects<A: Allocator>(
+    effects: &Effects<A>,
+    way: Way,
+    out: &mut String,
+) -> Result<(), Stop> {
+    push_said(&effects.said, way, out)?;
+    push_told(effects.told.as_slice(), out)?;
+    if out.is_empty() {
+        out.push('-')?;
+    }
+    Ok(())
+}
+
+/// Appends what is said, all of it on this way.
+fn push_said<A: Allocator>(
     said: &Items<Said<A>, A>,
     way: Way,
     out: &mut String,
 ) -> Result<(), Stop> {
     for one in said.as_slice() {
         if one.way() != way {
-            return Err(differs(alloc, "what is said to another"));
+            return Err(differs(*out.allocator(), "what is said to another"));
         }
-        push_mark(out)?;
-        out.push_str("say ")?;
-        push_apdu(alloc, &one.apdu(), out)?;
+        push_apdu(&one.apdu(), out)?;
     }
     Ok(())
 }
 
-/// Appends what parts two effects of a step.
-fn push_mark(out: &mut String) -> Result<(), AllocError> {
-    if out.is_empty() {
-        return Ok(());
-    }
-    out.push_str(", ")
-}
-
-/// Appends the octets of an APDU.
-fn push_apdu(alloc: Global, apdu: &Apdu<'_>, out: &mut String) -> Result<(), Stop> {
+/// Appends an APDU that is said.
+fn push_apdu(apdu: &Apdu<'_>, out: &mut String) -> Result<(), Stop> {
     if !apdu.is_sound() {
-        return Err(differs(alloc, "an APDU without a spelling"));
+        return Err(differs(*out.allocator(), "an APDU without a spelling"));
     }
-    let mut octets = Vec::new(alloc);
+    push_mark(", ", out)?;
+    out.push_str("say ")?;
+    let mut octets = Vec::new(*out.allocator());
     apdu.write(&mut octets)?;
-    if octets.len() <= SHORT {
-        push_octets(octets.as_slice(), out)?;
-        return Ok(());
-    }
-    push_octets(&octets[..FRONT], out)?;
-    write!(out, "..{}", octets.len())?;
-    Ok(())
+    Ok(push_front(octets.as_slice(), SHORT, FRONT, out)?)
 }
 
 /// Appends what is told.
-///
-/// # Errors
-/// Want of memory.
-pub(crate) fn push_told<A: Allocator>(
-    told: &Items<Told<A>, A>,
-    out: &mut String,
-) -> Result<(), Stop> {
-    let all = told.as_slice();
+fn push_told<A: Allocator>(all: &[Told<A>], out: &mut String) -> Result<(), AllocError> {
     if let [first, .., last] = all
         && all.len() > 8
         && are_alike(all)
     {
-        push_mark(out)?;
-        write!(out, "tell {}..{} ", first.invoke_id, last.invoke_id)?;
-        return push_outcome(&first.outcome, out);
+        return push_ends(first, last, out);
     }
     for one in all {
-        push_mark(out)?;
-        write!(out, "tell {} ", one.invoke_id)?;
-        push_outcome(&one.outcome, out)?;
+        push_ends(one, one, out)?;
     }
     Ok(())
 }
@@ -96,18 +99,44 @@ fn are_alike<A: Allocator>(all: &[Told<A>]) -> bool {
     true
 }
 
-/// Appends an outcome.
-fn push_outcome<A: Allocator>(outcome: &Outcome<A>, out: &mut String) -> Result<(), Stop> {
-    match outcome {
-        Outcome::Answered(reply) => {
-            let words = format!(in *out.allocator(); "{}", Words(reply))?;
-            push_short(words.as_str(), out)?;
-        }
-        Outcome::Aborted(reason) => write!(out, "aborted {}", u8::from(*reason))?,
-        Outcome::Rejected(reason) => write!(out, "rejected {}", u8::from(*reason))?,
-        Outcome::TimedOut => out.push_str("timed out")?,
+/// Appends the outcome that the requests from the first to the last have.
+fn push_ends<A: Allocator>(
+    first: &Told<A>,
+    last: &Told<A>,
+    out: &mut String,
+) -> Result<(), AllocError> {
+    push_mark(", ", out)?;
+    push_invoke_ids(first.invoke_id, last.invoke_id, out)?;
+    push_outcome(&first.outcome, out)
+}
+
+/// Appends the first and the last invoke ID of an outcome, or the one that it has.
+fn push_invoke_ids(first: u8, last: u8, out: &mut String) -> Result<(), AllocError> {
+    if first == last {
+        return write!(out, "tell {first} ");
     }
-    Ok(())
+    write!(out, "tell {first}..{last} ")
+}
+
+/// Appends an outcome.
+fn push_outcome<A: Allocator>(outcome: &Outcome<A>, out: &mut String) -> Result<(), AllocError> {
+    match outcome {
+        Outcome::Answered(reply) => push_reply(reply, out),
+        Outcome::Aborted(reason) => push_reason("aborted", u8::from(*reason), out),
+        Outcome::Rejected(reason) => push_reason("rejected", u8::from(*reason), out),
+        Outcome::TimedOut => out.push_str("timed out"),
+    }
+}
+
+/// Appends why a request came to this end.
+fn push_reason(end: &str, reason: u8, out: &mut String) -> Result<(), AllocError> {
+    write!(out, "{end} {reason}")
+}
+
+/// Appends a reply, or its front and its length.
+fn push_reply<A: Allocator>(reply: &Reply<A>, out: &mut String) -> Result<(), AllocError> {
+    let words = format!(in *out.allocator(); "{}", Words(reply))?;
+    push_short(words.as_str(), out)
 }
 
 /// Appends a text, or its front and its length.

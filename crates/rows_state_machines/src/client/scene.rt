@@ -10,7 +10,8 @@
 //! made again, and the row goes on as without.
 
 use crate::client::asked::{OTHER, client_and_device, unfolded};
-use crate::client::effects::{push_said, push_told};
+use crate::client::effects::{push_effects, push_issued};
+use crate::telling::push_mark;
 use client_tsm::{Bound, ClientTsm, Effects, Issued};
 use npdu::Station;
 use objects::Request;
@@ -45,6 +46,13 @@ fn part(sequence_number: u8) -> Apdu<'static> {
     }
 }
 
+/// What a client hears from a station, or that it wakes.
+#[derive(Clone, Copy)]
+enum Input<'r> {
+    Hears(Station, &'r Apdu<'r>),
+    Wakes,
+}
+
 /// A client, whom it asks, and the moment.
 #[derive(Drop)]
 struct Scene<A: Allocator> {
@@ -57,27 +65,48 @@ struct Scene<A: Allocator> {
 }
 
 impl<A: Allocator + Copy> Scene<A> {
-    /// Takes a step, and answers what comes of it in words; of a moment nothing.
-    fn take(&mut self, step: &str) -> Result<Option<String>, Stop> {
+    /// Takes the steps of a row, and answers what comes of them in words; where a call was refused memory, that it was,
+    /// once what is wanted came.
+    fn take_all(&mut self, steps: &Steps<'_>) -> Result<String, Stop> {
+        let mut out = String::new(self.alloc);
+        for step in steps.words.split("; ") {
+            self.take(step, &mut out)?;
+        }
+        if !self.is_refused {
+            return Ok(out);
+        }
+        compare(out, steps.wanted)?;
+        Err(Stop::Memory)
+    }
+
+    /// Takes a step, and appends what comes of it in words; of a moment nothing.
+    fn take(&mut self, step: &str, out: &mut String) -> Result<(), Stop> {
         if let Some(moment) = step.strip_prefix("@") {
             self.now = u64::from(number(moment)?);
-            return Ok(None);
+            return Ok(());
         }
-        let (verb, rest) = two_words(step);
         self.copy()?;
-        let words = match verb {
-            "issue" => self.issue_words(rest)?,
-            "issues" => self.issues_words(rest)?,
-            "hear" => self.heard_words(self.to.station, rest)?,
-            "other" => self.heard_words(OTHER, rest)?,
-            "parts" => self.parts_words(rest)?,
-            "wake" => {
-                let effects = self.wake()?;
-                self.effects_words(&effects)?
+        let mut words = String::new(self.alloc);
+        self.push_step(step, &mut words)?;
+        push_mark("; ", out)?;
+        Ok(out.push_str(words.as_str())?)
+    }
+
+    /// Appends what comes of a step that is no moment.
+    fn push_step(&mut self, step: &str, out: &mut String) -> Result<(), Stop> {
+        let (verb, rest) = two_words(step);
+        match verb {
+            "issue" => self.push_issues(1, rest, out),
+            "issues" => {
+                let (count, words) = two_words(rest);
+                self.push_issues(number(count)?, words, out)
             }
-            _ => return Err(Stop::Unread(Part::Asked)),
-        };
-        Ok(Some(words))
+            "hear" => self.push_heard(self.to.station, rest, out),
+            "other" => self.push_heard(OTHER, rest, out),
+            "parts" => self.push_parts(rest, out),
+            "wake" => self.push_input(Input::Wakes, out),
+            _ => Err(Stop::Unread(Part::Asked)),
+        }
     }
 
     /// Puts an equal client in the client's place, again where memory was refused.
@@ -106,93 +135,87 @@ impl<A: Allocator + Copy> Scene<A> {
         }
     }
 
-    /// Issues a request in words, and answers what comes of it.
-    fn issue_words(&mut self, words: &str) -> Result<String, Stop> {
+    /// Issues a request, and appends what comes of it.
+    fn push_issued(&mut self, request: &Request<A>, out: &mut String) -> Result<(), Stop> {
+        match self.issue(request)? {
+            Ok(issued) => push_issued(&issued, self.to.way, out),
+            Err(fault) => push_refusal(fault, out),
+        }
+    }
+
+    /// Issues a request in words as often as this, and appends what comes of the last.
+    fn push_issues(&mut self, count: u32, words: &str, out: &mut String) -> Result<(), Stop> {
         let words = unfolded(self.alloc, words)?;
         let request = request_in(self.other, words.as_str())?;
-        self.issued_words(&request)
+        self.push_last(count, &request, out)
     }
 
-    /// Issues a request, and answers in words what comes of it.
-    fn issued_words(&mut self, request: &Request<A>) -> Result<String, Stop> {
-        let Issued { invoke_id, said } = match self.issue(request)? {
-            Ok(issued) => issued,
-            Err(fault) => return refusal(self.alloc, fault),
-        };
-        let mut out = format!(in self.alloc; "as {invoke_id}")?;
-        push_said(self.alloc, &said, self.to.way, &mut out)?;
-        Ok(out)
-    }
-
-    /// Issues a request as often as its number says, and answers what comes of the last.
-    fn issues_words(&mut self, words: &str) -> Result<String, Stop> {
-        let (count, words) = two_words(words);
-        let request = request_in(self.other, words)?;
-        let mut out = String::new(self.alloc);
-        for _ in 0..number(count)? {
-            out = self.issued_words(&request)?;
+    /// Issues a request as often as this. Only what comes of the last stands in `out` then.
+    fn push_last(
+        &mut self,
+        count: u32,
+        request: &Request<A>,
+        out: &mut String,
+    ) -> Result<(), Stop> {
+        for _ in 0..count {
+            out.clear();
+            self.push_issued(request, out)?;
         }
-        Ok(out)
+        Ok(())
     }
 
-    /// Wakes, again where memory was refused.
-    fn wake(&mut self) -> Result<Effects<A>, Stop> {
+    /// Takes an input.
+    fn take_once(&mut self, input: Input<'_>) -> Result<Effects<A>, Stop> {
         if self.now < self.client.moment() || self.now > MAX_MOMENT_MS {
             return Err(Stop::Unread(Part::Asked));
         }
-        match self.client.on_tick(self.now) {
-            Err(AllocError) => {
-                self.is_refused = true;
-                Ok(self.client.on_tick(self.now)?)
-            }
-            Ok(effects) => Ok(effects),
+        match input {
+            Input::Hears(from, apdu) => Ok(self.client.on_apdu(from, apdu, self.now)?),
+            Input::Wakes => Ok(self.client.on_tick(self.now)?),
         }
     }
 
-    /// Hears an APDU, again where memory was refused.
-    fn hear(&mut self, from: Station, apdu: &Apdu<'_>) -> Result<Effects<A>, Stop> {
-        if self.now < self.client.moment() || self.now > MAX_MOMENT_MS {
-            return Err(Stop::Unread(Part::Asked));
-        }
-        match self.client.on_apdu(from, apdu, self.now) {
-            Err(AllocError) => {
+    /// Takes an input, again where memory was refused.
+    fn take_input(&mut self, input: Input<'_>) -> Result<Effects<A>, Stop> {
+        match self.take_once(input) {
+            Err(Stop::Memory) => {
                 self.is_refused = true;
-                Ok(self.client.on_apdu(from, apdu, self.now)?)
+                self.take_once(input)
             }
-            Ok(effects) => Ok(effects),
+            came => came,
         }
     }
 
-    /// Hears octets in words, and answers what comes of it.
-    fn heard_words(&mut self, from: Station, word: &str) -> Result<String, Stop> {
+    /// Takes an input, and appends what comes of it.
+    fn push_input(&mut self, input: Input<'_>, out: &mut String) -> Result<(), Stop> {
+        let effects = self.take_input(input)?;
+        push_effects(&effects, self.to.way, out)
+    }
+
+    /// Hears octets in words, and appends what comes of it.
+    fn push_heard(&mut self, from: Station, word: &str, out: &mut String) -> Result<(), Stop> {
         let octets = octets(self.alloc, word)?;
-        let effects = self.hear(from, &Apdu::read(octets.as_slice())?)?;
-        self.effects_words(&effects)
+        let apdu = Apdu::read(octets.as_slice())?;
+        self.push_input(Input::Hears(from, &apdu), out)
     }
 
-    /// Hears segments without octets, and answers what comes of the last.
-    fn parts_words(&mut self, words: &str) -> Result<String, Stop> {
+    /// Hears segments without octets. Only what comes of the last stands in `out` then.
+    fn push_parts(&mut self, words: &str, out: &mut String) -> Result<(), Stop> {
         let Some((first, last)) = words.split_once("..") else {
             return Err(Stop::Unread(Part::Asked));
         };
-        let mut out = String::new(self.alloc);
         for sequence_number in small(first)?..=small(last)? {
-            let effects = self.hear(self.to.station, &part(sequence_number))?;
-            out = self.effects_words(&effects)?;
+            out.clear();
+            self.push_input(Input::Hears(self.to.station, &part(sequence_number)), out)?;
         }
-        Ok(out)
+        Ok(())
     }
+}
 
-    /// What is said and told, in words.
-    fn effects_words(&self, effects: &Effects<A>) -> Result<String, Stop> {
-        let mut out = String::new(self.alloc);
-        push_said(self.alloc, &effects.said, self.to.way, &mut out)?;
-        push_told(&effects.told, &mut out)?;
-        if out.is_empty() {
-            out.push('-')?;
-        }
-        Ok(out)
-    }
+/// Appends a refusal.
+fn push_refusal(fault: Fault, out: &mut String) -> Result<(), Stop> {
+    let words = refusal(*out.allocator(), fault)?;
+    Ok(out.push_str(words.as_str())?)
 }
 
 /// What comes of the steps of a row with a client in this memory, in words.
@@ -211,20 +234,7 @@ fn told<A: Allocator + Copy>(
         now: 0,
         is_refused: false,
     };
-    let mut out = String::new(alloc);
-    for step in steps.words.split("; ") {
-        if let Some(words) = scene.take(step)? {
-            if !out.is_empty() {
-                out.push_str("; ")?;
-            }
-            out.push_str(words.as_str())?;
-        }
-    }
-    if scene.is_refused {
-        compare(out, steps.wanted)?;
-        return Err(Stop::Memory);
-    }
-    Ok(out)
+    scene.take_all(steps)
 }
 
 impl<'w, 'a> Trial<'a> for Steps<'w> {

@@ -4,28 +4,36 @@
 //! told how many were executed, and what came of the last. Besides `read REQUEST`, `moment`, `copy`, which goes on
 //! with the copy. Each allocation of an input is refused in turn: the same input then comes again.
 
-use crate::server::opened::{Opened, Served, executor};
-use crate::server::told::in_words;
+use crate::server::opened::{Served, executor};
+use crate::server::told::push_effects;
+use crate::telling::{run_number, run_refused, run_word};
 use npdu::{Mac, Station, Way};
+use objects::Request;
 use segments::numbers::MAX_MOMENT_MS;
 use server_tsm::{Effects, Origin};
 use services::{Apdu, Executor};
 use sheets::{
-    Counts, Given, Part, Stop, compare, differs, number, octets, request_in, run_text, small,
-    two_words,
+    Counts, Given, Part, Stop, differs, number, octets, request_in, run_text, small, two_words,
 };
 use std::alloc::{Allocator, Global};
-use tags::Octets;
 use words::Words;
 
 /// How many runs have an allocation refused at most.
 const MANY: u64 = 1000;
 
-/// What a server hears, or that it wakes.
+/// An APDU that a station says.
+#[derive(Drop)]
+struct Saying {
+    origin: Origin,
+    octets: Vec<u8>,
+}
+
+/// What a server hears, that it wakes, or that a copy takes its place.
 #[derive(Drop)]
 enum Input {
-    Says(Origin, Octets<Global>),
+    Says(Saying),
     Wakes,
+    IsCopied,
 }
 
 /// An address of a station or a link.
@@ -36,52 +44,87 @@ fn mac(alloc: Global, word: &str) -> Result<Mac, Stop> {
     }
 }
 
-/// What stands behind the moment of an input.
-fn read_input(alloc: Global, words: &str) -> Result<Input, Stop> {
+/// Where an APDU comes from: the address of the station, and behind `/` that of the link.
+fn origin(alloc: Global, address: &str, by_broadcast: bool) -> Result<Origin, Stop> {
+    let (station, link) = match address.split_once('/') {
+        Some(both) => both,
+        None => (address, address),
+    };
+    let station = mac(alloc, station)?;
+    let link = mac(alloc, link)?;
+    Ok(Origin {
+        station: Station {
+            net: 1,
+            mac: station,
+        },
+        way: Way {
+            to: link,
+            destination: None,
+        },
+        by_broadcast,
+    })
+}
+
+/// An APDU that a station says.
+fn read_saying(alloc: Global, words: &str) -> Result<Saying, Stop> {
     let (verb, rest) = two_words(words);
     let by_broadcast = match verb {
-        "wake" => return Ok(Input::Wakes),
         "from" => false,
         "broadcast" => true,
         _ => return Err(Stop::Unread(Part::Asked)),
     };
     let (address, apdu) = two_words(rest);
-    let (station, link) = match address.split_once('/') {
-        Some(both) => both,
-        None => (address, address),
-    };
-    let station = Station {
-        net: 1,
-        mac: mac(alloc, station)?,
-    };
-    let way = Way {
-        to: mac(alloc, link)?,
-        destination: None,
-    };
-    let origin = Origin {
-        station,
-        way,
-        by_broadcast,
-    };
-    Ok(Input::Says(origin, octets(alloc, apdu)?))
+    let origin = origin(alloc, address, by_broadcast)?;
+    Ok(Saying {
+        origin,
+        octets: octets(alloc, apdu)?.into_vec(),
+    })
 }
 
-/// What comes of an input, once.
+/// What stands behind the moment of an input.
+fn read_input(alloc: Global, words: &str) -> Result<Input, Stop> {
+    match two_words(words) {
+        ("wake", _) => Ok(Input::Wakes),
+        _ => Ok(Input::Says(read_saying(alloc, words)?)),
+    }
+}
+
+/// What comes of an APDU, or where there is none of it that the server wakes.
 fn take<A: Allocator + Copy>(
     server: &mut Served<A>,
     now: u64,
-    input: &Input,
+    said: Option<&Saying>,
 ) -> Result<Effects<A>, Stop> {
     if now > MAX_MOMENT_MS || now < server.moment() {
         return Err(Stop::Unread(Part::Number));
     }
-    match input {
-        Input::Wakes => Ok(server.on_tick(now)?),
-        Input::Says(origin, octets) => {
-            let apdu = Apdu::read(octets.as_slice())?;
-            Ok(server.on_apdu(origin, &apdu, now)?)
-        }
-    }
+    let Some(saying) = said else {
+        return Ok(server.on_tick(now)?);
+    };
+    let apdu = Apdu::read(saying.octets.as_slice())?;
+    Ok(server.on_apdu(&saying.origin, &apdu, now)?)
+}
+
+/// Appends what comes of an APDU, or of it that the server wakes, and answers whether a request was executed.
+fn push_taken<A: Allocator + Copy>(
+    server: &mut Served<A>,
+    now: u64,
+    said: Option<&Saying>,
+    out: &mut String,
+) -> Result<bool, Stop> {
+    let effects = take(server, now, said)?;
+    push_effects(&effects, out)?;
+    Ok(effects.told.is_some())
+}
+
+/// Puts an equal server in the server's place, and appends that.
+fn push_copied<A: Allocator + Copy>(
+    server: &mut Served<A>,
+    out: &mut String,
+) -> Result<bool, Stop> {
+    *server = server.copy()?;
+    out.push_str("copied")?;
+    Ok(false)
 }
 
 /// What comes of an input, in words.
@@ -91,7 +134,13 @@ fn tell<A: Allocator + Copy>(
     now: u64,
     input: &Input,
 ) -> Result<String, Stop> {
-    in_words(alloc, &take(server, now, input)?)
+    let mut out = String::new(alloc);
+    match input {
+        Input::Says(saying) => push_taken(server, now, Some(saying), &mut out)?,
+        Input::Wakes => push_taken(server, now, None, &mut out)?,
+        Input::IsCopied => push_copied(server, &mut out)?,
+    };
+    Ok(out)
 }
 
 /// Runs an input with each allocation refused in turn, until a run meets no refusal.
@@ -109,14 +158,7 @@ fn try_input<A: Allocator + Copy>(
         given.memory.refuse_only(0);
         match came {
             Err(Stop::Memory) if !is_waiting => {}
-            Ok(found) if is_waiting => {
-                compare(found, wanted)?;
-                return Ok(Counts {
-                    rows: 1,
-                    refused,
-                    changed: 0,
-                });
-            }
+            Ok(found) if is_waiting => return run_refused(found, refused, wanted),
             Err(Stop::Differs(found)) => return Err(Stop::Differs(found)),
             Err(Stop::Unread(part)) => return Err(Stop::Unread(part)),
             _ => return Err(differs(given.alloc, "want of memory for another cause")),
@@ -128,17 +170,34 @@ fn try_input<A: Allocator + Copy>(
     ))
 }
 
-/// The input with this number at a place of its octets.
-fn with_number(alloc: Global, input: &mut Input, place: usize, number: u8) -> Result<(), Stop> {
-    let Input::Says(origin, octets) = input else {
-        return Err(Stop::Unread(Part::Asked));
-    };
-    let mut all = Vec::from_slice(alloc, octets.as_slice())?;
-    if place < all.len() {
-        all[place] = number;
+/// Hears an APDU with each of these numbers at a place of its octets, and tells how many were executed and what came
+/// of the last.
+fn tell_each<A: Allocator + Copy>(
+    server: &mut Served<A>,
+    now: u64,
+    saying: &mut Saying,
+    place: usize,
+    numbers: (u8, u8),
+    told: &mut String,
+) -> Result<u32, Stop> {
+    let mut executed = 0u32;
+    for number in numbers.0..=numbers.1 {
+        if place < saying.octets.len() {
+            saying.octets[place] = number;
+        }
+        told.clear();
+        let is_executed = push_taken(server, now, Some(saying), told)?;
+        executed = executed.saturating_add(u32::from(is_executed));
     }
-    *input = Input::Says(*origin, Octets::from_vec(all));
-    Ok(())
+    Ok(executed)
+}
+
+/// The first and the last number of `0..63`.
+fn numbers(words: &str) -> Result<(u8, u8), Stop> {
+    match words.split_once("..") {
+        Some((first, last)) => Ok((small(first)?, small(last)?)),
+        None => Err(Stop::Unread(Part::Number)),
+    }
 }
 
 /// Runs an input for each number, and tells how many were executed and what came of the last.
@@ -150,19 +209,12 @@ fn run_each<A: Allocator + Copy>(
     wanted: &str,
 ) -> Result<Counts, Stop> {
     let (place, rest) = two_words(words);
-    let (numbers, rest) = two_words(rest);
-    let Some((first, last)) = numbers.split_once("..") else {
-        return Err(Stop::Unread(Part::Number));
-    };
-    let mut said = read_input(given.alloc, rest)?;
-    let mut executed = 0u32;
+    let (range, rest) = two_words(rest);
+    let place = small(place)? as usize;
+    let numbers = numbers(range)?;
+    let mut saying = read_saying(given.alloc, rest)?;
     let mut told = String::new(given.alloc);
-    for number in small(first)?..=small(last)? {
-        with_number(given.alloc, &mut said, small(place)? as usize, number)?;
-        let effects = take(server, now, &said)?;
-        executed = executed.saturating_add(u32::from(effects.told.is_some()));
-        told = in_words(given.alloc, &effects)?;
-    }
+    let executed = tell_each(server, now, &mut saying, place, numbers, &mut told)?;
     run_text(
         format!(in given.alloc; "{executed} executed, last {told}")?,
         wanted,
@@ -170,77 +222,82 @@ fn run_each<A: Allocator + Copy>(
 }
 
 /// Restarts the server, which takes no memory.
-fn run_restart<'a>(
-    given: Given<'a>,
-    server: &mut Opened<'a>,
+fn run_restart<A: Allocator + Copy>(
+    given: Given<'_>,
+    memory: A,
+    server: &mut Served<A>,
     now: u64,
     wanted: &str,
 ) -> Result<Counts, Stop> {
     if now > MAX_MOMENT_MS || now < server.moment() {
         return Err(Stop::Unread(Part::Number));
     }
-    let opening = executor(given.memory)?;
+    let opening = executor(memory)?;
     given.memory.refuse_all();
     server.restart(opening, now);
     given.memory.refuse_only(0);
-    run_text(String::from_str(given.alloc, "restarted")?, wanted)
-}
-
-/// Goes on with a copy, each allocation of which was refused in turn.
-fn run_copy<'a>(given: Given<'a>, server: &mut Opened<'a>, wanted: &str) -> Result<Counts, Stop> {
-    for refused in 0..MANY {
-        given.memory.refuse_only(refused.saturating_add(1));
-        let copy = server.copy();
-        let is_waiting = given.memory.is_waiting();
-        given.memory.refuse_only(0);
-        match copy {
-            Err(_) if !is_waiting => {}
-            Ok(copy) if is_waiting => {
-                *server = copy;
-                compare(String::from_str(given.alloc, "copied")?, wanted)?;
-                return Ok(Counts {
-                    rows: 1,
-                    refused,
-                    changed: 0,
-                });
-            }
-            _ => return Err(differs(given.alloc, "want of memory for another cause")),
-        }
-    }
-    Err(differs(given.alloc, "a copy that is refused memory again and again"))
+    run_word(given, "restarted", wanted)
 }
 
 /// What the objects reply to a request, in words.
+fn replied<A: Allocator + Copy>(
+    alloc: Global,
+    server: &Served<A>,
+    request: &Request<A>,
+) -> Result<String, Stop> {
+    let reply = server.executor().reply(request)?;
+    Ok(format!(in alloc; "{}", Words(&reply))?)
+}
+
+/// Runs a row of what the objects reply to a request.
 fn run_read<A: Allocator + Copy>(
     given: Given<'_>,
-    other: A,
+    memory: A,
     server: &Served<A>,
     request: &str,
     wanted: &str,
 ) -> Result<Counts, Stop> {
-    let request = request_in(other, request)?;
-    let reply = server.executor().reply(&request)?;
-    run_text(format!(in given.alloc; "{}", Words(&reply))?, wanted)
+    let request = request_in(memory, request)?;
+    run_text(replied(given.alloc, server, &request)?, wanted)
+}
+
+/// Runs a row of what happens to a server at this moment.
+fn run_moment<A: Allocator + Copy>(
+    given: Given<'_>,
+    memory: A,
+    server: &mut Served<A>,
+    now: u64,
+    words: &str,
+    wanted: &str,
+) -> Result<Counts, Stop> {
+    match two_words(words) {
+        ("restart", "") => run_restart(given, memory, server, now, wanted),
+        ("each", rest) => run_each(given, server, now, rest, wanted),
+        _ => try_input(given, server, now, &read_input(given.alloc, words)?, wanted),
+    }
 }
 
 /// Runs a row.
-pub(crate) fn run<'a>(
-    given: Given<'a>,
-    server: &mut Opened<'a>,
+pub(crate) fn run<A: Allocator + Copy>(
+    given: Given<'_>,
+    memory: A,
+    server: &mut Served<A>,
     asked: &str,
     wanted: &str,
 ) -> Result<Counts, Stop> {
     let (first, rest) = two_words(asked);
+    let now = server.moment();
     match first {
-        "read" => return run_read(given, given.other, server, rest, wanted),
-        "moment" => return run_text(format!(in given.alloc; "{}", server.moment())?, wanted),
-        "copy" => return run_copy(given, server, wanted),
-        _ => {}
-    }
-    let now = u64::from(number(first)?);
-    match two_words(rest) {
-        ("restart", "") => run_restart(given, server, now, wanted),
-        ("each", words) => run_each(given, server, now, words, wanted),
-        _ => try_input(given, server, now, &read_input(given.alloc, rest)?, wanted),
+        "read" => run_read(given, memory, server, rest, wanted),
+        "moment" => run_number(given, now, wanted),
+        "copy" => try_input(given, server, now, &Input::IsCopied, wanted),
+        _ => run_moment(
+            given,
+            memory,
+            server,
+            u64::from(number(first)?),
+            rest,
+            wanted,
+        ),
     }
 }

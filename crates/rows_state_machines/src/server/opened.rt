@@ -3,15 +3,12 @@
 use objects::{DataLink, SiteObject, SiteObjects, Table, ValueKind};
 use server_tsm::ServerTsm;
 use services::{MaxApdu, ObjectExecutor};
-use sheets::{Memory, Part, Stop};
-use std::alloc::Allocator;
+use sheets::{Part, Stop};
+use std::alloc::{AllocError, Allocator};
 use tags::{Items, Octets, Value};
 
 /// A server in memory of `A`.
 pub(crate) type Served<A> = ServerTsm<ObjectExecutor<A>, A>;
-
-/// The server of rows.
-pub(crate) type Opened<'a> = Served<Memory<'a>>;
 
 /// How many texts the device has.
 const TEXTS: u32 = 14;
@@ -19,39 +16,62 @@ const TEXTS: u32 = 14;
 /// How many octets a text has.
 const TEXT: usize = 128;
 
+/// An object without a description.
+fn object<A: Allocator + Copy>(
+    alloc: A,
+    kind: ValueKind,
+    instance: u32,
+    name: &[u8],
+    default: Value<A>,
+) -> Result<SiteObject<A>, AllocError> {
+    Ok(SiteObject {
+        kind,
+        instance,
+        name: Items::from_slice(alloc, name)?,
+        default,
+        description: Items::new(alloc),
+    })
+}
+
 /// A text of the device.
-fn text<A: Allocator + Copy>(alloc: A, instance: u32) -> Result<SiteObject<A>, Stop> {
+fn text<A: Allocator + Copy>(alloc: A, instance: u32) -> Result<SiteObject<A>, AllocError> {
     let name = [
         b't',
         b'0' + (instance / 10 % 10) as u8,
         b'0' + (instance % 10) as u8,
     ];
-    Ok(SiteObject {
-        kind: ValueKind::CharacterString,
+    let octets = Octets::from_slice(alloc, [b'a'; TEXT].as_slice())?;
+    object(
+        alloc,
+        ValueKind::CharacterString,
         instance,
-        name: Items::from_slice(alloc, name.as_slice())?,
-        default: Value::Text {
-            set: 0,
-            octets: Octets::from_slice(alloc, [b'a'; TEXT].as_slice())?,
-        },
-        description: Items::new(alloc),
-    })
+        name.as_slice(),
+        Value::Text { set: 0, octets },
+    )
 }
 
-/// An object that is no text.
-fn number<A: Allocator + Copy>(
-    alloc: A,
-    kind: ValueKind,
-    name: &[u8],
-    default: Value<A>,
-) -> Result<SiteObject<A>, Stop> {
-    Ok(SiteObject {
-        kind,
-        instance: 1,
-        name: Items::from_slice(alloc, name)?,
-        default,
-        description: Items::new(alloc),
-    })
+/// An object of the device: the two numbers, and behind them the texts.
+fn object_at<A: Allocator + Copy>(alloc: A, at: u32) -> Result<SiteObject<A>, AllocError> {
+    match at {
+        0 => object(alloc, ValueKind::Binary, 1, b"B1", Value::Enum(0)),
+        1 => object(
+            alloc,
+            ValueKind::Integer { units: 95 },
+            1,
+            b"I1",
+            Value::Signed(7),
+        ),
+        _ => text(alloc, at.saturating_sub(1)),
+    }
+}
+
+/// The objects of the device.
+fn objects<A: Allocator + Copy>(alloc: A) -> Result<Items<SiteObject<A>, A>, Stop> {
+    let mut objects = Items::new(alloc);
+    for at in 0..TEXTS + 2 {
+        objects.push(object_at(alloc, at)?)?;
+    }
+    Ok(objects)
 }
 
 /// What executes on the device's objects, as they open.
@@ -59,19 +79,12 @@ fn number<A: Allocator + Copy>(
 /// # Errors
 /// Want of memory.
 pub(crate) fn executor<A: Allocator + Copy>(alloc: A) -> Result<ObjectExecutor<A>, Stop> {
-    let mut objects = Items::new(alloc);
-    objects.push(number(alloc, ValueKind::Binary, b"B1", Value::Enum(0))?)?;
-    let integer = ValueKind::Integer { units: 95 };
-    objects.push(number(alloc, integer, b"I1", Value::Signed(7))?)?;
-    for instance in 1..=TEXTS {
-        objects.push(text(alloc, instance)?)?;
-    }
     let site = SiteObjects {
         name: Items::from_slice(alloc, b"d")?,
         instance: 10,
         vendor: 0,
         data_link: DataLink::BacnetIp,
-        objects,
+        objects: objects(alloc)?,
     };
     Ok(ObjectExecutor {
         table: Table::new(alloc, site)?,

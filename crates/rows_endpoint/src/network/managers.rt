@@ -302,8 +302,8 @@ fn manager_of<A: Allocator + Copy>(
     Ok(Bbmd::new(memory, own, members.as_slice(), managers.as_slice()))
 }
 
-/// Runs a row in this memory.
-fn run_in<A: Allocator + Copy>(
+/// Runs a row in this memory, that of `given`.
+pub(crate) fn run<A: Allocator + Copy>(
     given: Given<'_>,
     memory: A,
     asked: &str,
@@ -345,9 +345,4 @@ fn refuse_new<A: Allocator + Copy>(given: Given<'_>, memory: A, words: &str) -> 
         given.alloc,
         "a manager that is refused memory again and again",
     ))
-}
-
-/// Runs a row.
-pub(crate) fn run(given: Given<'_>, asked: &str, wanted: &str) -> Result<Counts, Stop> {
-    run_in(given, given.memory, asked, wanted)
 }

@@ -3,9 +3,10 @@
 //! devices that have registered there.
 
 use crate::network::addresses::{addresses, at_port, port, push_address};
+use crate::told::run_refused;
 use bbmd::{Bbmd, SiteTables, Subnet, spread};
 use bvll::Address;
-use sheets::{Counts, Given, Part, Stop, compare, differs};
+use sheets::{Counts, Given, Part, Stop, differs};
 use std::alloc::{AllocError, Allocator, Global};
 use tags::Items;
 
@@ -98,6 +99,20 @@ fn subnet<A: Allocator + Copy>(
     })
 }
 
+/// All subnets.
+fn subnets<A: Allocator + Copy>(
+    alloc: Global,
+    memory: A,
+    text: &str,
+    managers: &[Address],
+) -> Result<Items<Subnet<A>, A>, Stop> {
+    let mut subnets = Items::new(memory);
+    for words in text.split(" | ") {
+        subnets.push(subnet(alloc, memory, words_of(words), managers)?)?;
+    }
+    Ok(subnets)
+}
+
 /// Tables at the moment 0.
 fn tables<A: Allocator + Copy>(
     alloc: Global,
@@ -105,11 +120,10 @@ fn tables<A: Allocator + Copy>(
     text: &str,
 ) -> Result<SiteTables<A>, Stop> {
     let managers = managers(alloc, text)?;
-    let mut subnets = Items::new(memory);
-    for words in text.split(" | ") {
-        subnets.push(subnet(alloc, memory, words_of(words), managers.as_slice())?)?;
-    }
-    Ok(SiteTables { moment: 0, subnets })
+    Ok(SiteTables {
+        moment: 0,
+        subnets: subnets(alloc, memory, text, managers.as_slice())?,
+    })
 }
 
 /// Who hears, in words.
@@ -126,8 +140,46 @@ fn push_all(all: &[Address], out: &mut String) -> Result<(), AllocError> {
     Ok(())
 }
 
-/// Runs a row in this memory: as it stands, and with each allocation of the call refused in turn.
-fn run_in<A: Allocator + Copy>(
+/// Who hears a broadcast of this origin, in words.
+fn heard<A: Allocator + Copy>(
+    alloc: Global,
+    memory: A,
+    tables: &SiteTables<A>,
+    origin: Address,
+) -> Result<String, Stop> {
+    let all = spread(memory, tables, origin)?;
+    let mut found = String::new(alloc);
+    push_all(all.as_slice(), &mut found)?;
+    Ok(found)
+}
+
+/// Spreads a broadcast with each allocation of the call refused in turn, until none is.
+fn try_spread<A: Allocator + Copy>(
+    given: Given<'_>,
+    memory: A,
+    tables: &SiteTables<A>,
+    origin: Address,
+    wanted: &str,
+) -> Result<Counts, Stop> {
+    for refused in 0..MANY {
+        given.memory.refuse_only(refused + 1);
+        let came = heard(given.alloc, memory, tables, origin);
+        let is_met = !given.memory.is_waiting();
+        given.memory.refuse_only(0);
+        match came {
+            Err(Stop::Memory) if is_met => {}
+            Ok(found) if !is_met => return run_refused(found, refused, wanted),
+            _ => return Err(differs(
+                given.alloc,
+                "want of memory where there was enough, or the reverse",
+            )),
+        }
+    }
+    Err(differs(given.alloc, "a call that is refused memory again and again"))
+}
+
+/// Runs a row in this memory, that of `given`.
+pub(crate) fn run<A: Allocator + Copy>(
     given: Given<'_>,
     memory: A,
     asked: &str,
@@ -138,33 +190,5 @@ fn run_in<A: Allocator + Copy>(
     };
     let origin = at_port(port(origin)?);
     let tables = tables(given.alloc, memory, subnets)?;
-    for refused in 0..MANY {
-        given.memory.refuse_only(refused + 1);
-        let came = spread(memory, &tables, origin);
-        let is_met = !given.memory.is_waiting();
-        given.memory.refuse_only(0);
-        match came {
-            Err(AllocError) if is_met => {}
-            Ok(all) if !is_met => {
-                let mut found = String::new(given.alloc);
-                push_all(all.as_slice(), &mut found)?;
-                compare(found, wanted)?;
-                return Ok(Counts {
-                    rows: 1,
-                    refused,
-                    changed: 0,
-                });
-            }
-            _ => return Err(differs(
-                given.alloc,
-                "want of memory where there was enough, or the reverse",
-            )),
-        }
-    }
-    Err(differs(given.alloc, "a call that is refused memory again and again"))
-}
-
-/// Runs a row.
-pub(crate) fn run(given: Given<'_>, asked: &str, wanted: &str) -> Result<Counts, Stop> {
-    run_in(given, given.memory, asked, wanted)
+    try_spread(given, memory, &tables, origin, wanted)
 }
