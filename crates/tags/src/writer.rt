@@ -1,6 +1,6 @@
 //! Writing tags and values at the end of a buffer, in their shortest form (20.2).
 
-ghost use Rattle.std.specs.Prelude.{◌≡◌, ◌<◌, ◌≤◌, ◌^◌, ◌++◌, ◌∷◌, OnOk, OnErr, IfErr, IsOk, IsErr, length, take};
+ghost use Rattle.std.specs.Prelude.{◌≡◌, ◌<◌, ◌≤◌, ◌^◌, ◌++◌, ◌∷◌, [], OnOk, OnErr, IfErr, IsOk, IsErr, length, take};
 ghost use Rattle.byteorder.specs.Endian.{big_bytes};
 ghost use Rattle.tags.specs.Tag.{initial_octets, plain_content, HasContents};
 ghost use Rattle.tags.specs.Number.{unsigned_octets, signed_octets, object_octets, IsSoundObject};
@@ -110,6 +110,15 @@ pub fn write_object<B: Allocator>(
     all_or_none(put, start, out)
 }
 
+/// Appends an octet.
+#[inline(always)]
+fn put_octet<B: Allocator>(octet: u8, out: &mut Vec<u8, B>) -> Result<(), AllocError>
+    ensures put { OnOk result (out.new.items ≡ out.old.items ++ octet ∷ []) }
+    ensures err { OnErr result (out.new.items ≡ out.old.items) }
+{
+    Ok(out.push(octet)?)
+}
+
 fn put_value<A: Allocator, B: Allocator>(
     value: &Value<A>,
     out: &mut Vec<u8, B>,
@@ -120,18 +129,17 @@ fn put_value<A: Allocator, B: Allocator>(
 {
     let class = Class::Application;
     match value {
-        Value::Null => out.push(0)?,
-        Value::Bool(value) => out.push(if *value { 17 } else { 16 })?,
-        Value::Unsigned(number) => put_unsigned(class, 2, *number, out)?,
-        Value::Signed(number) => put_signed(*number, out)?,
-        Value::Text { set, octets } => put_behind(7, *set, octets.as_slice(), out)?,
-        Value::Bits { unused, octets } => put_behind(8, *unused, octets.as_slice(), out)?,
-        Value::Enum(number) => put_unsigned(class, 9, *number, out)?,
-        Value::Object(object) => put_object(class, 12, *object, out)?,
-        Value::Other { tag, octets } => put_tagged(class, *tag, octets.as_slice(), out)?,
-        Value::Built(octets) => out.extend_from_slice(octets.as_slice())?,
+        Value::Null => put_octet(0, out),
+        Value::Bool(value) => put_octet(if *value { 17 } else { 16 }, out),
+        Value::Unsigned(number) => put_unsigned(class, 2, *number, out),
+        Value::Signed(number) => put_signed(*number, out),
+        Value::Text { set, octets } => put_behind(7, *set, octets.as_slice(), out),
+        Value::Bits { unused, octets } => put_behind(8, *unused, octets.as_slice(), out),
+        Value::Enum(number) => put_unsigned(class, 9, *number, out),
+        Value::Object(object) => put_object(class, 12, *object, out),
+        Value::Other { tag, octets } => put_tagged(class, *tag, octets.as_slice(), out),
+        Value::Built(octets) => out.extend_from_slice(octets.as_slice()),
     }
-    Ok(())
 }
 
 fn put_tag<B: Allocator>(tag: &Tag<'_>, out: &mut Vec<u8, B>) -> Result<(), AllocError>
@@ -141,13 +149,12 @@ fn put_tag<B: Allocator>(tag: &Tag<'_>, out: &mut Vec<u8, B>) -> Result<(), Allo
     ensures err { OnErr result (Extends out.old.items out.new.items) }
 {
     match tag.content {
-        Content::Null => out.push(0)?,
-        Content::Boolean(value) => out.push(if value { 17 } else { 16 })?,
-        Content::Octets(octets) => put_tagged(tag.class, tag.number, octets, out)?,
-        Content::Opening => put_initial(Class::Context, tag.number, 6, out)?,
-        Content::Closing => put_initial(Class::Context, tag.number, 7, out)?,
+        Content::Null => put_octet(0, out),
+        Content::Boolean(value) => put_octet(if value { 17 } else { 16 }, out),
+        Content::Octets(octets) => put_tagged(tag.class, tag.number, octets, out),
+        Content::Opening => put_initial(Class::Context, tag.number, 6, out),
+        Content::Closing => put_initial(Class::Context, tag.number, 7, out),
     }
-    Ok(())
 }
 
 #[inline(always)]
@@ -166,12 +173,10 @@ fn put_initial<B: Allocator>(
         Class::Context => 8,
     };
     if number < 15 {
-        out.push(16 * number + bit + low)?;
-    } else {
-        out.push(16 * 15 + bit + low)?;
-        out.push(number)?;
+        return put_octet(16 * number + bit + low, out);
     }
-    Ok(())
+    put_octet(16 * 15 + bit + low, out)?;
+    put_octet(number, out)
 }
 
 #[tactic(auto, unfolding(crate::specs::Canonical::shortest))]
@@ -191,15 +196,14 @@ fn put_front<B: Allocator>(
     }
     put_initial(class, number, 5, out)?;
     if len < 254 {
-        out.push(len as u8)?;
-    } else if len < 65536 {
-        out.push(254)?;
-        out.extend_from_slice(&(len as u16).to_be_bytes())?;
-    } else {
-        out.push(255)?;
-        out.extend_from_slice(&(len as u32).to_be_bytes())?;
+        return put_octet(len as u8, out);
     }
-    Ok(())
+    if len < 65536 {
+        put_octet(254, out)?;
+        return out.extend_from_slice(&(len as u16).to_be_bytes());
+    }
+    put_octet(255, out)?;
+    out.extend_from_slice(&(len as u32).to_be_bytes())
 }
 
 fn put_tagged<B: Allocator>(
@@ -228,7 +232,7 @@ fn put_behind<B: Allocator>(
     ensures err { OnErr result (Extends out.old.items out.new.items) }
 {
     put_front(Class::Application, number, octets.len() + 1, out)?;
-    out.push(first)?;
+    put_octet(first, out)?;
     out.extend_from_slice(octets)
 }
 
