@@ -6,9 +6,7 @@ ghost use Rattle.std.specs.Prelude.{◌<◌};
 ghost use Rattle.apdu.specs.Sizes.{apdu_code};
 
 use crate::input::{Input, TakesInputs, read_input, run_copy, try_input};
-use crate::told::{
-    push_mark, push_parcel, push_parcels, push_reply, run_number, run_word, told_or_nothing,
-};
+use crate::told::{push_parcel, push_parcels, push_reply, told_or_nothing};
 use client::{Binding, Client, Told};
 use client_tsm::Outcome;
 use npdu::{Mac, Parcel, Station, Target};
@@ -16,7 +14,8 @@ use objects::Request;
 use segments::numbers::MAX_MOMENT_MS;
 use services::{MaxApdu, Segmentation};
 use sheets::{
-    Counts, Given, Part, Stop, number, push_octets, refusal, request_in, run_text, two_words,
+    Counts, Given, Part, Stop, number, push_mark, push_octets, refusal, request_in, run_number,
+    run_text, run_word, two_words,
 };
 use std::alloc::{AllocError, Allocator, Global};
 use tags::{Fault, Octets};
@@ -52,7 +51,7 @@ fn push_outcome<A: Allocator>(
     told: &client_tsm::Told<A>,
     out: &mut String,
 ) -> Result<(), AllocError> {
-    push_mark(out)?;
+    push_mark(", ", out)?;
     write!(out, "tell {} ", told.invoke_id)?;
     match &told.outcome {
         Outcome::Answered(reply) => push_reply(reply, out),

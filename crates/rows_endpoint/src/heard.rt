@@ -3,12 +3,15 @@
 
 use crate::input::{Input, TakesInputs, read_input, run_copy, try_input};
 use crate::opened::table;
-use crate::told::{push_mark, push_parcels, push_reply, run_number, run_word, told_or_nothing};
+use crate::told::{push_parcels, push_reply, told_or_nothing};
 use device::{Device, Told};
 use npdu::Mac;
 use objects::Request;
 use segments::numbers::MAX_MOMENT_MS;
-use sheets::{Counts, Given, Part, Stop, number, request_in, run_text, two_words};
+use sheets::{
+    Counts, Given, Part, Stop, number, push_mark, request_in, run_number, run_text, run_word,
+    two_words,
+};
 use std::alloc::{AllocError, Allocator, Global};
 
 /// The address of the device on BACnet/IP, to which what is for it alone is sent.
@@ -48,7 +51,7 @@ fn push_executed<A: Allocator + Copy>(told: &Told<A>, out: &mut String) -> Resul
     let Some(executed) = &told.executed else {
         return Ok(());
     };
-    push_mark(out)?;
+    push_mark(", ", out)?;
     out.push_str("executed ")?;
     push_reply(&executed.reply, out)
 }

@@ -3,11 +3,12 @@
 //! Of a client also `MOMENT issue INSTANCE REQUEST` and `MOMENT who-is`, or `MOMENT who-is LOW HIGH`. Each allocation
 //! of an input is refused in turn: the same input then comes again.
 
-use crate::told::run_refused;
 use npdu::{Mac, Parcel, Target};
 use objects::Request;
 use services::Limits;
-use sheets::{Counts, Given, Part, Stop, differs, number, octets, request_in, two_words};
+use sheets::{
+    Counts, Given, Part, Stop, differs, number, octets, request_in, run_refused, two_words,
+};
 use std::alloc::{AllocError, Allocator, Global};
 
 /// How many runs have an allocation refused at most.

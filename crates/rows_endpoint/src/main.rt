@@ -19,7 +19,7 @@ mod told;
 use client::Client;
 use device::Device;
 use network::{managers, spreading};
-use sheets::{Bench, Counts, Given, Part, Report, Row, Stop, two_words};
+use sheets::{Bench, Counts, Given, Part, Report, Row, Stop, run_word, two_words};
 use std::alloc::{AllocError, Allocator};
 use std::io;
 
@@ -95,7 +95,7 @@ fn run_station<A: Allocator + Copy>(
 ) -> Result<Counts, Stop> {
     if let ("open", word) = two_words(asked) {
         *opened = open(memory, name, word)?;
-        return told::run_word(given, "opened", wanted);
+        return run_word(given, "opened", wanted);
     }
     run_opened(given, memory, opened, asked, wanted)
 }

@@ -4,24 +4,13 @@
 
 use npdu::{Mac, Parcel, Target};
 use objects::Reply;
-use sheets::{Counts, Given, Stop, compare, differs, push_octets, run_text};
+use sheets::{Stop, differs, push_mark, push_octets};
 use std::alloc::{AllocError, Allocator, Global};
 use tags::Items;
 use words::Words;
 
 /// How many octets of an NPDU are told at most.
 const FEW: usize = 40;
-
-/// Appends what parts two things that come of one input.
-///
-/// # Errors
-/// Want of memory.
-pub(crate) fn push_mark(out: &mut String) -> Result<(), AllocError> {
-    if out.is_empty() {
-        return Ok(());
-    }
-    out.push_str(", ")
-}
 
 /// Appends the octets of an NPDU in words.
 fn push_npdu(octets: &[u8], out: &mut String) -> Result<(), AllocError> {
@@ -67,7 +56,7 @@ pub(crate) fn push_parcels<A: Allocator>(
     out: &mut String,
 ) -> Result<(), Stop> {
     for parcel in said.as_slice() {
-        push_mark(out)?;
+        push_mark(", ", out)?;
         push_parcel(alloc, from, now, parcel, out)?;
     }
     Ok(())
@@ -96,33 +85,4 @@ pub(crate) fn told_or_nothing(mut out: String) -> Result<String, Stop> {
         out.push('-')?;
     }
     Ok(out)
-}
-
-/// A row that told this word.
-///
-/// # Errors
-/// `Differs` where another is wanted.
-pub(crate) fn run_word(given: Given<'_>, word: &str, wanted: &str) -> Result<Counts, Stop> {
-    run_text(String::from_str(given.alloc, word)?, wanted)
-}
-
-/// A row that told this number.
-///
-/// # Errors
-/// `Differs` where another is wanted.
-pub(crate) fn run_number(given: Given<'_>, number: u64, wanted: &str) -> Result<Counts, Stop> {
-    run_text(format!(in given.alloc; "{number}")?, wanted)
-}
-
-/// A row that told this, where as many allocations were refused.
-///
-/// # Errors
-/// `Differs` where other words are wanted.
-pub(crate) fn run_refused(found: String, refused: u64, wanted: &str) -> Result<Counts, Stop> {
-    compare(found, wanted)?;
-    Ok(Counts {
-        rows: 1,
-        refused,
-        changed: 0,
-    })
 }

@@ -7,8 +7,8 @@ use apdu::{
 };
 use primitives::{ErrorClass, ErrorCode};
 use sheets::{
-    Counts, Given, Part, Stop, Trial, buffer, differs, octets, push_written, run_octets, run_text,
-    written_octets,
+    Counts, Given, Part, Stop, Trial, buffer, differs, octets, push_mark, run_octets, run_text,
+    with_written,
 };
 use std::alloc::{AllocError, Global};
 use tags::{Fault, Reader};
@@ -22,15 +22,10 @@ impl<'a> Trial<'a> for ClassAndCode {
         let Some((class, code)) = class_and_code_from(&mut Reader::new(octets)) else {
             return Ok(String::from_str(given.alloc, "none")?);
         };
-        let mut text = format!(in given.alloc; "{class:?} {code:?}")?;
+        let text = format!(in given.alloc; "{class:?} {code:?}")?;
         let mut out = buffer(given)?;
         let came = write_class_and_code(class, code, &mut out);
-        push_written(
-            octets,
-            written_octets(given, came, out.as_slice())?,
-            &mut text,
-        )?;
-        Ok(text)
+        with_written(given, octets, came, out.as_slice(), text)
     }
 }
 
@@ -42,18 +37,13 @@ impl<'a> Trial<'a> for WhoIses {
         let Some(who_is) = who_is_from(octets) else {
             return Ok(String::from_str(given.alloc, "none")?);
         };
-        let mut text = match who_is.limits {
+        let text = match who_is.limits {
             Some(limits) => format!(in given.alloc; "{} to {}", limits.low, limits.high)?,
             None => String::from_str(given.alloc, "all")?,
         };
         let mut out = buffer(given)?;
         let came = write_who_is(&who_is, &mut out);
-        push_written(
-            octets,
-            written_octets(given, came, out.as_slice())?,
-            &mut text,
-        )?;
-        Ok(text)
+        with_written(given, octets, came, out.as_slice(), text)
     }
 }
 
@@ -72,12 +62,7 @@ impl<'a> Trial<'a> for IAms {
         push_i_am(&i_am, &mut text)?;
         let mut out = buffer(given)?;
         let came = write_i_am(&i_am, &mut out);
-        push_written(
-            octets,
-            written_octets(given, came, out.as_slice())?,
-            &mut text,
-        )?;
-        Ok(text)
+        with_written(given, octets, came, out.as_slice(), text)
     }
 }
 
@@ -126,9 +111,7 @@ fn cuts(alloc: Global, word: &str) -> Result<String, Stop> {
 
 /// Appends what became of so many prefixes.
 fn push_cut(fault: Option<Fault>, count: u64, out: &mut String) -> Result<(), AllocError> {
-    if !out.is_empty() {
-        out.push(' ')?;
-    }
+    push_mark(" ", out)?;
     match fault {
         Some(fault) => write!(out, "{fault}*{count}"),
         None => write!(out, "read*{count}"),

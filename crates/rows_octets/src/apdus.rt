@@ -4,8 +4,7 @@
 use apdu::{Apdu, Segment, ServiceError};
 use primitives::PropertyReference;
 use sheets::{
-    Counts, Given, Stop, Trial, buffer, differs, push_octets, push_written, refusal, run_octets,
-    written_octets,
+    Counts, Given, Stop, Trial, buffer, differs, push_octets, refusal, run_octets, with_written,
 };
 use std::alloc::AllocError;
 use words::Words;
@@ -26,12 +25,7 @@ impl<'a> Trial<'a> for Apdus {
         push_apdu(&apdu, &mut text)?;
         let mut out = buffer(given)?;
         let came = apdu.write(&mut out);
-        push_written(
-            octets,
-            written_octets(given, came, out.as_slice())?,
-            &mut text,
-        )?;
-        Ok(text)
+        with_written(given, octets, came, out.as_slice(), text)
     }
 }
 

@@ -1,6 +1,6 @@
 //! Datagrams of the virtual link layer (Annex J), as `RegisterForeignDevice ttl 60`, and written again.
 
-use bvll::{Address, Bvll, DistributionEntry, ForeignDevice, Table};
+use bvll::{Address, Bvll, DistributionEntry, Entry, ForeignDevice, Table};
 use sheets::{
     Counts, Given, Part, Stop, Trial, buffer, differs, octets, push_octets, push_written, refusal,
     run_octets, run_text, written_octets,
@@ -21,22 +21,20 @@ impl<'a> Trial<'a> for Datagrams {
         push_again(given, octets, &datagram, &mut text)?;
         match &datagram {
             Bvll::WriteBroadcastDistributionTable(table) => {
-                let entries = peers(given.alloc, table)?;
-                let list = Bvll::WriteBroadcastDistributionTable(Table::Entries(
-                    entries.as_slice(),
-                ));
+                let listed = entries(given.alloc, table)?;
+                let list = Bvll::WriteBroadcastDistributionTable(Table::Entries(listed.as_slice()));
                 push_again(given, octets, &list, &mut text)?;
             }
             Bvll::ReadBroadcastDistributionTableAck(table) => {
-                let entries = peers(given.alloc, table)?;
+                let listed = entries(given.alloc, table)?;
                 let list = Bvll::ReadBroadcastDistributionTableAck(Table::Entries(
-                    entries.as_slice(),
+                    listed.as_slice(),
                 ));
                 push_again(given, octets, &list, &mut text)?;
             }
             Bvll::ReadForeignDeviceTableAck(table) => {
-                let entries = devices(given.alloc, table)?;
-                let list = Bvll::ReadForeignDeviceTableAck(Table::Entries(entries.as_slice()));
+                let listed = entries(given.alloc, table)?;
+                let list = Bvll::ReadForeignDeviceTableAck(Table::Entries(listed.as_slice()));
                 push_again(given, octets, &list, &mut text)?;
             }
             _ => {}
@@ -61,26 +59,8 @@ fn push_again(
     Ok(())
 }
 
-/// The entries of a distribution table, one by one.
-fn peers(
-    alloc: Global,
-    table: &Table<'_, DistributionEntry>,
-) -> Result<Vec<DistributionEntry>, Stop> {
-    let mut entries = Vec::new(alloc);
-    for entry in table.iter() {
-        if table.get(entries.len()) != Some(entry) {
-            return Err(differs(alloc, "another entry at its index"));
-        }
-        entries.push(entry)?;
-    }
-    if table.len() != entries.len() || table.get(entries.len()).is_some() {
-        return Err(differs(alloc, "another number of entries"));
-    }
-    Ok(entries)
-}
-
-/// The entries of a foreign device table, one by one.
-fn devices(alloc: Global, table: &Table<'_, ForeignDevice>) -> Result<Vec<ForeignDevice>, Stop> {
+/// The entries of a table, one by one.
+fn entries<E: Entry + PartialEq>(alloc: Global, table: &Table<'_, E>) -> Result<Vec<E>, Stop> {
     let mut entries = Vec::new(alloc);
     for entry in table.iter() {
         if table.get(entries.len()) != Some(entry) {

@@ -9,8 +9,8 @@
 
 use mstp_frame::{Deframer, Frame, FrameType, data_check, header_check, write_frame};
 use sheets::{
-    Counts, Given, Part, Stop, Trial, buffer, compare, differs, octets, octets_in_words,
-    push_octets, run_octets, run_text, run_trial, small, two_words, written_octets,
+    Counts, Given, Part, Stop, Trial, buffer, compare, differs, octets, octets_in_words, push_mark,
+    push_octets, run_octets, run_text, small, two_words, written_octets,
 };
 use std::alloc::{AllocError, Global};
 
@@ -84,9 +84,7 @@ impl Ear {
 
 /// Appends a frame in words.
 fn push_frame(frame: &Frame<'_>, out: &mut String) -> Result<(), AllocError> {
-    if !out.is_empty() {
-        out.push_str(", ")?;
-    }
+    push_mark(", ", out)?;
     write!(
         out,
         "{:?} to {} from {}",
@@ -99,24 +97,28 @@ fn push_frame(frame: &Frame<'_>, out: &mut String) -> Result<(), AllocError> {
     push_octets(frame.data, out)
 }
 
+/// What is heard of octets in these pieces.
+fn heard(alloc: Global, pieces: &[&[u8]]) -> Result<String, Stop> {
+    let mut ear = Ear::new(alloc);
+    for piece in pieces {
+        ear.hear(piece)?;
+    }
+    Ok(ear.told()?)
+}
+
 /// A stream, cut in every way.
 struct Streams;
 
 impl<'a> Trial<'a> for Streams {
     fn answer(&self, given: Given<'a>, octets: &[u8]) -> Result<String, Stop> {
-        let mut ear = Ear::new(given.alloc);
-        ear.hear(octets)?;
-        let told = ear.told()?;
+        let told = heard(given.alloc, &[octets])?;
         let mut each = Ear::new(given.alloc);
         each.hear_each(octets)?;
         compare(each.told()?, told.as_str())?;
         if octets.len() <= LONGEST {
             for at in 0..octets.len() {
                 let (first, last) = octets.split_at(at);
-                let mut cut = Ear::new(given.alloc);
-                cut.hear(first)?;
-                cut.hear(last)?;
-                compare(cut.told()?, told.as_str())?;
+                compare(heard(given.alloc, &[first, last])?, told.as_str())?;
             }
         }
         Ok(told)
@@ -146,9 +148,7 @@ fn run_silence(alloc: Global, word: &str, wanted: &str) -> Result<Counts, Stop> 
         ear.hear(last)?;
         compare(ear.told()?, "-")?;
     }
-    let mut ear = Ear::new(alloc);
-    ear.hear(octets.as_slice())?;
-    run_text(ear.told()?, wanted)
+    run_text(heard(alloc, &[octets.as_slice()])?, wanted)
 }
 
 /// A frame that is written, and heard again.
@@ -175,9 +175,7 @@ impl<'a> Trial<'a> for Written {
         let written = written_octets(given, came, out.as_slice())?;
         let mut asked = String::new(given.alloc);
         push_frame(&frame, &mut asked)?;
-        let mut ear = Ear::new(given.alloc);
-        ear.hear(written)?;
-        compare(ear.told()?, asked.as_str())?;
+        compare(heard(given.alloc, &[written])?, asked.as_str())?;
         Ok(octets_in_words(given.alloc, written)?)
     }
 }

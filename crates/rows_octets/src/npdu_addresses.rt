@@ -4,11 +4,11 @@
 
 use npdu::{Mac, Parcel, Rejected, Target};
 use sheets::{
-    Counts, Given, Part, Stop, Trial, buffer, differs, octets, push_octets, push_written,
-    run_octets, try_row, written_octets,
+    Counts, Given, Part, Stop, Trial, buffer, differs, octets, push_octets, run_octets, try_row,
+    with_written,
 };
 use std::alloc::Global;
-use tags::{Fault, Items};
+use tags::Fault;
 use words::parse_number;
 
 /// Octets that are an address, or none.
@@ -33,12 +33,10 @@ impl<'a> Trial<'a> for Refusals {
         let Some(rejected) = Rejected::read(octets) else {
             return Ok(String::from_str(given.alloc, "none")?);
         };
-        let mut text = format!(in given.alloc; "{:?} {}", rejected.reason, rejected.net)?;
+        let text = format!(in given.alloc; "{:?} {}", rejected.reason, rejected.net)?;
         let mut out = buffer(given)?;
         let came = rejected.write(&mut out).map_err(Fault::from);
-        let again = written_octets(given, came, out.as_slice())?;
-        push_written(octets, again, &mut text)?;
-        Ok(text)
+        with_written(given, octets, came, out.as_slice(), text)
     }
 }
 

@@ -2,8 +2,7 @@
 
 use npdu::{Destination, Dnet, Message, Source, View};
 use sheets::{
-    Counts, Given, Stop, Trial, buffer, differs, push_octets, push_written, refusal, run_octets,
-    written_octets,
+    Counts, Given, Stop, Trial, buffer, differs, push_octets, refusal, run_octets, with_written,
 };
 use std::alloc::AllocError;
 
@@ -23,9 +22,7 @@ impl<'a> Trial<'a> for Headers {
         push_header(&view, &mut text)?;
         let mut out = buffer(given)?;
         let came = npdu::write(&view, &mut out);
-        let again = written_octets(given, came, out.as_slice())?;
-        push_written(octets, again, &mut text)?;
-        Ok(text)
+        with_written(given, octets, came, out.as_slice(), text)
     }
 }
 

@@ -6,8 +6,8 @@ ghost use Rattle.tags.specs.Canonical.{IsSoundTag};
 ghost use Rattle.tags.specs.Tag.{plain_content};
 
 use sheets::{
-    Counts, Given, Part, Stop, Trial, buffer, differs, octets, octets_in_words, push_octets,
-    push_written, refusal, run_octets, run_text, try_row, two_words, written_octets,
+    Counts, Given, Part, Stop, Trial, buffer, differs, octets, octets_in_words, push_mark,
+    push_octets, push_written, refusal, run_octets, run_text, try_row, two_words, written_octets,
 };
 use std::alloc::{AllocError, Global};
 use tags::{
@@ -31,7 +31,7 @@ impl<'a> Trial<'a> for Tags {
                 }
                 Ok(None) => break,
                 Err(fault) => {
-                    push_comma(&mut text)?;
+                    push_mark(", ", &mut text)?;
                     text.push_str(refusal(given.alloc, fault)?.as_str())?;
                     return Ok(text);
                 }
@@ -45,17 +45,9 @@ impl<'a> Trial<'a> for Tags {
     }
 }
 
-/// Appends what parts a tag from the one before.
-fn push_comma(text: &mut String) -> Result<(), AllocError> {
-    if text.is_empty() {
-        return Ok(());
-    }
-    text.push_str(", ")
-}
-
 /// Appends a tag in words.
 fn push_tag(tag: &Tag<'_>, text: &mut String) -> Result<(), AllocError> {
-    push_comma(text)?;
+    push_mark(", ", text)?;
     let class = match tag.class {
         Class::Application => "application",
         Class::Context => "context",

@@ -3,12 +3,12 @@
 //! it; `copy REQUEST | READ -> REPLY` is the same on a copy, and leaves the executor as it is. With `bare` in
 //! front a reply is given, or a request runs, while each allocation is refused.
 
-use crate::said::{reply_in_words, run_word};
+use crate::said::reply_in_words;
 use objects::{DataLink, Request, SiteObject, SiteObjects, Table, ValueKind};
 use services::{Executor, ObjectExecutor};
 use sheets::{
-    Counts, Given, Part, Report, Row, Stop, Trial, compare, differs, request_in, run_text, try_row,
-    two_words,
+    Counts, Given, Part, Report, Row, Stop, Trial, compare, differs, request_in, run_text,
+    run_word, try_row, two_words,
 };
 use std::alloc::{AllocError, Allocator};
 use tags::Items;
@@ -87,7 +87,7 @@ fn run_row<A: Allocator + Copy, E: Executor<A> + Opens<A> + Drop>(
     let (verb, rest) = two_words(row.asked);
     if verb == "device" {
         *opened = Some(E::open(memory, rest)?);
-        return run_word(given.alloc, "opened", wanted);
+        return run_word(given, "opened", wanted);
     }
     match opened {
         Some(executor) => run_asked(given, other, executor, (verb, rest), wanted),
@@ -320,7 +320,7 @@ fn run_bare_run<A: Allocator + Copy, E: Executor<A>>(
     let is_done = ran(given, other, executor, request);
     given.memory.refuse_only(0);
     match is_done? {
-        true => run_word(given.alloc, "done", wanted),
+        true => run_word(given, "done", wanted),
         false => Err(Stop::Memory),
     }
 }

@@ -3,7 +3,7 @@
 use crate::said::octets_of;
 use console::{Builtin, respond};
 use npdu::Mac;
-use sheets::{Counts, Given, Report, Row, Stop, compare, differs};
+use sheets::{Counts, Given, Report, Row, Stop, compare, differs, push_mark};
 use std::alloc::{AllocError, Allocator, Global};
 use tags::{Fault, Items, Octets};
 
@@ -151,9 +151,7 @@ fn in_words<A: Allocator>(alloc: Global, said: &Items<Octets<A>, A>) -> Result<S
     }
     let mut words = String::new(alloc);
     for datagram in said.as_slice() {
-        if !words.is_empty() {
-            words.push_str(" /")?;
-        }
+        push_mark(" /", &mut words)?;
         push_pairs(datagram.as_slice(), &mut words)?;
     }
     Ok(words)
@@ -162,9 +160,7 @@ fn in_words<A: Allocator>(alloc: Global, said: &Items<Octets<A>, A>) -> Result<S
 /// Appends octets as pairs of digits, with a space between them.
 fn push_pairs(octets: &[u8], words: &mut String) -> Result<(), AllocError> {
     for octet in octets {
-        if !words.is_empty() {
-            words.push(' ')?;
-        }
+        push_mark(" ", words)?;
         write!(words, "{octet:02X}")?;
     }
     Ok(())

@@ -1,7 +1,7 @@
 //! What was printed, requests and replies, all in words, and words as a command line has them.
 
 use objects::{Reply, Request};
-use sheets::{Counts, Stop, differs, number, octets, run_text};
+use sheets::{Stop, differs, number, octets};
 use std::alloc::{AllocError, Allocator, Global};
 use words::Words;
 
@@ -115,14 +115,6 @@ pub(crate) fn reply_in_words<A: Allocator>(
     reply: &Reply<A>,
 ) -> Result<String, Stop> {
     Ok(format!(in alloc; "{}", Words(reply))?)
-}
-
-/// Runs a row that told this word.
-///
-/// # Errors
-/// `Differs` where another is wanted, and `Memory`.
-pub(crate) fn run_word(alloc: Global, word: &str, wanted: &str) -> Result<Counts, Stop> {
-    run_text(String::from_str(alloc, word)?, wanted)
 }
 
 /// What stands behind `bare`, and whether that stands in front.

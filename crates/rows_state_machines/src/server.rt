@@ -8,10 +8,9 @@ mod heard;
 mod opened;
 mod told;
 
-use crate::telling::run_word;
 pub(crate) use opened::Served;
 use opened::open;
-use sheets::{Counts, Given, Part, Stop, two_words};
+use sheets::{Counts, Given, Part, Stop, run_word, two_words};
 use std::alloc::Allocator;
 
 /// Runs a row on the server that a row opened last.

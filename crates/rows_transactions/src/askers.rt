@@ -1,10 +1,9 @@
 //! Who asks, in words: `1:C0A8010ABAC0/7` is the invoke ID 7 of the station with these octets of address on
 //! network 1, and `1:05/0..63` are 64 of another's.
 
-use crate::asked::first_and_last;
 use npdu::{Mac, Station};
 use remembered::Asker;
-use sheets::{Part, Stop, octets, push_octets};
+use sheets::{Part, Stop, first_and_last, octets, push_octets};
 use std::alloc::{AllocError, Global};
 use words::parse_number;
 

@@ -4,9 +4,9 @@
 //! says, the last of the body with a dot. Of `?/4` each number is told that counts, with what is done on it,
 //! and the sender is left as it is.
 
-use crate::asked::{body, head_and_words, length, push_mark};
+use crate::asked::{body, head_and_words, length};
 use segments::{Sender, Turn};
-use sheets::{Counts, Given, Part, Stop, number, run_text, small, two_words};
+use sheets::{Counts, Given, Part, Stop, number, push_mark, run_text, small, two_words};
 use std::alloc::{AllocError, Global};
 
 /// What a SegmentACK has beside its number.

@@ -4,11 +4,12 @@
 //! the last is told. Told are `ack` and `nak` with their numbers, `-` where a segment is taken and nothing is
 //! due, `drop`, `full`, and at the end the whole. Each octet of a segment is its number.
 
-use crate::asked::{first_and_last, head_and_words, push_mark, run_number};
+use crate::asked::head_and_words;
 use crate::devices::Run;
 use segments::{Receiver, Step, granted_window};
 use sheets::{
-    Counts, Given, Stop, Trial, differs, number, push_octets, refused_memory, small, try_row,
+    Counts, Given, Stop, Trial, differs, first_and_last, number, push_mark, push_octets,
+    refused_memory, run_number, small, try_row,
 };
 use std::alloc::{AllocError, Allocator, Global};
 

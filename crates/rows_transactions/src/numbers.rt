@@ -1,8 +1,7 @@
 //! Waits, lifetimes, counts and limits: `number APDU_TIMEOUT_MS -> 3000`.
 
-use crate::asked::run_number;
 use segments::numbers;
-use sheets::{Counts, Given, Part, Stop};
+use sheets::{Counts, Given, Part, Stop, run_number};
 
 /// The number of this name.
 fn number_of(name: &str) -> Option<u64> {

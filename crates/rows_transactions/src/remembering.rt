@@ -10,7 +10,7 @@
 //! - `replace ASKER MAC LENGTH`: its answer goes to this address, in segments of 475 octets, none for 0.
 //! - `find ASKER`, `list`, `full`, `value`: what is found, all records, whether there is no place, and the value.
 
-use crate::asked::{body, length, push_mark};
+use crate::asked::{body, length};
 use crate::askers::{read_askers, read_mac};
 use crate::devices::{Device, Run, Taken, Write, table};
 use crate::entries::push_entry;
@@ -19,7 +19,7 @@ use npdu::Way;
 use remembered::{ListRecords, SlabRecords};
 use segments::{Sender, Turn};
 use services::ObjectExecutor;
-use sheets::{Counts, Given, Part, Stop, differs, number, run_text, two_words};
+use sheets::{Counts, Given, Part, Stop, differs, number, push_mark, run_text, two_words};
 use std::alloc::{AllocError, Allocator, Global};
 
 /// What a device answers to the steps of a row, and all that it has after each.

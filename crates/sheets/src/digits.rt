@@ -25,6 +25,18 @@ pub fn small(word: &str) -> Result<u8, Stop> {
     Ok(parse_number(word)?)
 }
 
+/// The first number and the last one of a word: `1..63`, or one alone.
+///
+/// # Errors
+/// `Unread` where they are no numbers of an octet.
+pub fn first_and_last(word: &str) -> Result<(u8, u8), Stop> {
+    let (first, last) = match word.split_once("..") {
+        Some(parts) => parts,
+        None => (word, word),
+    };
+    Ok((small(first)?, small(last)?))
+}
+
 /// What stands before the first space, and behind it.
 pub fn two_words(text: &str) -> (&str, &str) {
     match text.split_once(' ') {

@@ -26,12 +26,15 @@ mod stop;
 mod trial;
 mod written;
 
-pub use digits::{number, octets, octets_in_words, push_octets, small, two_words};
+pub use digits::{first_and_last, number, octets, octets_in_words, push_octets, small, two_words};
 pub use given::{Given, Memory};
 pub use parsed::{reply_in, request_in};
 pub use program::{Bench, run_files};
 pub use report::Report;
 pub use row::{Row, names, rows};
 pub use stop::{Part, Stop, compare, differs, refusal, refused_memory};
-pub use trial::{Counts, Trial, change_octets, run_octets, run_text, run_trial, try_row};
-pub use written::{buffer, buffer_in, push_written, written_octets};
+pub use trial::{
+    Counts, Trial, change_octets, run_number, run_octets, run_refused, run_text, run_trial,
+    run_word, try_row,
+};
+pub use written::{buffer, buffer_in, push_mark, push_written, with_written, written_octets};

@@ -130,12 +130,36 @@ pub fn run_trial<'a, T: Trial<'a>>(
 /// # Errors
 /// `Differs` where the text is not what is wanted.
 pub fn run_text(found: String, wanted: &str) -> Result<Counts, Stop> {
+    run_refused(found, 0, wanted)
+}
+
+/// A row that told this, where as many allocations were refused.
+///
+/// # Errors
+/// `Differs` where other words are wanted.
+pub fn run_refused(found: String, refused: u64, wanted: &str) -> Result<Counts, Stop> {
     compare(found, wanted)?;
     Ok(Counts {
         rows: 1,
-        refused: 0,
+        refused,
         changed: 0,
     })
+}
+
+/// A row that told this word.
+///
+/// # Errors
+/// `Differs` where another is wanted.
+pub fn run_word(given: Given<'_>, word: &str, wanted: &str) -> Result<Counts, Stop> {
+    run_text(String::from_str(given.alloc, word)?, wanted)
+}
+
+/// A row that told this number.
+///
+/// # Errors
+/// `Differs` where another is wanted.
+pub fn run_number(given: Given<'_>, number: u64, wanted: &str) -> Result<Counts, Stop> {
+    run_text(format!(in given.alloc; "{number}")?, wanted)
 }
 
 /// Runs a call on octets in words, as `run_trial` does.

@@ -52,3 +52,30 @@ pub fn push_written(read: &[u8], written: &[u8], out: &mut String) -> Result<(),
     out.push_str(" = ")?;
     push_octets(written, out)
 }
+
+/// What was read, in words, and behind it what was written of that, where it is not what was read.
+///
+/// # Errors
+/// Those of `written_octets`.
+pub fn with_written(
+    given: Given<'_>,
+    read: &[u8],
+    came: Result<(), Fault>,
+    buffer: &[u8],
+    mut text: String,
+) -> Result<String, Stop> {
+    let written = written_octets(given, came, buffer)?;
+    push_written(read, written, &mut text)?;
+    Ok(text)
+}
+
+/// Appends a mark that parts what follows from what stands there.
+///
+/// # Errors
+/// Want of memory.
+pub fn push_mark(mark: &str, out: &mut String) -> Result<(), AllocError> {
+    if out.is_empty() {
+        return Ok(());
+    }
+    out.push_str(mark)
+}

@@ -14,7 +14,8 @@ use crate::network::addresses::{addresses, at_port, port, ports, push_address};
 use bbmd::{Bbmd, Sent};
 use bvll::Address;
 use sheets::{
-    Counts, Given, Part, Stop, compare, differs, number, octets, push_octets, refusal, two_words,
+    Counts, Given, Part, Stop, compare, differs, number, octets, push_mark, push_octets, refusal,
+    two_words,
 };
 use std::alloc::{AllocError, Allocator, Global};
 use tags::Fault;
@@ -250,9 +251,7 @@ fn take<A: Allocator + Copy>(
     counts: &mut Counts,
     out: &mut String,
 ) -> Result<(), Stop> {
-    if !out.is_empty() {
-        out.push_str("; ")?;
-    }
+    push_mark("; ", out)?;
     if step == "tick" {
         if now > LATEST || now < manager.moment() {
             return Err(Stop::Unread(Part::Number));

@@ -3,10 +3,9 @@
 //! devices that have registered there.
 
 use crate::network::addresses::{addresses, at_port, port, push_address};
-use crate::told::run_refused;
 use bbmd::{Bbmd, SiteTables, Subnet, spread};
 use bvll::Address;
-use sheets::{Counts, Given, Part, Stop, differs};
+use sheets::{Counts, Given, Part, Stop, differs, run_refused};
 use std::alloc::{AllocError, Allocator, Global};
 use tags::Items;
 

@@ -2,12 +2,12 @@
 //! outcome under its invoke ID. What is longer than 48 octets or characters is told by its front and its length.
 //! More than eight outcomes that are alike, in order of their invoke IDs, are told as one: `tell 0..255 timed out`.
 
-use crate::telling::{push_front, push_mark};
+use crate::telling::push_front;
 use client_tsm::{Effects, Issued, Outcome, Said, Told};
 use npdu::Way;
 use objects::Reply;
 use services::Apdu;
-use sheets::{Stop, differs};
+use sheets::{Stop, differs, push_mark};
 use std::alloc::{AllocError, Allocator};
 use tags::Items;
 use words::Words;

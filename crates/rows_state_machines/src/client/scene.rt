@@ -11,15 +11,14 @@
 
 use crate::client::asked::{OTHER, client_and_device, unfolded};
 use crate::client::effects::{push_effects, push_issued};
-use crate::telling::push_mark;
 use client_tsm::{Bound, ClientTsm, Effects, Issued};
 use npdu::Station;
 use objects::Request;
 use segments::numbers::{MAX_MOMENT_MS, WINDOW};
 use services::{Apdu, Segment};
 use sheets::{
-    Counts, Given, Part, Stop, Trial, compare, number, octets, refusal, request_in, small, try_row,
-    two_words,
+    Counts, Given, Part, Stop, Trial, compare, number, octets, push_mark, refusal, request_in,
+    small, try_row, two_words,
 };
 use std::alloc::{AllocError, Allocator, Global};
 use tags::Fault;

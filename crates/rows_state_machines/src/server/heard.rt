@@ -6,14 +6,14 @@
 
 use crate::server::opened::{Served, executor};
 use crate::server::told::push_effects;
-use crate::telling::{run_number, run_refused, run_word};
 use npdu::{Mac, Station, Way};
 use objects::Request;
 use segments::numbers::MAX_MOMENT_MS;
 use server_tsm::{Effects, Origin};
 use services::{Apdu, Executor};
 use sheets::{
-    Counts, Given, Part, Stop, differs, number, octets, request_in, run_text, small, two_words,
+    Counts, Given, Part, Stop, differs, first_and_last, number, octets, request_in, run_number,
+    run_refused, run_text, run_word, small, two_words,
 };
 use std::alloc::{Allocator, Global};
 use words::Words;
@@ -192,14 +192,6 @@ fn tell_each<A: Allocator + Copy>(
     Ok(executed)
 }
 
-/// The first and the last number of `0..63`.
-fn numbers(words: &str) -> Result<(u8, u8), Stop> {
-    match words.split_once("..") {
-        Some((first, last)) => Ok((small(first)?, small(last)?)),
-        None => Err(Stop::Unread(Part::Number)),
-    }
-}
-
 /// Runs an input for each number, and tells how many were executed and what came of the last.
 fn run_each<A: Allocator + Copy>(
     given: Given<'_>,
@@ -211,7 +203,7 @@ fn run_each<A: Allocator + Copy>(
     let (place, rest) = two_words(words);
     let (range, rest) = two_words(rest);
     let place = small(place)? as usize;
-    let numbers = numbers(range)?;
+    let numbers = first_and_last(range)?;
     let mut saying = read_saying(given.alloc, rest)?;
     let mut told = String::new(given.alloc);
     let executed = tell_each(server, now, &mut saying, place, numbers, &mut told)?;

@@ -1,10 +1,10 @@
 //! What is said and executed, in words: `05>200A0F, executed done`, the address that it goes to before the octets of
 //! each APDU, `-` for nothing. Of an APDU with more than 40 octets the first five stand there, and their number.
 
-use crate::telling::{push_front, push_mark};
+use crate::telling::push_front;
 use objects::Reply;
 use server_tsm::{Effects, Executed, Said};
-use sheets::{Stop, push_octets};
+use sheets::{Stop, push_mark, push_octets};
 use std::alloc::{AllocError, Allocator};
 use words::Words;
 
