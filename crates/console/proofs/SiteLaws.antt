@@ -3,7 +3,7 @@ use Rattle.std.proofs.Common.{refl, ap, [], length, arith}
 use Rattle.std.specs.Prelude.{codes}
 use Rattle.tags.specs.declared.object_id.ObjectId.{ObjectId}
 use Rattle.std.proofs.lemmas.Str.{is_utf8-from_IsUtf8}
-use Rattle.objects.specs.Site.{IsText, IsSite, IsFaultySite}
+use Rattle.object_model.specs.Site.{IsText, IsSite, IsFaultySite}
 use Rattle.console.specs.Builtin.{builtin_site}
 
 device_text : IsText (codes "device")

@@ -1,10 +1,10 @@
 -- The built-in device of the program (12.8, 12.11).
 use Rattle.std.specs.Prelude.{ℕ, [], ◌∷◌, codes}
 use Rattle.tags.specs.declared.value.Value.TheVariants as value
-use Rattle.objects.specs.declared.object.ValueKind.TheVariants as kind
-use Rattle.objects.specs.declared.site.DataLink.TheVariants.{BacnetIp}
-use Rattle.objects.specs.declared.site.SiteObject.{SiteObject}
-use Rattle.objects.specs.declared.site.SiteObjects.{SiteObjects}
+use Rattle.object_model.specs.declared.object.ValueKind.TheVariants as kind
+use Rattle.object_model.specs.declared.site.DataLink.TheVariants.{BacnetIp}
+use Rattle.object_model.specs.declared.site.SiteObject.{SiteObject}
+use Rattle.object_model.specs.declared.site.SiteObjects.{SiteObjects}
 use Rattle.npdu.specs.declared.mac.Mac.TheVariants.{Six}
 use Rattle.npdu.specs.declared.mac.Station.{Station}
 use Rattle.device.specs.Device.{DeviceState, new_device}

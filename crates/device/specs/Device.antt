@@ -7,11 +7,11 @@ use Rattle.apdu.specs.declared.unconfirmed.IAm.{IAm}
 use Rattle.apdu.specs.declared.unconfirmed.Segmentation.TheVariants.{Both}
 use Rattle.npdu.specs.declared.mac.Mac.{Mac}
 use Rattle.npdu.specs.declared.mac.Station.{Station}
-use Rattle.objects.specs.Objects.{PlainTable}
-use Rattle.objects.specs.Site.{opening_table}
-use Rattle.objects.specs.declared.site.DataLink.{DataLink}
-use Rattle.objects.specs.declared.site.DataLink.TheVariants.{BacnetIp, MsTp}
-use Rattle.objects.specs.declared.site.SiteObjects.{SiteObjects}
+use Rattle.object_model.specs.Objects.{PlainTable}
+use Rattle.object_model.specs.Site.{opening_table}
+use Rattle.object_model.specs.declared.site.DataLink.{DataLink}
+use Rattle.object_model.specs.declared.site.DataLink.TheVariants.{BacnetIp, MsTp}
+use Rattle.object_model.specs.declared.site.SiteObjects.{SiteObjects}
 use Rattle.server_tsm.specs.Server.{ServerTsmState, new_server, restarted}
 
 -- its server of transactions, which has its objects; the instance and the vendor of its Device object; its network and

@@ -62,7 +62,7 @@ fn size_of(data_link: DataLink) -> MaxApdu
 
 impl<A: Allocator + Copy> Device<A> {
     ghost use Rattle.std.specs.Prelude.{◌≡◌, ◌⊎◌, ◌≤◌, ◌^◌, IfOk, IfErr, OnOk, OnErr};
-    ghost use Rattle.objects.specs.Site.{IsFaultySite};
+    ghost use Rattle.object_model.specs.Site.{IsFaultySite};
     ghost use Rattle.server_tsm.specs.Server.{committed};
     ghost use Rattle.server_tsm.specs.Steps.{effects_of};
     ghost use Rattle.server_tsm.specs.Waking.{woken};

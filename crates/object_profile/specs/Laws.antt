@@ -14,8 +14,8 @@ use Rattle.history.specs.Tests.{IsTest}
 use Rattle.npdu.proofs.Stations.{one_station}
 use Rattle.npdu.specs.Mac.{same_station}
 use Rattle.objects.proofs.RequestLaws.{after_sound, reply_answers, reply_sound}
-use Rattle.objects.specs.Objects.{PlainTable}
-use Rattle.objects.specs.Site.{IsSoundTable}
+use Rattle.object_model.specs.Objects.{PlainTable}
+use Rattle.object_model.specs.Site.{IsSoundTable}
 use Rattle.primitives.proofs.ErrorNames.{one_class, one_code}
 use Rattle.primitives.specs.Answers.{IsAnswerTo}
 use Rattle.primitives.specs.Errors.{class_number, code_number}

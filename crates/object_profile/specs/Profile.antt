@@ -5,8 +5,8 @@ use Rattle.headline.specs.Profile.{Profile}
 use Rattle.history.specs.Book.{Answer, Simple, Complex, Failed}
 use Rattle.npdu.specs.Mac.{same_station}
 use Rattle.npdu.specs.declared.mac.Station.{Station}
-use Rattle.objects.specs.Objects.{PlainTable}
-use Rattle.objects.specs.Site.{IsSoundTable}
+use Rattle.object_model.specs.Objects.{PlainTable}
+use Rattle.object_model.specs.Site.{IsSoundTable}
 use Rattle.primitives.specs.Errors.{class_number, code_number, IsNamedClass, IsNamedCode}
 use Rattle.primitives.specs.Sound.{IsSoundRequest}
 use Rattle.primitives.specs.declared.plain_data.Reply.{Reply}

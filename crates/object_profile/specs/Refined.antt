@@ -4,7 +4,7 @@ use Rattle.headline.specs.Profile.{Profile, Site}
 use Rattle.headline.specs.Happenings.{Core, Happening, run}
 use Rattle.headline.specs.Honest.{IsHonestRun}
 use Rattle.npdu.specs.declared.mac.Station.{Station}
-use Rattle.objects.specs.Objects.{PlainTable}
+use Rattle.object_model.specs.Objects.{PlainTable}
 use Rattle.primitives.specs.declared.plain_data.Reply.{Reply}
 use Rattle.primitives.specs.declared.plain_data.Request.{Request}
 use Rattle.object_profile.specs.Profile.{object_profile}

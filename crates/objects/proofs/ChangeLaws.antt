@@ -6,8 +6,8 @@ use Rattle.tags.specs.declared.value.Value.{Value}
 use Rattle.tags.specs.declared.value.Value.TheVariants as value
 use Rattle.primitives.specs.declared.error.ErrorClass.{ErrorClass}
 use Rattle.primitives.specs.declared.error.ErrorCode.{ErrorCode}
-use Rattle.objects.specs.declared.object.Object.{Object}
-use Rattle.objects.specs.declared.object.Object.TheVariants as object
+use Rattle.object_model.specs.declared.object.Object.{Object}
+use Rattle.object_model.specs.declared.object.Object.TheVariants as object
 use Rattle.primitives.specs.declared.plain_data.PropertyWrite.{PropertyWrite}
 use Rattle.primitives.specs.declared.plain_data.Reply.{Reply}
 use Rattle.primitives.specs.declared.plain_data.Reply.TheVariants.{Done, Error}
@@ -17,11 +17,11 @@ use Rattle.primitives.specs.declared.property.Property.{Property}
 use Rattle.objects.specs.Failure.{HaveOneShape}
 use Rattle.objects.specs.Laws.{SaysNoWrite}
 use Rattle.objects.specs.Machine.{write_outcome, reply, after}
-use Rattle.objects.specs.Objects.{PlainTable, identifier, name_of, object_list, object_type_of, type_of}
-use Rattle.objects.specs.Reading.{Refusal}
-use Rattle.objects.specs.Writing.{level_of, put, write, ObjectWrite, in_order, Outcome, go_on, write_all, failed_at}
-use Rattle.objects.proofs.SoundLaws.{listed, put_value_kind, identifier-put, name_of-put, map-with_object}
-use Rattle.objects.proofs.LocateLaws.{is_done}
+use Rattle.object_model.specs.Objects.{PlainTable, identifier, name_of, object_list, object_type_of, type_of}
+use Rattle.object_model.specs.Reading.{Refusal}
+use Rattle.object_model.specs.Writing.{level_of, put, write, ObjectWrite, in_order, Outcome, go_on, write_all, failed_at}
+use Rattle.object_model.proofs.SoundLaws.{listed, put_value_kind, identifier-put, name_of-put, map-with_object}
+use Rattle.object_model.proofs.LocateLaws.{is_done}
 use Rattle.objects.proofs.ShapeLaws.{failure_done, one_shape-self, one_shape-chain, one_shape-write}
 
 -- ---- a relation of tables that each write keeps is kept by each request

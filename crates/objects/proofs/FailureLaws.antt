@@ -8,9 +8,9 @@ use Rattle.primitives.specs.declared.plain_data.Reply.{Reply}
 use Rattle.primitives.specs.declared.plain_data.Reply.TheVariants.{Done}
 use Rattle.objects.specs.Failure.{failure_or, first_failure}
 use Rattle.objects.specs.Machine.{write_outcome, written_reply}
-use Rattle.objects.specs.Objects.{PlainTable}
-use Rattle.objects.specs.Reading.{Refusal, Place, locate}
-use Rattle.objects.specs.Writing.{ObjectWrite, failed_at, place_refusal, put, level_of, with_object, unless, write_place, write, writes_to, in_order}
+use Rattle.object_model.specs.Objects.{PlainTable}
+use Rattle.object_model.specs.Reading.{Refusal, Place, locate}
+use Rattle.object_model.specs.Writing.{ObjectWrite, failed_at, place_refusal, put, level_of, with_object, unless, write_place, write, writes_to, in_order}
 use Rattle.objects.proofs.OpeningLaws.{drop_item}
 use Rattle.objects.proofs.ShapeLaws.{first_failure-behind}
 

@@ -1,15 +1,8 @@
-pub mod PlaceLaws
-pub mod ReadLaws
-pub mod TextLaws
-pub mod SoundLaws
-pub mod LocateLaws
-pub mod SoundReplyLaws
 pub mod RequestLaws
 pub mod ShapeLaws
 pub mod ChangeLaws
 pub mod OneThingLaws
 pub mod ReadBackLaws
 pub mod OpeningLaws
-pub mod ObjectPlaceLaws
 pub mod FailureLaws
 pub mod WriteLaws

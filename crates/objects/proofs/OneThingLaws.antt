@@ -5,24 +5,24 @@ use Rattle.std.specs.Prelude.{cond, map, find, ◌==◌}
 use Rattle.tags.specs.declared.object_id.ObjectId.{ObjectId}
 use Rattle.tags.specs.declared.value.Value.{Value}
 use Rattle.tags.specs.declared.value.Value.TheVariants as value
-use Rattle.objects.specs.declared.object.DeviceObject.{DeviceObject}
-use Rattle.objects.specs.declared.object.Object.{Object}
-use Rattle.objects.specs.declared.object.Object.TheVariants as object
-use Rattle.objects.specs.declared.object.ValueObject.{ValueObject}
+use Rattle.object_model.specs.declared.object.DeviceObject.{DeviceObject}
+use Rattle.object_model.specs.declared.object.Object.{Object}
+use Rattle.object_model.specs.declared.object.Object.TheVariants as object
+use Rattle.object_model.specs.declared.object.ValueObject.{ValueObject}
 use Rattle.primitives.specs.declared.plain_data.PropertyWrite.{PropertyWrite}
 use Rattle.primitives.specs.declared.property.Property.{Property}
 use Rattle.primitives.specs.declared.property.Property.TheVariants as property
-use Rattle.objects.specs.Identifiers.{same_id}
+use Rattle.object_model.specs.Identifiers.{same_id}
 use Rattle.objects.specs.Laws.{IsNotShownBy}
 use Rattle.primitives.specs.Numbers.{property_number}
-use Rattle.objects.specs.Objects.{PlainTable, identifier, properties_of, held_by_value, held_by_device, held, object_list}
+use Rattle.object_model.specs.Objects.{PlainTable, identifier, properties_of, held_by_value, held_by_device, held, object_list}
 use Rattle.primitives.specs.Properties.{is_array}
-use Rattle.objects.specs.Reading.{Refusal, Place, is_named, object_at, property_at, index_refusal, place_or, locate_element, locate_property, at_index, read_place, read}
-use Rattle.objects.specs.Levels.{put_level}
-use Rattle.objects.specs.Writing.{level_of, commanded, put_value, put_device, put, with_object, write}
-use Rattle.objects.proofs.PlaceLaws.{same_is}
-use Rattle.objects.proofs.SoundLaws.{listed, some_none, some_same, identifier-put, map-with_object}
-use Rattle.objects.proofs.LocateLaws.{is_done}
+use Rattle.object_model.specs.Reading.{Refusal, Place, is_named, object_at, property_at, index_refusal, place_or, locate_element, locate_property, at_index, read_place, read}
+use Rattle.object_model.specs.Levels.{put_level}
+use Rattle.object_model.specs.Writing.{level_of, commanded, put_value, put_device, put, with_object, write}
+use Rattle.object_model.proofs.PlaceLaws.{same_is}
+use Rattle.object_model.proofs.SoundLaws.{listed, some_none, some_same, identifier-put, map-with_object}
+use Rattle.object_model.proofs.LocateLaws.{is_done}
 use Rattle.objects.proofs.ShapeLaws.{alike-put, alike_properties}
 use Rattle.objects.proofs.ChangeLaws.{listed-put}
 

@@ -2,9 +2,10 @@
 use Rattle.std.proofs.Common.{◌≡◌, ◌∙◌, refl, sym, ap, ℕ, ◌+◌, ◌<◌, List, [], ◌∷◌, ◌++◌, arith}
 use Rattle.std.specs.Prelude.{zero, suc, map, length, drop, get_or}
 use Rattle.std.specs.List.{AllByRecursion}
-use Rattle.objects.specs.declared.site.SiteObject.{SiteObject}
-use Rattle.objects.specs.declared.site.SiteObjects.{SiteObjects}
-use Rattle.objects.specs.Site.{opening_value, opening_table, IsValueObject, HasOneDevice}
+use Rattle.object_model.specs.declared.site.SiteObject.{SiteObject}
+use Rattle.object_model.specs.declared.site.SiteObjects.{SiteObjects}
+use Rattle.object_model.specs.Site.{opening_value, opening_table, IsValueObject, HasOneDevice}
+use Rattle.object_model.proofs.TextLaws.{empty_text}
 
 pub map_append : {X Y : Type 0} (f : X → Y) (xs ys : List X) → map f (xs ++ ys) ≡ map f xs ++ map f ys
 map_append f [] ys = refl
@@ -33,3 +34,5 @@ opens_with_device s = values_open s.objects
 pub ruleset opening_rules = (map_append, length_map)
 
 pub ruleset site_rules = (opens_with_device)
+
+pub ruleset device_rules = (empty_text)

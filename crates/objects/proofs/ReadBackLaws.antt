@@ -1,6 +1,6 @@
 -- What is read of a property or a slot that was written, and the value in force.
 use Rattle.std.proofs.Common.{refl, sym, ap, subst, ◌∙◌, ◌≡◌, ◌≢◌, ◌<◌, ◌≤◌, ◌-◌, ℕ, zero, suc, Bool, true, false, List, [], ◌∷◌, ◌++◌, Option, Some, None, Result, Ok, length, arith, inl, inr}
-use Rattle.std.proofs.lemmas.Bool.{eqb-true, eqb-false, and_parts, cases_eq, ltb-true, ne_eqb, le-ltb, lt-ltb}
+use Rattle.std.proofs.lemmas.Bool.{eqb-true, eqb-false, and_parts, cases_eq, ltb-true, ne_eqb, le-ltb}
 use Rattle.std.proofs.lemmas.List.{length-map}
 use Rattle.std.proofs.lemmas.Option.{slice_get-map}
 use Rattle.std.specs.Prelude.{cond, map, find, ◌==◌, ◌&&◌, ◌↔◌, nat_lt, option_map, option_to_list, slice_get, slice_set, unwrap_or}
@@ -11,28 +11,29 @@ use Rattle.priority.proofs.SlotLaws.{put_first, first_in_force, in_force_first, 
 use Rattle.tags.specs.declared.object_id.ObjectId.{ObjectId}
 use Rattle.tags.specs.declared.value.Value.{Value}
 use Rattle.tags.specs.declared.value.Value.TheVariants as value
-use Rattle.objects.specs.declared.object.Datatype.{Datatype}
-use Rattle.objects.specs.declared.object.DeviceObject.{DeviceObject}
-use Rattle.objects.specs.declared.object.Object.{Object}
-use Rattle.objects.specs.declared.object.Object.TheVariants as object
-use Rattle.objects.specs.declared.object.ValueKind.{ValueKind}
-use Rattle.objects.specs.declared.object.ValueKind.TheVariants as kind
-use Rattle.objects.specs.declared.object.ValueObject.{ValueObject}
+use Rattle.object_model.specs.declared.object.Datatype.{Datatype}
+use Rattle.object_model.specs.declared.object.DeviceObject.{DeviceObject}
+use Rattle.object_model.specs.declared.object.Object.{Object}
+use Rattle.object_model.specs.declared.object.Object.TheVariants as object
+use Rattle.object_model.specs.declared.object.ValueKind.{ValueKind}
+use Rattle.object_model.specs.declared.object.ValueKind.TheVariants as kind
+use Rattle.object_model.specs.declared.object.ValueObject.{ValueObject}
 use Rattle.primitives.specs.declared.plain_data.PropertyWrite.{PropertyWrite}
 use Rattle.primitives.specs.declared.property.Property.{Property}
 use Rattle.primitives.specs.declared.property.Property.TheVariants as property
 use Rattle.objects.specs.Laws.{IsValueInForce, NoneHigherAt}
 use Rattle.primitives.specs.Numbers.{property_number}
-use Rattle.objects.specs.Objects.{PlainTable, first_properties, last_properties, own_properties, present_value, text, slot_value, held}
+use Rattle.object_model.specs.Objects.{PlainTable, first_properties, last_properties, own_properties, present_value, text, slot_value, held}
 use Rattle.primitives.specs.Properties.{is_array}
-use Rattle.objects.specs.Reading.{Refusal, Place, is_named, object_at, property_at, index_refusal, at_index, locate_property, read, read_place, invalid_index}
-use Rattle.objects.specs.Site.{IsSoundObjectOf, IsSoundTable}
+use Rattle.object_model.specs.Reading.{Refusal, Place, is_named, object_at, property_at, index_refusal, at_index, locate_property, read, read_place, invalid_index}
+use Rattle.object_model.specs.Site.{IsSoundObjectOf, IsSoundTable}
 use Rattle.primitives.specs.Sound.{IsSoundPriority}
-use Rattle.objects.specs.Levels.{put_level}
-use Rattle.objects.specs.Writing.{access, access_denied, no_space, in_range, invalid_type, other_character_set, text_refusal, command_refusal, datatype_of, level_of, write_refusal, commanded, put, with_object, write}
-use Rattle.objects.proofs.SoundLaws.{some_none, true_false, passes_unless, length-put_level}
-use Rattle.objects.proofs.LocateLaws.{is_done}
-use Rattle.objects.proofs.SoundReplyLaws.{find_all}
+use Rattle.object_model.specs.Levels.{put_level}
+use Rattle.object_model.specs.Writing.{access, access_denied, no_space, in_range, invalid_type, other_character_set, text_refusal, command_refusal, datatype_of, level_of, write_refusal, commanded, put, with_object, write}
+use Rattle.object_model.proofs.SoundLaws.{some_none, true_false, passes_unless, length-put_level}
+use Rattle.object_model.proofs.LocateLaws.{is_done}
+use Rattle.object_model.proofs.LevelLaws.{put_level_is}
+use Rattle.object_model.proofs.SoundReplyLaws.{find_all}
 use Rattle.objects.proofs.OneThingLaws.{one_property, property_at-number, reading, read_is, unless_refused, read_written, write_own, put_properties}
 
 -- ---- the value in force
@@ -64,15 +65,6 @@ present_is_in_force t id o v is =
 level_counts : (priority : Option ℕ) → IsSoundPriority priority → (1 ≤ level_of priority) × (level_of priority ≤ 16)
 level_counts None s = (omega arith, omega arith)
 level_counts (Some n) s = (omega (arith, s.0), omega (arith, s.1))
-
-counted_if : (a b : Bool) → a ≡ true → b ≡ true → (a && b) ≡ true
-counted_if true true p q = refl
-counted_if true false p q = q
-counted_if false b p q = p
-
-pub put_level_is : {A : Type 0} (slots : List (Option (Value A))) (level : ℕ) (v : Option (Value A)) → 1 ≤ level → level ≤ 16 → put_level slots level v ≡ put_slot slots level v
-put_level_is slots level v low high =
-    ap (λ (counts : Bool). cond counts (put_slot slots level v) slots) (counted_if (nat_lt 0 level) (nat_lt level 17) (lt-ltb 0 level (omega (arith, low))) (lt-ltb level 17 (omega (arith, high))))
 
 -- a value other than Null stays what it is
 commanded_is : {A : Type 0} (v : Value A) → v ≢ value.Null → commanded v ≡ Some v

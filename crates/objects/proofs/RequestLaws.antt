@@ -6,7 +6,7 @@ use Rattle.std.specs.Prelude.{cond, map, filter, flat_map}
 use Rattle.std.specs.List.{AllByRecursion}
 use Rattle.tags.specs.declared.object_id.ObjectId.{ObjectId}
 use Rattle.tags.specs.declared.value.Value.{Value}
-use Rattle.objects.specs.declared.object.Object.{Object}
+use Rattle.object_model.specs.declared.object.Object.{Object}
 use Rattle.primitives.specs.declared.plain_data.ObjectRefs.{ObjectRefs}
 use Rattle.primitives.specs.declared.plain_data.ObjectWrites.{ObjectWrites}
 use Rattle.primitives.specs.declared.plain_data.PropertyReference.{PropertyReference}
@@ -19,14 +19,14 @@ use Rattle.primitives.specs.declared.property.Property.TheVariants as property
 use Rattle.primitives.specs.Answers.{IsOneProperty, read_reference, AnswersAll, IsAnswerTo}
 use Rattle.objects.specs.Machine.{reading_reply, write_outcome, outcome, reply, after}
 use Rattle.primitives.specs.Numbers.{property_number}
-use Rattle.objects.specs.Objects.{PlainTable, properties_of}
-use Rattle.objects.specs.Reading.{Refusal, object_at, read, is_special, is_selected, entry, selected_entries, entries_in, results_of}
+use Rattle.object_model.specs.Objects.{PlainTable, properties_of}
+use Rattle.object_model.specs.Reading.{Refusal, object_at, read, is_special, is_selected, entry, selected_entries, entries_in, results_of}
 use Rattle.primitives.specs.Sound.{AreSound, IsSoundId, IsSoundIndex, IsSoundReference, IsSoundRefs, IsSoundWrite, IsSoundWrites, IsSoundRequest, IsSoundReading, IsSoundResult, IsSoundResults, IsSoundReply}
-use Rattle.objects.specs.Site.{IsSoundTable}
-use Rattle.objects.specs.Writing.{write, ObjectWrite, in_order, Outcome, go_on, write_all}
-use Rattle.objects.proofs.SoundLaws.{true_false}
-use Rattle.objects.proofs.LocateLaws.{IsSoundTable-write}
-use Rattle.objects.proofs.SoundReplyLaws.{IsSoundIfErr, write_sound, read_sound}
+use Rattle.object_model.specs.Site.{IsSoundTable}
+use Rattle.object_model.specs.Writing.{write, ObjectWrite, in_order, Outcome, go_on, write_all}
+use Rattle.object_model.proofs.SoundLaws.{true_false}
+use Rattle.object_model.proofs.LocateLaws.{IsSoundTable-write}
+use Rattle.object_model.proofs.SoundReplyLaws.{IsSoundIfErr, write_sound, read_sound}
 
 -- ---- lists
 

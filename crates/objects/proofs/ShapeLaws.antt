@@ -4,27 +4,27 @@ use Rattle.std.proofs.lemmas.List.{length-map}
 use Rattle.std.specs.Prelude.{cond, find, ◌==◌, ◌↔◌}
 use Rattle.tags.specs.declared.object_id.ObjectId.{ObjectId}
 use Rattle.tags.specs.declared.value.Value.{Value}
-use Rattle.objects.specs.declared.object.Access.{Access}
-use Rattle.objects.specs.declared.object.Access.TheVariants.{Writable, Commandable}
-use Rattle.objects.specs.declared.object.DeviceObject.{DeviceObject}
-use Rattle.objects.specs.declared.object.Object.{Object}
-use Rattle.objects.specs.declared.object.Object.TheVariants as object
-use Rattle.objects.specs.declared.object.ValueKind.{ValueKind}
-use Rattle.objects.specs.declared.object.ValueObject.{ValueObject}
+use Rattle.object_model.specs.declared.object.Access.{Access}
+use Rattle.object_model.specs.declared.object.Access.TheVariants.{Writable, Commandable}
+use Rattle.object_model.specs.declared.object.DeviceObject.{DeviceObject}
+use Rattle.object_model.specs.declared.object.Object.{Object}
+use Rattle.object_model.specs.declared.object.Object.TheVariants as object
+use Rattle.object_model.specs.declared.object.ValueKind.{ValueKind}
+use Rattle.object_model.specs.declared.object.ValueObject.{ValueObject}
 use Rattle.primitives.specs.declared.plain_data.PropertyWrite.{PropertyWrite}
 use Rattle.primitives.specs.declared.plain_data.Reply.{Reply}
 use Rattle.primitives.specs.declared.plain_data.Reply.TheVariants.{Done}
 use Rattle.primitives.specs.declared.property.Property.{Property}
 use Rattle.primitives.specs.declared.property.Property.TheVariants as property
 use Rattle.objects.specs.Failure.{AreAlike, HaveOneShape, failure_or, first_failure}
-use Rattle.objects.specs.Identifiers.{same_id}
+use Rattle.object_model.specs.Identifiers.{same_id}
 use Rattle.primitives.specs.Numbers.{property_number}
-use Rattle.objects.specs.Objects.{PlainTable, identifier, first_properties, last_properties, own_properties, properties_of, slot_value, states_of, units_of, held_by_value, held_by_device, held}
+use Rattle.object_model.specs.Objects.{PlainTable, identifier, first_properties, last_properties, own_properties, properties_of, slot_value, states_of, units_of, held_by_value, held_by_device, held}
 use Rattle.primitives.specs.Properties.{is_array}
-use Rattle.objects.specs.Reading.{Refusal, Place, is_named, object_at, property_at, index_refusal, place_or, locate_element, locate_property, locate}
-use Rattle.objects.specs.Writing.{datatype_of, access, level_of, write_refusal, put, with_object, unless, write_place, write, ObjectWrite, Outcome, failed_at, go_on, write_all}
-use Rattle.objects.proofs.SoundLaws.{listed, put_value_kind, put_value_instance, put_value_slots, put_device_instance, value_identifier, device_identifier, some_same, some_none, true_false}
-use Rattle.objects.proofs.LocateLaws.{err_ok, is_done, refusing}
+use Rattle.object_model.specs.Reading.{Refusal, Place, is_named, object_at, property_at, index_refusal, place_or, locate_element, locate_property, locate}
+use Rattle.object_model.specs.Writing.{datatype_of, access, level_of, write_refusal, put, with_object, unless, write_place, write, ObjectWrite, Outcome, failed_at, go_on, write_all}
+use Rattle.object_model.proofs.SoundLaws.{listed, put_value_kind, put_value_instance, put_value_slots, put_device_instance, value_identifier, device_identifier, some_same, some_none, true_false}
+use Rattle.object_model.proofs.LocateLaws.{err_ok, is_done, refusing}
 
 -- ---- the relation
 

@@ -3,20 +3,20 @@ use Rattle.std.proofs.Common.{◌∙◌, ◌≡◌, ◌<◌, refl, sym, ap, subs
 use Rattle.std.specs.Prelude.{Option, Some, None, Result, Ok, Err, length, map, slice_get, slice_set}
 use Rattle.std.proofs.lemmas.List.{length-map}
 use Rattle.tags.specs.declared.object_id.ObjectId.{ObjectId}
-use Rattle.objects.specs.declared.object.Object.{Object}
+use Rattle.object_model.specs.declared.object.Object.{Object}
 use Rattle.primitives.specs.declared.plain_data.ObjectWrites.{ObjectWrites}
 use Rattle.primitives.specs.declared.plain_data.PropertyWrite.{PropertyWrite}
 use Rattle.primitives.specs.declared.plain_data.Reply.{Reply}
 use Rattle.primitives.specs.declared.plain_data.Reply.TheVariants.{Done}
 use Rattle.primitives.specs.declared.property.Property.{Property}
-use Rattle.objects.specs.Objects.{PlainTable, identifier}
-use Rattle.objects.specs.Places.{place_of}
-use Rattle.objects.specs.Reading.{Refusal, Place, property_at, locate}
-use Rattle.objects.specs.Writing.{access, write_refusal, place_refusal, level_of, put, unless, write_place, write, ObjectWrite, Outcome, failed_at, go_on, write_all, writes_to, in_order}
+use Rattle.object_model.specs.Objects.{PlainTable, identifier}
+use Rattle.object_model.specs.Places.{place_of}
+use Rattle.object_model.specs.Reading.{Refusal, Place, property_at, locate}
+use Rattle.object_model.specs.Writing.{access, write_refusal, place_refusal, level_of, put, unless, write_place, write, ObjectWrite, Outcome, failed_at, go_on, write_all, writes_to, in_order}
 use Rattle.objects.proofs.ChangeLaws.{write_all-append}
-use Rattle.objects.proofs.LocateLaws.{IsLocated, located, does, is_done}
-use Rattle.objects.proofs.ObjectPlaceLaws.{object_at-place, with_object-place, stands_at, place_of-within}
-use Rattle.objects.proofs.SoundLaws.{identifiers-with_object}
+use Rattle.object_model.proofs.LocateLaws.{IsLocated, located, does, is_done}
+use Rattle.object_model.proofs.ObjectPlaceLaws.{object_at-place, with_object-place, stands_at, place_of-within}
+use Rattle.object_model.proofs.SoundLaws.{identifiers-with_object}
 
 -- a write that no rule refuses
 pub record IsTaken {A : Type 0} (t : PlainTable A) (id : ObjectId) (w : PropertyWrite A) : Type 0 where

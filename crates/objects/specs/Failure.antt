@@ -1,12 +1,12 @@
 -- Why writes are refused hangs on the shape of a table alone, which no write changes (15.10.2).
 use Rattle.std.specs.Prelude.{◌≡◌, List, [], ◌∷◌, length, Result, Ok, Err}
-use Rattle.objects.specs.declared.object.Object.{Object}
-use Rattle.objects.specs.declared.object.Object.TheVariants as object
+use Rattle.object_model.specs.declared.object.Object.{Object}
+use Rattle.object_model.specs.declared.object.Object.TheVariants as object
 use Rattle.primitives.specs.declared.plain_data.Reply.{Reply}
 use Rattle.primitives.specs.declared.plain_data.Reply.TheVariants.{Done}
-use Rattle.objects.specs.Objects.{PlainTable}
-use Rattle.objects.specs.Reading.{Refusal}
-use Rattle.objects.specs.Writing.{ObjectWrite, failed_at, write}
+use Rattle.object_model.specs.Objects.{PlainTable}
+use Rattle.object_model.specs.Reading.{Refusal}
+use Rattle.object_model.specs.Writing.{ObjectWrite, failed_at, write}
 
 -- two objects have one identifier, one type and as many slots
 abbrev pub AreAlike : {A : Type 0} → Object A → Object A → Type 0

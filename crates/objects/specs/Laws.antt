@@ -5,8 +5,8 @@ use Rattle.tags.specs.declared.object_id.ObjectId.{ObjectId}
 use Rattle.tags.specs.declared.value.Value.{Value}
 use Rattle.tags.specs.declared.value.Value.TheVariants as value
 use Rattle.priority.specs.Laws.{NoneHigher, IsInForce, NoneFilled}
-use Rattle.objects.specs.declared.object.Object.TheVariants as object
-use Rattle.objects.specs.declared.object.ValueObject.{ValueObject}
+use Rattle.object_model.specs.declared.object.Object.TheVariants as object
+use Rattle.object_model.specs.declared.object.ValueObject.{ValueObject}
 use Rattle.primitives.specs.declared.plain_data.PropertyWrite.{PropertyWrite}
 use Rattle.primitives.specs.declared.plain_data.Reply.{Reply}
 use Rattle.primitives.specs.declared.plain_data.Reply.TheVariants.{Done, ErrorAt}
@@ -18,11 +18,11 @@ use Rattle.primitives.specs.Answers.{IsAnswerTo}
 use Rattle.objects.specs.Failure.{HaveOneShape, first_failure}
 use Rattle.objects.specs.Machine.{reply, after}
 use Rattle.primitives.specs.Numbers.{property_number}
-use Rattle.objects.specs.Objects.{PlainTable, identifier, name_of, object_list, object_type_of}
-use Rattle.objects.specs.Reading.{Refusal, object_at, read}
-use Rattle.objects.specs.Site.{IsSoundTable}
+use Rattle.object_model.specs.Objects.{PlainTable, identifier, name_of, object_list, object_type_of}
+use Rattle.object_model.specs.Reading.{Refusal, object_at, read}
+use Rattle.object_model.specs.Site.{IsSoundTable}
 use Rattle.primitives.specs.Sound.{IsSoundPriority, IsSoundRequest, IsSoundReply}
-use Rattle.objects.specs.Writing.{level_of, write, ObjectWrite, failed_at, write_all}
+use Rattle.object_model.specs.Writing.{level_of, write, ObjectWrite, failed_at, write_all}
 
 -- what a sound request leaves of a sound table is sound (15.9.2, 15.10.2)
 abbrev pub LeavesSound : Type 0 → Type 0

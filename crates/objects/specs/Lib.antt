@@ -1,10 +1,3 @@
-pub mod Identifiers
-pub mod Levels
-pub mod Objects
-pub mod Reading
-pub mod Writing
 pub mod Machine
-pub mod Site
-pub mod Places
 pub mod Failure
 pub mod Laws

@@ -5,9 +5,9 @@ use Rattle.primitives.specs.declared.plain_data.Reply.{Reply}
 use Rattle.primitives.specs.declared.plain_data.Reply.TheVariants.{Values, Many, Done, Error}
 use Rattle.primitives.specs.declared.plain_data.Request.{Request}
 use Rattle.primitives.specs.declared.plain_data.Request.TheVariants.{Read, ReadMany, Write, WriteMany}
-use Rattle.objects.specs.Objects.{PlainTable}
-use Rattle.objects.specs.Reading.{Refusal, read, results_of}
-use Rattle.objects.specs.Writing.{Outcome, write, write_all, in_order}
+use Rattle.object_model.specs.Objects.{PlainTable}
+use Rattle.object_model.specs.Reading.{Refusal, read, results_of}
+use Rattle.object_model.specs.Writing.{Outcome, write, write_all, in_order}
 
 -- the reply to a ReadProperty: what was read, or the error (15.5.2)
 abbrev pub reading_reply : {A : Type 0} → Result (List (Value A)) Refusal → Reply A

@@ -2,14 +2,14 @@
 
 ghost use Rattle.std.specs.Prelude.{◌≡◌, None, Some};
 ghost use Rattle.objects.specs.Machine.{written_reply};
-ghost use Rattle.objects.specs.Reading.{is_special, is_selected, locate_property};
+ghost use Rattle.object_model.specs.Reading.{is_special, is_selected, locate_property};
 ghost use Rattle.primitives.specs.Sound.{AreSound};
-ghost use Rattle.objects.specs.Writing.{place_refusal};
+ghost use Rattle.object_model.specs.Writing.{place_refusal};
 
-use crate::object::Object;
-use crate::reading::{NOT_AN_ARRAY, Refusal, UNKNOWN_OBJECT, locate};
 use crate::table::Table;
-use crate::writing::{access, level_of, write_refusal};
+use object_model::Object;
+use object_model::reading::{NOT_AN_ARRAY, Refusal, UNKNOWN_OBJECT, locate};
+use object_model::writing::{access, level_of, write_refusal};
 use primitives::{
     ALL_PROPERTIES, OPTIONAL_PROPERTIES, ObjectRefs, ObjectResults, ObjectWrites, Property,
     PropertyReference, PropertyResult, PropertyWrite, REQUIRED_PROPERTIES, Reply, Request,
@@ -22,11 +22,11 @@ impl<A: Allocator + Copy> Table<A> {
     ghost use Rattle.objects.specs.Failure.{first_failure};
     ghost use Rattle.objects.specs.Machine.{reply, reading_reply};
     ghost use Rattle.primitives.specs.Numbers.{property_number};
-    ghost use Rattle.objects.specs.Objects.{properties_of};
-    ghost use Rattle.objects.specs.Reading.{object_at, is_selected, entry, selected_entries, entries_in, results_of, locate, read};
+    ghost use Rattle.object_model.specs.Objects.{properties_of};
+    ghost use Rattle.object_model.specs.Reading.{object_at, is_selected, entry, selected_entries, entries_in, results_of, locate, read};
     ghost use Rattle.primitives.specs.Answers.{IsAnswerTo};
     ghost use Rattle.primitives.specs.Sound.{AreSound, IsSoundRequest, IsSoundReply};
-    ghost use Rattle.objects.specs.Writing.{place_refusal, in_order, writes_to};
+    ghost use Rattle.object_model.specs.Writing.{place_refusal, in_order, writes_to};
 
     /// What the object machine replies to a request. The table stays as it is (15.5.2, 15.7.2,
     /// 15.9.2, 15.10.2). It answers the request, and has a spelling where the request has one.

@@ -1,15 +1,15 @@
 //! What a request leaves of a table (15.9, 15.10).
 
 ghost use Rattle.std.specs.Prelude.{◌≡◌, ◌<◌, IfOk, Some, length, slice_get, slice_set};
-ghost use Rattle.objects.specs.declared.object.Object.{Object};
+ghost use Rattle.object_model.specs.declared.object.Object.{Object};
 ghost use Rattle.primitives.specs.declared.property.Property.{Property};
-ghost use Rattle.objects.specs.Reading.{property_at};
-ghost use Rattle.objects.specs.Writing.{put};
+ghost use Rattle.object_model.specs.Reading.{property_at};
+ghost use Rattle.object_model.specs.Writing.{put};
 
-use crate::object::Object;
-use crate::reading::Refusal;
 use crate::table::Table;
-use crate::writing::{level_of, put};
+use object_model::Object;
+use object_model::reading::Refusal;
+use object_model::writing::{level_of, put};
 use primitives::{ObjectWrites, PropertyWrite, Reply, Request, Values, copy_all};
 use std::alloc::{AllocError, Allocator};
 use tags::{Items, ObjectId};
@@ -19,7 +19,7 @@ impl<A: Allocator + Copy> Table<A> {
     ghost use Rattle.primitives.specs.Answers.{IsAnswerTo};
     ghost use Rattle.objects.specs.Machine.{reply, after, write_outcome};
     ghost use Rattle.primitives.specs.Sound.{IsSoundRequest, IsSoundReply};
-    ghost use Rattle.objects.specs.Writing.{write, write_all, writes_to, in_order};
+    ghost use Rattle.object_model.specs.Writing.{write, write_all, writes_to, in_order};
 
     /// Does what a request asks, and answers what the object machine replies (15.5.2, 15.7.2,
     /// 15.9.2, 15.10.2): that answers the request, and has a spelling where the request has one.

@@ -5,41 +5,25 @@
 //! the first error that applies; its reply answers the request, and has a spelling where the
 //! request has one; what a request leaves is what the machine leaves; a write that is refused and
 //! want of memory change nothing; a WritePropertyMultiple ends at its first failure, and what was
-//! written before stays. Requests and replies are the plain data of `primitives`.
+//! written before stays. Requests and replies are the plain data of `primitives`; what an object
+//! holds, reads and takes is that of `object_model`.
 //!
-//! - `site`: the objects that a site gives a device.
-//! - `object`: what an object holds.
-//! - `identity`: what an object is called, and which properties it has.
-//! - `commands`: the sixteen slots of a value object.
-//! - `places`: where an object stands in the table, found in the logarithm of their number.
 //! - `opening`: which objects a site may give, and how they open.
 //! - `table`: the objects of a device, opening, copying and reading them.
-//! - `reading`: where a property is, and what it holds.
-//! - `writing`: whether a value is taken, and what it leaves.
 //! - `answering`: what a table replies to a request.
 //! - `applying`: what a request leaves of a table.
-//! - `copying`: equal copies.
 //! - `laws`: what holds of tables and requests, for the proofs of the layers above.
 #![tactic(auto)]
 
 mod answering;
 mod applying;
-mod commands;
-mod copying;
-mod identity;
 pub mod laws;
-mod object;
 mod opening;
-mod places;
-mod reading;
-mod site;
 mod table;
-mod writing;
 
-pub use object::ValueKind;
+pub use object_model::{DataLink, SiteObject, SiteObjects, ValueKind};
 pub use primitives::{
     ErrorClass, ErrorCode, ObjectRefs, ObjectResults, ObjectType, ObjectWrites, Property,
     PropertyReference, PropertyResult, PropertyWrite, Reply, Request, Values,
 };
-pub use site::{DataLink, SiteObject, SiteObjects};
 pub use table::Table;

@@ -3,15 +3,14 @@
 ghost use Rattle.std.specs.Prelude.{◌≡◌, ◌∷◌, ◌↔◌, ◌≤◌, ◌++◌, ◌≤◌, IsTrue, IfOk, OnOk, length, map};
 ghost use Rattle.std.specs.List.{AllByRecursion};
 ghost use Rattle.tags.specs.declared.object_id.ObjectId.{ObjectId};
-ghost use Rattle.objects.specs.declared.object.Object.TheVariants as object;
-ghost use Rattle.objects.specs.Objects.{identifier, name_of};
-ghost use Rattle.objects.specs.Site.{opening_value, opening_device, opening_table, IsText, IsSoundKind, IsSoundObjectOf, IsOther, AllApart, IsSite};
+ghost use Rattle.object_model.specs.declared.object.Object.TheVariants as object;
+ghost use Rattle.object_model.specs.Objects.{identifier, name_of};
+ghost use Rattle.object_model.specs.Site.{opening_value, opening_device, opening_table, IsText, IsSoundKind, IsSoundObjectOf, IsOther, AllApart, IsSite};
 
-use crate::commands::Commands;
-use crate::object::{DeviceObject, Object, ValueKind, ValueObject};
-use crate::places::Places;
-use crate::site::{SiteObject, SiteObjects};
-use crate::writing::{text_refusal, value_refusal};
+use object_model::writing::{text_refusal, value_refusal};
+use object_model::{
+    Commands, DeviceObject, Object, Places, SiteObject, SiteObjects, ValueKind, ValueObject,
+};
 use primitives::ObjectType;
 use std::alloc::{AllocError, Allocator};
 use tags::{Items, ObjectId, Octets};
@@ -85,7 +84,7 @@ fn value_identifier<A: Allocator>(object: &SiteObject<A>) -> ObjectId
 }
 
 /// Whether the Device object's instance and texts are in range.
-#[tactic(auto, using(crate::proofs::TextLaws::device_rules))]
+#[tactic(auto, using(crate::proofs::OpeningLaws::device_rules))]
 fn is_sound_device<A: Allocator>(site: &SiteObjects<A>) -> bool
     ensures { IsTrue result ↔ IsSoundObjectOf (opening_device site.now) }
 {

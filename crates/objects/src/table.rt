@@ -2,13 +2,11 @@
 //! them (clause 15).
 
 ghost use Rattle.std.specs.Prelude.{◌≡◌, ◌<◌, ◌^◌, Some, IfOk, length};
-ghost use Rattle.objects.specs.Reading.{read_place, locate_property};
+ghost use Rattle.object_model.specs.Reading.{read_place, locate_property};
 
-use crate::object::Object;
 use crate::opening::{is_site, open, places_of};
-use crate::places::Places;
-use crate::reading::{self, Refusal, UNKNOWN_OBJECT, locate, object_at};
-use crate::site::SiteObjects;
+use object_model::reading::{self, Refusal, UNKNOWN_OBJECT, locate, object_at};
+use object_model::{Object, Places, SiteObjects};
 use primitives::{Values, copy_all};
 use std::alloc::{AllocError, Allocator};
 use std::marker::Model;
@@ -23,8 +21,8 @@ pub struct Table<A: Allocator> {
 
 impl<A: Allocator> Model for Table<A> {
     ghost use Rattle.std.specs.Prelude.{◌≡◌, map};
-    ghost use Rattle.objects.specs.Objects.{PlainTable, identifier};
-    ghost use Rattle.objects.specs.Site.{IsSoundTable};
+    ghost use Rattle.object_model.specs.Objects.{PlainTable, identifier};
+    ghost use Rattle.object_model.specs.Site.{IsSoundTable};
 
     ghost Value = { PlainTable A };
 
@@ -37,8 +35,8 @@ impl<A: Allocator + Copy> Table<A> {
     ghost use Rattle.std.specs.Prelude.{◌≡◌, ◌⊎◌, OnOk, IfOk, IfErr, MatchOption, option_copied, Ok, Err};
     ghost use Rattle.primitives.specs.Answers.{IsAnswerTo};
     ghost use Rattle.objects.specs.Machine.{reply, after};
-    ghost use Rattle.objects.specs.Reading.{object_at, read};
-    ghost use Rattle.objects.specs.Site.{opening_table, IsSite, IsFaultySite};
+    ghost use Rattle.object_model.specs.Reading.{object_at, read};
+    ghost use Rattle.object_model.specs.Site.{opening_table, IsSite, IsFaultySite};
     ghost use Rattle.primitives.specs.Sound.{IsSoundRequest, IsSoundReply};
 
     /// The table of a site's objects, as it opens (12).

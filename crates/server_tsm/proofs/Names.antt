@@ -1,7 +1,7 @@
 -- The names that don't compute, where the code makes what they stand for.
 use Rattle.std.proofs.Common.{◌≡◌, sym}
 use Rattle.objects.specs.Machine.{reply, after}
-use Rattle.objects.specs.Objects.{PlainTable}
+use Rattle.object_model.specs.Objects.{PlainTable}
 use Rattle.primitives.specs.declared.plain_data.Request.{Request}
 use Rattle.services.proofs.AskedNames.{left_by_is, replied_is}
 use Rattle.services.specs.Asked.{left_by, replied}

@@ -8,7 +8,7 @@ pub trait Executor<A: Allocator> {
     ghost use Rattle.std.specs.Prelude.{◌≡◌, OnOk, OnErr, IfOk};
     ghost use Rattle.primitives.specs.Answers.{IsAnswerTo};
     ghost use Rattle.objects.specs.Machine.{reply, after};
-    ghost use Rattle.objects.specs.Objects.{PlainTable};
+    ghost use Rattle.object_model.specs.Objects.{PlainTable};
     ghost use Rattle.primitives.specs.Sound.{IsSoundRequest, IsSoundReply};
 
     ghost table_of: { Self → PlainTable A };

@@ -2,7 +2,7 @@
 use Rattle.std.proofs.Common.{◌≡◌, refl}
 use Rattle.primitives.specs.declared.plain_data.Request.{Request}
 use Rattle.objects.specs.Machine.{reply, after}
-use Rattle.objects.specs.Objects.{PlainTable}
+use Rattle.object_model.specs.Objects.{PlainTable}
 use Rattle.apdu.specs.Numbers.{service_number}
 use Rattle.services.specs.CanonicalRequest.{canonical_request}
 use Rattle.services.specs.Request.{request_service}

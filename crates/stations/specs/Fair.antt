@@ -22,8 +22,8 @@ use Rattle.npdu.specs.declared.mac.Way.{Way}
 use Rattle.object_profile.specs.Bodies.{Says, led_to}
 use Rattle.object_profile.specs.Profile.{object_profile}
 use Rattle.object_profile.specs.Refined.{ObjectSite}
-use Rattle.objects.specs.Site.{opening_table}
-use Rattle.objects.specs.declared.site.SiteObjects.{SiteObjects}
+use Rattle.object_model.specs.Site.{opening_table}
+use Rattle.object_model.specs.declared.site.SiteObjects.{SiteObjects}
 use Rattle.primitives.specs.Sound.{IsSoundRequest}
 use Rattle.primitives.specs.declared.plain_data.Reply.{Reply}
 use Rattle.primitives.specs.declared.plain_data.Request.{Request}

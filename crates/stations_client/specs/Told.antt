@@ -19,7 +19,7 @@ use Rattle.history.specs.declared.Entry.{Entry}
 use Rattle.npdu.specs.Mac.{same_station}
 use Rattle.npdu.specs.declared.mac.Station.{Station}
 use Rattle.object_profile.specs.Bodies.{body_of, led_to}
-use Rattle.objects.specs.Objects.{PlainTable}
+use Rattle.object_model.specs.Objects.{PlainTable}
 use Rattle.primitives.specs.declared.plain_data.Reply.{Reply}
 use Rattle.primitives.specs.declared.plain_data.Request.{Request}
 use Rattle.stations_client.specs.Safe.{room_from}

@@ -10,7 +10,7 @@ use Rattle.npdu.specs.declared.mac.Station.{Station}
 use Rattle.npdu.specs.declared.mac.Target.{Target}
 use Rattle.object_profile.specs.Bodies.{Says, led_to}
 use Rattle.object_profile.proofs.Places.{led_back, put_other}
-use Rattle.objects.specs.Objects.{PlainTable}
+use Rattle.object_model.specs.Objects.{PlainTable}
 use Rattle.stations_server.proofs.Executing.{step_keeps, step_refines}
 use Rattle.stations_server.proofs.Staying.{same_moment}
 use Rattle.stations_server.proofs.Waking.{announce_refines, restart_keeps, restart_refines, wake_keeps, wake_refines}

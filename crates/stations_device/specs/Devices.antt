@@ -15,8 +15,8 @@ use Rattle.npdu.specs.declared.mac.Target.{Target}
 use Rattle.object_profile.specs.Bodies.{Says}
 use Rattle.object_profile.specs.Profile.{object_profile}
 use Rattle.object_profile.specs.Refined.{ObjectSite, Refined, Stations}
-use Rattle.objects.specs.Site.{opening_table}
-use Rattle.objects.specs.declared.site.SiteObjects.{SiteObjects}
+use Rattle.object_model.specs.Site.{opening_table}
+use Rattle.object_model.specs.declared.site.SiteObjects.{SiteObjects}
 use Rattle.stations_server.specs.Laws.{IsServed}
 use Rattle.stations_server.specs.Refines.{begun_anew, served}
 use Rattle.server_tsm.specs.Server.{ServerTsmState, committed}

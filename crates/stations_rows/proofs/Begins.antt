@@ -7,8 +7,8 @@ use Rattle.npdu.proofs.Stations.{one_station}
 use Rattle.npdu.specs.Mac.{same_station}
 use Rattle.npdu.specs.declared.mac.Station.{Station}
 use Rattle.object_profile.specs.Profile.{object_profile}
-use Rattle.objects.proofs.TextLaws.{empty_text}
-use Rattle.objects.specs.Site.{IsText}
+use Rattle.object_model.proofs.TextLaws.{empty_text}
+use Rattle.object_model.specs.Site.{IsText}
 use Rattle.std.specs.Str.{IsUtf8}
 use Rattle.std.proofs.lemmas.Str.{is_utf8-from_IsUtf8, IsUtf8-from_ascii}
 use Rattle.apdu.specs.declared.sizes.MaxApdu.TheVariants.{UpTo1476}

@@ -9,7 +9,7 @@ use Rattle.history.specs.Book.{Complex, Message, Tells, Unicast}
 use Rattle.npdu.specs.declared.mac.Station.{Station}
 use Rattle.object_profile.specs.Bodies.{body_of}
 use Rattle.objects.specs.Machine.{reply}
-use Rattle.objects.specs.Site.{opening_table}
+use Rattle.object_model.specs.Site.{opening_table}
 use Rattle.primitives.specs.declared.plain_data.Reply.{Reply}
 use Rattle.services.specs.Asked.{request_octets}
 use Rattle.services.specs.CanonicalReply.{canonical_reply}

@@ -15,9 +15,9 @@ use Rattle.object_profile.specs.Bodies.{body_of}
 use Rattle.object_profile.specs.Profile.{object_profile}
 use Rattle.object_profile.specs.Refined.{ObjectSite}
 use Rattle.objects.specs.Machine.{reply}
-use Rattle.objects.specs.Site.{opening_table}
-use Rattle.objects.specs.declared.site.DataLink.TheVariants.{BacnetIp}
-use Rattle.objects.specs.declared.site.SiteObjects.{SiteObjects}
+use Rattle.object_model.specs.Site.{opening_table}
+use Rattle.object_model.specs.declared.site.DataLink.TheVariants.{BacnetIp}
+use Rattle.object_model.specs.declared.site.SiteObjects.{SiteObjects}
 use Rattle.primitives.specs.declared.plain_data.Reply.{Reply}
 use Rattle.services.specs.Asked.{request_octets}
 use Rattle.services.specs.CanonicalReply.{canonical_reply}

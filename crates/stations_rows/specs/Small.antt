@@ -14,9 +14,9 @@ use Rattle.npdu.specs.declared.mac.Station.{Station}
 use Rattle.npdu.specs.declared.mac.Way.{Way}
 use Rattle.object_profile.specs.Profile.{object_profile}
 use Rattle.object_profile.specs.Refined.{ObjectSite}
-use Rattle.objects.specs.Site.{opening_table}
-use Rattle.objects.specs.declared.site.DataLink.TheVariants.{BacnetIp}
-use Rattle.objects.specs.declared.site.SiteObjects.{SiteObjects}
+use Rattle.object_model.specs.Site.{opening_table}
+use Rattle.object_model.specs.declared.site.DataLink.TheVariants.{BacnetIp}
+use Rattle.object_model.specs.declared.site.SiteObjects.{SiteObjects}
 use Rattle.primitives.specs.declared.plain_data.Request.{Request}
 use Rattle.primitives.specs.declared.plain_data.Request.TheVariants.{Read}
 use Rattle.stations.specs.World.{World}

@@ -21,7 +21,7 @@ use Rattle.object_profile.proofs.Sizes.{size_named}
 use Rattle.object_profile.specs.Bodies.{Says, head_of, request_body}
 use Rattle.object_profile.specs.Profile.{object_profile}
 use Rattle.object_profile.specs.Refined.{IsRefined, Stations}
-use Rattle.objects.specs.Objects.{PlainTable}
+use Rattle.object_model.specs.Objects.{PlainTable}
 use Rattle.primitives.specs.declared.plain_data.Request.{Request}
 use Rattle.remembered.specs.Records.{forgotten, is_full}
 use Rattle.remembered.specs.declared.record.Asker.{Asker}

@@ -18,7 +18,7 @@ use Rattle.npdu.specs.declared.mac.Station.{Station}
 use Rattle.object_profile.specs.Laws.{object_laws}
 use Rattle.object_profile.specs.Profile.{object_profile}
 use Rattle.object_profile.specs.Refined.{IsRefined, Stations}
-use Rattle.objects.specs.Objects.{PlainTable}
+use Rattle.object_model.specs.Objects.{PlainTable}
 use Rattle.primitives.specs.declared.plain_data.Reply.{Reply}
 use Rattle.primitives.specs.declared.plain_data.Request.{Request}
 use Rattle.remembered.specs.Records.{forgotten}

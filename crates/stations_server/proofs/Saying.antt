@@ -16,7 +16,7 @@ use Rattle.history.specs.declared.End.TheVariants.{Aborted, Rejected}
 use Rattle.npdu.specs.declared.mac.Station.{Station}
 use Rattle.object_profile.specs.Bodies.{led_to}
 use Rattle.object_profile.specs.Profile.{object_profile}
-use Rattle.objects.specs.Objects.{PlainTable}
+use Rattle.object_model.specs.Objects.{PlainTable}
 use Rattle.primitives.specs.declared.plain_data.Reply.{Reply}
 use Rattle.primitives.specs.declared.plain_data.Request.{Request}
 use Rattle.remembered.specs.declared.record.Record.{Record}

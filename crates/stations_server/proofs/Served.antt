@@ -16,7 +16,7 @@ use Rattle.history.proofs.Lists.{has, has_next}
 use Rattle.npdu.specs.declared.mac.Station.{Station}
 use Rattle.npdu.specs.declared.mac.Way.{Way}
 use Rattle.object_profile.specs.Bodies.{head_of, led_to}
-use Rattle.objects.specs.Objects.{PlainTable}
+use Rattle.object_model.specs.Objects.{PlainTable}
 use Rattle.remembered.specs.Records.{remembered, said_on, some_if}
 use Rattle.remembered.specs.declared.record.Asker.{Asker}
 use Rattle.remembered.specs.declared.record.Record.{Record}

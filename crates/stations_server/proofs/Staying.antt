@@ -5,7 +5,7 @@ use Rattle.headline.proofs.Puts.{put_here}
 use Rattle.headline.specs.Profile.{Site}
 use Rattle.history.specs.Book.{Book}
 use Rattle.npdu.specs.declared.mac.Station.{Station}
-use Rattle.objects.specs.Objects.{PlainTable}
+use Rattle.object_model.specs.Objects.{PlainTable}
 use Rattle.object_profile.specs.Laws.{object_laws}
 use Rattle.primitives.specs.declared.plain_data.Reply.{Reply}
 use Rattle.primitives.specs.declared.plain_data.Request.{Request}

@@ -9,7 +9,7 @@ use Rattle.headline.specs.Stations as seen
 use Rattle.history.specs.Lists.{Has}
 use Rattle.npdu.specs.declared.mac.Station.{Station}
 use Rattle.object_profile.specs.Laws.{object_laws}
-use Rattle.objects.specs.Objects.{PlainTable}
+use Rattle.object_model.specs.Objects.{PlainTable}
 use Rattle.remembered.specs.Records.{forgotten, lives, said_on}
 use Rattle.remembered.specs.declared.record.Record.{Record}
 use Rattle.segments.specs.Cutting.{Cutting}

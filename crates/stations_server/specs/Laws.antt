@@ -12,7 +12,7 @@ use Rattle.npdu.specs.declared.mac.Station.{Station}
 use Rattle.object_profile.specs.Bodies.{Says, led_to}
 use Rattle.object_profile.specs.Profile.{object_profile}
 use Rattle.object_profile.specs.Refined.{ObjectSite, Refined, Stations}
-use Rattle.objects.specs.Objects.{PlainTable}
+use Rattle.object_model.specs.Objects.{PlainTable}
 use Rattle.stations_server.specs.Keeping.{IsWellKept}
 use Rattle.stations_server.specs.Refines.{begun_anew, said_body, served}
 use Rattle.stations_server.specs.Safe.{safe_device}

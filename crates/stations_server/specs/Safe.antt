@@ -5,7 +5,7 @@ use Rattle.headline.specs.Stations.{Record, Assembly, Device}
 use Rattle.history.specs.Book.{Answer, Simple, Complex, Failed}
 use Rattle.npdu.specs.declared.mac.Station.{Station}
 use Rattle.object_profile.specs.Bodies.{head_of}
-use Rattle.objects.specs.Objects.{PlainTable}
+use Rattle.object_model.specs.Objects.{PlainTable}
 use Rattle.remembered.specs.declared.record.Record as remembered
 use Rattle.remembered.specs.declared.record.RememberedAnswer.{RememberedAnswer}
 use Rattle.remembered.specs.declared.record.RememberedAnswer.TheVariants as kept

@@ -1,6 +1,6 @@
 use Rattle.std.proofs.Common.{length}
 use Rattle.std.specs.Prelude.{◌↔◌, map}
-use Rattle.objects.specs.Site.{AllApart, opening_value}
+use Rattle.object_model.specs.Site.{AllApart, opening_value}
 use Rattle.objects.proofs.opening.are_apart.Given as goal
 
 abbrev pub decreases-loop-left : goal.decreases-loop-left

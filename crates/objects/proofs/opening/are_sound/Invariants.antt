@@ -1,7 +1,7 @@
 use Rattle.std.proofs.Common.{length}
 use Rattle.std.specs.Prelude.{◌↔◌, map}
 use Rattle.std.specs.List.{AllByRecursion}
-use Rattle.objects.specs.Site.{IsSoundObjectOf, opening_value}
+use Rattle.object_model.specs.Site.{IsSoundObjectOf, opening_value}
 use Rattle.objects.proofs.opening.are_sound.Given as goal
 
 abbrev pub decreases-loop-left : goal.decreases-loop-left

@@ -1,7 +1,7 @@
 use Rattle.std.proofs.Common.{length}
 use Rattle.std.specs.Prelude.{◌↔◌, map}
 use Rattle.std.specs.List.{AllByRecursion}
-use Rattle.objects.specs.Site.{IsOther, opening_value}
+use Rattle.object_model.specs.Site.{IsOther, opening_value}
 use Rattle.objects.proofs.opening.is_other.Given as goal
 
 abbrev pub decreases-loop-left : goal.decreases-loop-left

@@ -1,6 +1,6 @@
 use Rattle.std.proofs.Common.{◌∷◌, []}
 use Rattle.std.proofs.lemmas.List.{map-append, append_assoc}
-use Rattle.objects.specs.Site.{opening_value}
+use Rattle.object_model.specs.Site.{opening_value}
 use Rattle.objects.proofs.opening.open_values.Goals as goal
 
 pub loop-object-preserved : goal.loop-object-preserved

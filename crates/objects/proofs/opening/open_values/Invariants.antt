@@ -1,6 +1,6 @@
 use Rattle.std.proofs.Common.{◌≡◌, ◌++◌}
 use Rattle.std.specs.Prelude.{map}
-use Rattle.objects.specs.Site.{opening_value}
+use Rattle.object_model.specs.Site.{opening_value}
 use Rattle.objects.proofs.opening.open_values.Given as goal
 
 -- the objects opened so far

@@ -1,6 +1,6 @@
 use Rattle.std.proofs.Common.{◌≡◌, ◌++◌}
 use Rattle.std.specs.Prelude.{drop, map}
-use Rattle.objects.specs.Objects.{identifier}
+use Rattle.object_model.specs.Objects.{identifier}
 use Rattle.objects.proofs.opening.places_of.Given as goal
 
 -- the identifiers so far, and those of the objects that are left

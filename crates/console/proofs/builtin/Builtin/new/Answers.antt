@@ -1,7 +1,7 @@
 use Rattle.std.proofs.Common.{◌∙◌, subst, inl, inr}
 use Rattle.std.proofs.lemmas.Result.{err_from_is_err_and}
-use Rattle.objects.specs.declared.site.SiteObjects.{SiteObjects}
-use Rattle.objects.specs.Site.{IsFaultySite}
+use Rattle.object_model.specs.declared.site.SiteObjects.{SiteObjects}
+use Rattle.object_model.specs.Site.{IsFaultySite}
 use Rattle.console.proofs.SiteLaws.{not_faulty}
 use Rattle.console.proofs.builtin.Builtin.new.Goals as goal
 

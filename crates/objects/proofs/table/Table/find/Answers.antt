@@ -1,7 +1,7 @@
 use Rattle.std.proofs.Common.{◌∙◌, sym, ap, List}
 use Rattle.tags.specs.declared.object_id.ObjectId.{ObjectId}
-use Rattle.objects.specs.Places.{place_of}
-use Rattle.objects.proofs.ObjectPlaceLaws.{object_at-place, stands_at}
+use Rattle.object_model.specs.Places.{place_of}
+use Rattle.object_model.proofs.ObjectPlaceLaws.{object_at-place, stands_at}
 use Rattle.objects.proofs.table.Table.find.Goals as goal
 
 pub returns-in-Some : goal.returns-in-Some

@@ -1,7 +1,7 @@
 use Rattle.std.proofs.Common.{◌≡◌}
 use Rattle.std.specs.Prelude.{drop}
 use Rattle.objects.specs.Failure.{first_failure}
-use Rattle.objects.specs.Writing.{writes_to}
+use Rattle.object_model.specs.Writing.{writes_to}
 use Rattle.objects.proofs.table.Table.first_failure_of.Given as goal
 
 -- no write so far is refused

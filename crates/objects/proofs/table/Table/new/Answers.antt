@@ -1,6 +1,6 @@
 use Rattle.std.proofs.Common.{◌∙◌, ap, rules}
 use Rattle.std.specs.Prelude.{map}
-use Rattle.objects.specs.Objects.{PlainTable, identifier}
+use Rattle.object_model.specs.Objects.{PlainTable, identifier}
 use Rattle.objects.proofs.table.Table.new.Goals as goal
 
 pub invariant_of-result : goal.invariant_of-result

@@ -1,7 +1,7 @@
 use Rattle.std.proofs.Common.{◌≡◌, ◌++◌}
 use Rattle.std.specs.Prelude.{None, drop, map, filter}
 use Rattle.primitives.specs.Numbers.{property_number}
-use Rattle.objects.specs.Reading.{is_selected, entry}
+use Rattle.object_model.specs.Reading.{is_selected, entry}
 use Rattle.objects.proofs.table.Table.push_selected.Given as goal
 
 -- the entries so far, and those of the properties that are left

@@ -2,7 +2,7 @@ use Rattle.std.proofs.Common.{◌∙◌, sym, ap, List, ◌++◌}
 use Rattle.std.specs.Prelude.{map}
 use Rattle.std.proofs.lemmas.List.{append_assoc}
 use Rattle.primitives.specs.declared.plain_data.ObjectRefs.{ObjectRefs}
-use Rattle.objects.specs.Reading.{results_of}
+use Rattle.object_model.specs.Reading.{results_of}
 use Rattle.objects.proofs.OpeningLaws.{drop_item}
 use Rattle.objects.proofs.table.Table.read_many.Goals as goal
 

@@ -1,6 +1,6 @@
 use Rattle.std.proofs.Common.{◌≡◌, ◌++◌}
 use Rattle.std.specs.Prelude.{drop, map}
-use Rattle.objects.specs.Reading.{results_of}
+use Rattle.object_model.specs.Reading.{results_of}
 use Rattle.objects.proofs.table.Table.read_many.Given as goal
 
 -- the results so far, and those of the objects that are left

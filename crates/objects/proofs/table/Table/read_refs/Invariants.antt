@@ -1,6 +1,6 @@
 use Rattle.std.proofs.Common.{◌≡◌, ◌++◌}
 use Rattle.std.specs.Prelude.{drop, flat_map}
-use Rattle.objects.specs.Reading.{object_at, entries_in}
+use Rattle.object_model.specs.Reading.{object_at, entries_in}
 use Rattle.objects.proofs.table.Table.read_refs.Given as goal
 
 -- the entries so far, and those of the references that are left

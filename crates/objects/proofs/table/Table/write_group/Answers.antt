@@ -1,6 +1,6 @@
 use Rattle.std.proofs.Common.{◌∙◌, sym, ap, List}
 use Rattle.primitives.specs.declared.plain_data.PropertyWrite.{PropertyWrite}
-use Rattle.objects.specs.Writing.{write_all, writes_to}
+use Rattle.object_model.specs.Writing.{write_all, writes_to}
 use Rattle.objects.proofs.WriteLaws.{stops, goes}
 use Rattle.objects.proofs.table.Table.write_group.Goals as goal
 

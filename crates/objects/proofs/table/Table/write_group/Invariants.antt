@@ -1,5 +1,5 @@
 use Rattle.std.proofs.Common.{◌≡◌}
-use Rattle.objects.specs.Writing.{write_all, writes_to}
+use Rattle.object_model.specs.Writing.{write_all, writes_to}
 use Rattle.objects.proofs.table.Table.write_group.Given as goal
 
 -- the writes that are left lead where all lead

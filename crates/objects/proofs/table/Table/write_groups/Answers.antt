@@ -1,6 +1,6 @@
 use Rattle.std.proofs.Common.{◌∙◌, refl, sym, ap, List, rules}
 use Rattle.primitives.specs.declared.plain_data.ObjectWrites.{ObjectWrites}
-use Rattle.objects.specs.Writing.{write_all, in_order}
+use Rattle.object_model.specs.Writing.{write_all, in_order}
 use Rattle.objects.proofs.FailureLaws.{not_done}
 use Rattle.objects.proofs.WriteLaws.{group_stops, group_goes, reply_done}
 use Rattle.objects.proofs.table.Table.write_groups.Goals as goal

@@ -1,5 +1,5 @@
 use Rattle.std.proofs.Common.{◌≡◌}
-use Rattle.objects.specs.Writing.{write_all, in_order}
+use Rattle.object_model.specs.Writing.{write_all, in_order}
 use Rattle.objects.proofs.table.Table.write_groups.Given as goal
 
 -- the groups that are left lead where all lead

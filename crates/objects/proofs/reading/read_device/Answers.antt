@@ -1,6 +1,0 @@
-use Rattle.std.proofs.Common.{◌∙◌, sym}
-use Rattle.objects.proofs.ReadLaws.{device_none}
-use Rattle.objects.proofs.reading.read_device.Goals as goal
-
-pub returns-in-DeviceAddressBinding : goal.returns-in-DeviceAddressBinding
-returns-in-DeviceAddressBinding g c = c.new.ensures ∙ sym (device_none c.args.objects.now c.args.device.now c.args.property c.in-DeviceAddressBinding.is)
