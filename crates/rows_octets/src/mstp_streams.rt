@@ -173,11 +173,16 @@ impl<'a> Trial<'a> for Written {
         let mut out = buffer(given)?;
         let came = write_frame(&frame, &mut out);
         let written = written_octets(given, came, out.as_slice())?;
-        let mut asked = String::new(given.alloc);
-        push_frame(&frame, &mut asked)?;
-        compare(heard(given.alloc, &[written])?, asked.as_str())?;
+        hear_again(given.alloc, written, &frame)?;
         Ok(octets_in_words(given.alloc, written)?)
     }
+}
+
+/// Hears the octets of a frame: that frame, and nothing else.
+fn hear_again(alloc: Global, octets: &[u8], frame: &Frame<'_>) -> Result<(), Stop> {
+    let mut asked = String::new(alloc);
+    push_frame(frame, &mut asked)?;
+    compare(heard(alloc, &[octets])?, asked.as_str())
 }
 
 /// Runs a row of a frame that is written: its type, destination, source and data.

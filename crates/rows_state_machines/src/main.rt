@@ -3,7 +3,7 @@
 //!
 //! - `client`: what a client says of its requests, and what is told of them.
 //! - `server`: what a server says and executes.
-//! - `telling`: rows that told a word or a number, and octets in words.
+//! - `telling`: octets in words, of many the first and their number.
 #![tactic(auto)]
 
 mod client;

@@ -1,4 +1,4 @@
-//! Rows that told a word or a number, and octets in words.
+//! Octets in words: of many, the first and their number.
 
 use sheets::push_octets;
 use std::alloc::AllocError;

@@ -25,7 +25,8 @@ pub fn small(word: &str) -> Result<u8, Stop> {
     Ok(parse_number(word)?)
 }
 
-/// The first number and the last one of a word: `1..63`, or one alone.
+/// The first number and the last one of a word, each 0 to 255: `1..63`, or one alone. Which is the
+/// greater is not looked at.
 ///
 /// # Errors
 /// `Unread` where they are no numbers of an octet.

@@ -6,12 +6,12 @@
 //!
 //! - `row`: the files with rows where a program runs, and the rows of a file.
 //! - `given`: memory that is always there, and memory that can be refused.
-//! - `digits`: numbers and octets in words.
+//! - `digits`: numbers, ranges and octets in words.
 //! - `parsed`: requests and replies in words.
 //! - `stop`: why a row is none that holds.
-//! - `trial`: the runs of a row: as it stands, with each allocation refused in turn, with each
-//!   prefix of its octets, and with each of its octets changed.
-//! - `written`: what a call writes.
+//! - `trial`: the runs of a row: as it stands, with each allocation refused in turn
+//!   (behind the 32nd not each), with each prefix of its octets, and with each of its octets changed.
+//! - `written`: what a call writes, and marks between what is told.
 //! - `report`: what is printed of a file.
 //! - `program`: the files where a program runs, read, run and reported.
 #![tactic(auto)]

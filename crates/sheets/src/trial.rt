@@ -51,9 +51,9 @@ pub trait Trial<'a> {
     fn answer(&self, given: Given<'a>, octets: &[u8]) -> Result<String, Stop>;
 }
 
-/// Runs a call as it stands, and then with each allocation refused in turn, until a run meets no
-/// refusal: the call says want of memory where it was refused and nowhere else, and made again it
-/// gives what is wanted.
+/// Runs a call as it stands, and then with each allocation refused in turn (behind the 32nd not
+/// each), until a run meets no refusal: the call says want of memory where it was refused and
+/// nowhere else, and made again it gives what is wanted.
 ///
 /// # Errors
 /// `Differs` where one of this does not hold; those of the call.
@@ -108,9 +108,9 @@ fn is_refused<'a, T: Trial<'a>>(
     }
 }
 
-/// Runs a call on a row's octets: as they stand, with each allocation refused in turn, on each of
-/// their prefixes, and with each octet changed to `00`, `7F`, `80` and `FF`, where it never says
-/// want of memory.
+/// Runs a call on a row's octets: as they stand, with each allocation refused in turn (behind the
+/// 32nd not each), on each of their prefixes, and with each octet changed to `00`, `7F`, `80` and
+/// `FF`, where it never says want of memory.
 ///
 /// # Errors
 /// `Differs` where one of this does not hold; those of the call.
@@ -146,18 +146,18 @@ pub fn run_refused(found: String, refused: u64, wanted: &str) -> Result<Counts, 
     })
 }
 
-/// A row that told this word.
+/// A row whose call takes no memory and no octets, and told this word.
 ///
 /// # Errors
-/// `Differs` where another is wanted.
+/// `Differs` where another is wanted, and `Memory`.
 pub fn run_word(given: Given<'_>, word: &str, wanted: &str) -> Result<Counts, Stop> {
     run_text(String::from_str(given.alloc, word)?, wanted)
 }
 
-/// A row that told this number.
+/// A row whose call takes no memory and no octets, and told this number.
 ///
 /// # Errors
-/// `Differs` where another is wanted.
+/// `Differs` where another is wanted, and `Memory`.
 pub fn run_number(given: Given<'_>, number: u64, wanted: &str) -> Result<Counts, Stop> {
     run_text(format!(in given.alloc; "{number}")?, wanted)
 }

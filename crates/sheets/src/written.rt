@@ -56,7 +56,7 @@ pub fn push_written(read: &[u8], written: &[u8], out: &mut String) -> Result<(),
 /// What was read, in words, and behind it what was written of that, where it is not what was read.
 ///
 /// # Errors
-/// Those of `written_octets`.
+/// Those of `written_octets`, and want of memory.
 pub fn with_written(
     given: Given<'_>,
     read: &[u8],
@@ -69,7 +69,7 @@ pub fn with_written(
     Ok(text)
 }
 
-/// Appends a mark that parts what follows from what stands there.
+/// Appends a mark that parts what follows from what stands there: nothing where nothing stands.
 ///
 /// # Errors
 /// Want of memory.
