@@ -26,6 +26,9 @@ impl<A: Allocator> Model for Commands<A> {
 
 impl<A: Allocator + Copy> Commands<A> {
     /// Sixteen empty slots.
+    ///
+    /// # Errors
+    /// Want of memory.
     pub fn new(alloc: A) -> Result<Self, AllocError>
         ensures { IfOk result (λ slots. slots ≡ no_slots) }
     {
@@ -36,14 +39,14 @@ impl<A: Allocator + Copy> Commands<A> {
 }
 
 impl<A: Allocator> Commands<A> {
-    /// The value of the highest priority.
+    /// The value of the highest priority (19.2), `None` where all slots are empty.
     pub fn current(&self) -> Option<&Value<A>>
         ensures filled { option_copied result ≡ first_filled self.now }
     {
         self.slots.current()
     }
 
-    /// The number of slots.
+    /// The number of slots, 16.
     pub fn len(&self) -> usize
         ensures count { result ≡ 16 }
         ensures sixteen { length self.now ≡ 16 }

@@ -1,5 +1,5 @@
 //! The objects of a device: what a site gives, what each object holds, how its properties are read
-//! and written (ANSI/ASHRAE 135, clauses 12, 15.5.1, 15.9.1 and 19.2).
+//! and written (ANSI/ASHRAE 135, clauses 12, 15.5, 15.7, 15.9, 15.10 and 19.2).
 //!
 //! To the table above it promises: an object has the properties of its type's table; a property is
 //! found, or refused with the first error that applies, and reads what it holds; a value is taken,

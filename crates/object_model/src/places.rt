@@ -52,6 +52,9 @@ impl<A: Allocator + Copy> Places<A> {
     }
 
     /// Puts an identifier at the end. An `Err` leaves the list as it was.
+    ///
+    /// # Errors
+    /// Want of memory.
     pub fn push(&mut self, id: ObjectId) -> Result<(), AllocError>
         ensures pushed { OnOk result (self.new ≡ self.old ++ id ∷ []) }
         ensures unchanged { OnErr result (self.new ≡ self.old) }

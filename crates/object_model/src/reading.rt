@@ -17,23 +17,23 @@ use tags::{Items, ObjectId, Octets, Value};
 /// Why something is refused: an error class and code (18).
 pub type Refusal = (ErrorClass, ErrorCode);
 
-/// There is no such object.
+/// There is no such object (15.5.1.3).
 pub const UNKNOWN_OBJECT: Refusal = (ErrorClass::Object, ErrorCode::UnknownObject);
 
-/// The object has no such property.
+/// The object has no such property (15.5.1.3).
 pub const UNKNOWN_PROPERTY: Refusal = (ErrorClass::Property, ErrorCode::UnknownProperty);
 
-/// The property is no array.
+/// The property is no array (15.5.1.3).
 pub const NOT_AN_ARRAY: Refusal = (ErrorClass::Property, ErrorCode::PropertyIsNotAnArray);
 
-/// The array has no element of this index.
+/// The array has no element of this index (15.5.1.3).
 pub const INVALID_INDEX: Refusal = (ErrorClass::Property, ErrorCode::InvalidArrayIndex);
 
 impl DataLink {
     ghost use Rattle.std.specs.Prelude.{◌≡◌};
     ghost use Rattle.object_model.specs.Objects.{max_apdu_of};
 
-    /// The longest APDU that a device on this data link takes, in octets.
+    /// The longest APDU that a device on this data link takes, in octets (clauses 9 and J).
     pub fn max_apdu(self) -> u32
         ensures { result ≡ max_apdu_of self }
     {
@@ -46,6 +46,9 @@ impl DataLink {
 
 /// The property of this number of an object, if the object has it and the index is one of its
 /// elements (15.5.1.3).
+///
+/// # Errors
+/// The first that applies: `UNKNOWN_PROPERTY`, `NOT_AN_ARRAY`, `INVALID_INDEX`.
 pub fn locate<A: Allocator>(
     objects: &[Object<A>],
     object: &Object<A>,
@@ -100,6 +103,9 @@ fn elements<A: Allocator>(objects: &[Object<A>], object: &Object<A>, property: P
 
 /// What an object's property holds at an index that it has: all values, or at 0 their number, or
 /// one element (15.5.2).
+///
+/// # Errors
+/// Want of memory.
 #[tactic(auto, using(crate::proofs::ReadLaws::read_rules))]
 pub fn read<A: Allocator + Copy>(
     alloc: A,
@@ -397,6 +403,9 @@ fn one_copy<A: Allocator + Copy>(alloc: A, value: &Value<A>) -> Result<Values<A>
 }
 
 /// A list of one text of UTF-8.
+///
+/// # Errors
+/// Want of memory.
 pub fn one_text<A: Allocator + Copy>(alloc: A, octets: &[u8]) -> Result<Values<A>, AllocError>
     ensures { IfOk result (λ values. values ≡ text octets.now ∷ []) }
 {

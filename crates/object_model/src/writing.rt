@@ -123,7 +123,7 @@ fn in_range(fits: bool) -> Option<Refusal>
     if fits { None } else { Some(OUT_OF_RANGE) }
 }
 
-/// Why a text is not taken: its character set, its length, or octets that are no UTF-8.
+/// Why a text is not taken: its character set, its length, or octets that are no UTF-8 (20.2.9).
 pub fn text_refusal(set: u8, octets: &[u8]) -> Option<Refusal>
     ensures { result ≡ text_refusal set octets.now }
 {
@@ -151,7 +151,7 @@ impl ValueKind {
     ghost use Rattle.std.specs.Prelude.{◌≡◌};
     ghost use Rattle.object_model.specs.Writing.{datatype_of};
 
-    /// The type of the values that an object of this kind holds.
+    /// The type of the values that an object of this kind holds (12.8.4, 12.20.4, 12.37.4, 12.43.4).
     pub fn datatype(self) -> Datatype
         ensures { result ≡ datatype_of self }
     {
@@ -164,7 +164,7 @@ impl ValueKind {
     }
 }
 
-/// How a property of an object is written.
+/// How a property of an object is written (12, 19.2).
 pub fn access<A: Allocator>(object: &Object<A>, property: Property) -> Access
     ensures { result ≡ access object.now property }
 {
@@ -183,7 +183,8 @@ pub fn access<A: Allocator>(object: &Object<A>, property: Property) -> Access
     }
 }
 
-/// Puts the one value of a write into a property.
+/// Puts the one value of a write into a property (15.9.2). None or several change nothing, and neither does a
+/// property that isn't written.
 pub fn put<A: Allocator>(object: &mut Object<A>, property: Property, level: u8, values: Values<A>)
     ensures { object.new ≡ put property level values object.old }
 {

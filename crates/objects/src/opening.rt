@@ -184,6 +184,9 @@ fn is_other_object<A: Allocator>(id: ObjectId, name: &[u8], object: &SiteObject<
 }
 
 /// The objects of a site as they open.
+///
+/// # Errors
+/// Want of memory.
 pub fn open<A: Allocator + Copy>(
     alloc: A,
     site: SiteObjects<A>,
@@ -246,6 +249,9 @@ fn open_value<A: Allocator + Copy>(alloc: A, object: SiteObject<A>) -> Result<Ob
 }
 
 /// The places of objects in their list.
+///
+/// # Errors
+/// Want of memory.
 pub fn places_of<A: Allocator + Copy>(
     alloc: A,
     objects: &[Object<A>],
