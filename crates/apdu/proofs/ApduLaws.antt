@@ -5,7 +5,8 @@ use Rattle.tags.proofs.OneTag.{only_tag}
 use Rattle.tags.specs.declared.fault.Fault.{Fault}
 use Rattle.tags.specs.declared.tag.Class.TheVariants.{Application, Context}
 use Rattle.tags.specs.Tag.{TakesTag, PlainTag}
-use Rattle.apdu.specs.Apdu.{PlainApdu, confirmed, unconfirmed, simple_ack, complex_ack, segment_ack, error_pdu, reject_pdu, abort_pdu, apdu_of, type_of, IsSegmented, HasFlags, segment_octets, SpellsFields, SpellsBehind, Spells, OnlyApdu}
+use Rattle.apdu.specs.Apdu.{PlainApdu, confirmed, unconfirmed, simple_ack, complex_ack, segment_ack, error_pdu, reject_pdu, abort_pdu, apdu_of, type_of}
+use Rattle.apdu.specs.Apdu.{IsSegmented, HasFlags, segment_octets, SpellsFields, SpellsBehind, Spells, OnlyApdu}
 use Rattle.apdu.specs.Parameter.{opening_tag, closing_tag, carrying}
 use Rattle.apdu.specs.PduType.{type_number}
 use Rattle.apdu.specs.ServiceError.{TakesClassAndCode, OnlyClassAndCode, EndsReference, TakesReference, OnlyReference, SpellsError, OnlyError}
@@ -20,8 +21,11 @@ use Rattle.apdu.proofs.ServiceErrors.{only_reference, only_failed_write, only_pl
 
 -- what stands in an Error's contents stands there alone
 
-pub class_and_code_alone : (octets : List ℕ) (class code : ℕ) (rest : List ℕ) → TakesClassAndCode octets class code rest → OnlyClassAndCode octets class code rest
-class_and_code_alone octets class code rest t = only_class_and_code octets class t.at_code code rest (alone_number Application 9 octets class t.at_code t.class_taken) (alone_number Application 9 t.at_code code rest t.code_taken)
+pub class_and_code_alone : (octets : List ℕ) (class code : ℕ) (rest : List ℕ) → TakesClassAndCode octets class code rest →
+    OnlyClassAndCode octets class code rest
+class_and_code_alone octets class code rest t =
+    only_class_and_code octets class t.at_code code rest (alone_number Application 9 octets class t.at_code t.class_taken)
+    (alone_number Application 9 t.at_code code rest t.code_taken)
 
 no_closing_index : (octets inner rest : List ℕ) → TakesTag octets (closing_tag 1) [] → TakesTag octets (carrying Context 2 inner) rest → ⊥
 no_closing_index octets inner rest s t =
@@ -41,9 +45,12 @@ referred_to : (r : ObjectPropertyReference) → record { object = r.object; prop
 referred_to r = refl
 
 reference_alone : (octets : List ℕ) (r : ObjectPropertyReference) → TakesReference octets r → OnlyReference octets r
-reference_alone octets r t = rw (sym (referred_to r)) (only_reference octets r.object t.at_property r.property t.at_index r.index (alone_object Context 0 octets r.object t.at_property t.object) (alone_number Context 1 t.at_property r.property t.at_index t.property) (record { only = λ o s. one_end t.at_index r.index o t.index s }))
+reference_alone octets r t = rw (sym (referred_to r))
+    (only_reference octets r.object t.at_property r.property t.at_index r.index (alone_object Context 0 octets r.object t.at_property t.object)
+    (alone_number Context 1 t.at_property r.property t.at_index t.property) (record { only = λ o s. one_end t.at_index r.index o t.index s }))
 
-error_alone : (service : ℕ) (octets : List ℕ) (class code : ℕ) (o : Option ObjectPropertyReference) → SpellsError service octets class code o → OnlyError service octets class code o
+error_alone : (service : ℕ) (octets : List ℕ) (class code : ℕ) (o : Option ObjectPropertyReference) → SpellsError service octets class code o →
+    OnlyError service octets class code o
 error_alone service octets class code None s = only_plain service octets class code [] s.0 (class_and_code_alone octets class code [] s.1) refl
 error_alone service octets class code (Some r) s =
     let t = s.1 in
@@ -63,7 +70,8 @@ made_again : (s : Segment) → made s.more_follows s.sequence_number s.window �
 unfolding made
 made_again s = refl
 
-pub one_segment : (first : ℕ) (o p : Option Segment) (x y : List ℕ) → IsSegmented first o → IsSegmented first p → segment_octets o ++ x ≡ segment_octets p ++ y → (o ≡ p) × (x ≡ y)
+pub one_segment : (first : ℕ) (o p : Option Segment) (x y : List ℕ) → IsSegmented first o → IsSegmented first p →
+    segment_octets o ++ x ≡ segment_octets p ++ y → (o ≡ p) × (x ≡ y)
 one_segment first None None x y s t e = (refl, e)
 one_segment first None (Some q) x y s t e = absurd (cc (s.is, t.is))
 one_segment first (Some p) None x y s t e = absurd (cc (s.is, t.is))
@@ -73,7 +81,8 @@ one_segment first (Some p) (Some q) x y s t e =
     let window : p.window ≡ q.window = cc in
     (cc (made_again p, made_again q, more, sequence, window), cc)
 
-one_behind : (first : ℕ) (rest : List ℕ) (a b : PlainApdu) → type_number (type_of a) ≡ type_number (type_of b) → HasFlags first a → HasFlags first b → SpellsFields rest a → SpellsFields rest b → a ≡ b
+one_behind : (first : ℕ) (rest : List ℕ) (a b : PlainApdu) → type_number (type_of a) ≡ type_number (type_of b) → HasFlags first a → HasFlags first b →
+    SpellsFields rest a → SpellsFields rest b → a ≡ b
 one_behind first rest (confirmed g accepted m n i v x) (confirmed h taken k l j w y) e f q s t =
     let both = sym s.parts ∙ t.parts in
     let sizes : s.sizes ≡ t.sizes = cc in
@@ -121,6 +130,8 @@ pub only_apdu : (octets : List ℕ) (r : Result Apdu Fault) → IfOk r (λ a. Sp
 only_apdu octets (Ok a) s = record { only = λ b t. one_apdu octets (apdu_of a) b s t }
 only_apdu octets (Err e) s = tt
 
-pub spelled_behind : (k : PduType) (first : ℕ) (rest octets : List ℕ) (r : Result Apdu Fault) → octets ≡ first ∷ rest → type_number k ≡ first / 16 → IfOk r (λ a. SpellsBehind k first rest (apdu_of a)) → IfOk r (λ a. Spells octets (apdu_of a))
-spelled_behind k first rest octets (Ok a) front is s = record { first = first; rest = rest; front = front; kind = sym is ∙ ap type_number (sym s.kind); flags = s.flags; fields = s.fields }
+pub spelled_behind : (k : PduType) (first : ℕ) (rest octets : List ℕ) (r : Result Apdu Fault) → octets ≡ first ∷ rest → type_number k ≡ first / 16 →
+    IfOk r (λ a. SpellsBehind k first rest (apdu_of a)) → IfOk r (λ a. Spells octets (apdu_of a))
+spelled_behind k first rest octets (Ok a) front is s =
+    record { first = first; rest = rest; front = front; kind = sym is ∙ ap type_number (sym s.kind); flags = s.flags; fields = s.fields }
 spelled_behind k first rest octets (Err e) front is s = tt

@@ -1,5 +1,6 @@
 -- The octets that are written spell what was to be written.
-use Rattle.std.proofs.Common.{◌≡◌, ℕ, ◌+◌, ◌*◌, ◌/◌, ◌%◌, ◌^◌, ◌<◌, ◌==◌, Bool, true, false, List, [], ◌++◌, ◌∙◌, Option, Some, None, refl, ap, subst, append_assoc, arith}
+use Rattle.std.proofs.Common.{◌≡◌, ℕ, ◌+◌, ◌*◌, ◌/◌, ◌%◌, ◌^◌, ◌<◌, ◌==◌, Bool, true, false, List, [], ◌++◌, ◌∙◌, Option, Some, None, refl, ap, subst}
+use Rattle.std.proofs.Common.{append_assoc, arith}
 use Rattle.std.specs.Prelude.{IfSome}
 use Rattle.std.proofs.lemmas.List.{append-nil}
 use Rattle.tags.proofs.CanonicalLaws.{canonical_tag_spells, number_again, unsigned_spells}
@@ -14,8 +15,10 @@ use Rattle.apdu.specs.Parameter.{opening_tag, closing_tag, IsObject, Takes}
 use Rattle.apdu.specs.ServiceError.{TakesClassAndCode, EndsReference, TakesReference, SpellsError}
 use Rattle.apdu.specs.Sizes.{segments_code}
 use Rattle.apdu.specs.PduType.{type_number}
-use Rattle.apdu.specs.Apdu.{PlainApdu, confirmed, unconfirmed, simple_ack, complex_ack, segment_ack, error_pdu, reject_pdu, abort_pdu, type_of, HasFlags, SpellsFields}
-use Rattle.apdu.specs.ApduWriting.{flag_bits, class_and_code_octets, reference_octets, error_octets, field_octets, NamesWriteOf, CanBeNamed, CanBeWritten, FitsReference, HasNumbers}
+use Rattle.apdu.specs.Apdu.{PlainApdu, confirmed, unconfirmed, simple_ack, complex_ack, segment_ack, error_pdu, reject_pdu, abort_pdu, type_of, HasFlags}
+use Rattle.apdu.specs.Apdu.{SpellsFields}
+use Rattle.apdu.specs.ApduWriting.{flag_bits, class_and_code_octets, reference_octets, error_octets, field_octets, NamesWriteOf, CanBeNamed, CanBeWritten}
+use Rattle.apdu.specs.ApduWriting.{FitsReference, HasNumbers}
 use Rattle.apdu.specs.ApduLaws.{CanonicalSpells}
 use Rattle.apdu.specs.declared.service_error.ObjectPropertyReference.{ObjectPropertyReference}
 use Rattle.apdu.specs.declared.sizes.MaxSegments.{MaxSegments}
@@ -23,12 +26,19 @@ use Rattle.apdu.specs.declared.sizes.MaxSegments.TheVariants.{Unspecified, Two, 
 
 -- numbers and objects as contents
 
-pub takes_number : (class : Class) (number n : ℕ) (rest : List ℕ) → HasContents class number → number < 255 → n < 2 ^ 32 → Takes SpellsUnsigned class number (tagged class number (unsigned_octets n) ++ rest) n rest
+pub takes_number : (class : Class) (number n : ℕ) (rest : List ℕ) → HasContents class number → number < 255 → n < 2 ^ 32 →
+    Takes SpellsUnsigned class number (tagged class number (unsigned_octets n) ++ rest) n rest
 takes_number class number n rest may below lt =
     let s = unsigned_spells n lt in
-    record { inner = unsigned_octets n; tag = (tagged class number (unsigned_octets n), canonical_tag_spells class number (contents (unsigned_octets n)) (may, below, omega (arith, s.few)), refl); said = s }
+    record {
+      inner = unsigned_octets n;
+      tag =
+          (tagged class number (unsigned_octets n), canonical_tag_spells class number (contents (unsigned_octets n)) (may, below, omega (arith, s.few)), refl);
+      said = s;
+    }
 
-pub takes_object : (class : Class) (number : ℕ) (o : ObjectId) (rest : List ℕ) → HasContents class number → number < 255 → IsSoundObject o.object_type o.instance → Takes IsObject class number (tagged class number (object_octets o.object_type o.instance) ++ rest) o rest
+pub takes_object : (class : Class) (number : ℕ) (o : ObjectId) (rest : List ℕ) → HasContents class number → number < 255 →
+    IsSoundObject o.object_type o.instance → Takes IsObject class number (tagged class number (object_octets o.object_type o.instance) ++ rest) o rest
 takes_object class number o rest may below sound =
     let n = o.object_type * 2 ^ 22 + o.instance in
     let inner = object_octets o.object_type o.instance in
@@ -46,7 +56,8 @@ takes_opening number rest below = (canonical_tag Context number opening, canonic
 takes_closing : (number : ℕ) (rest : List ℕ) → number < 255 → TakesTag (canonical_tag Context number closing ++ rest) (closing_tag number) rest
 takes_closing number rest below = (canonical_tag Context number closing, canonical_tag_spells Context number closing (refl, below), refl)
 
-pub class_and_code : (class code : ℕ) (rest : List ℕ) → class < 2 ^ 32 → code < 2 ^ 32 → TakesClassAndCode (class_and_code_octets class code ++ rest) class code rest
+pub class_and_code : (class code : ℕ) (rest : List ℕ) → class < 2 ^ 32 → code < 2 ^ 32 →
+    TakesClassAndCode (class_and_code_octets class code ++ rest) class code rest
 class_and_code class code rest small little =
     let first = tagged Application 9 (unsigned_octets class) in
     let second = tagged Application 9 (unsigned_octets code) in
@@ -61,14 +72,21 @@ closed = takes_closing 1 [] (omega arith)
 
 index_ends : (index : Option ℕ) → IfSome index (λ n. n < 2 ^ 32) → EndsReference (option_field 2 index ++ canonical_tag Context 1 closing) index
 index_ends None fits = closed
-index_ends (Some n) fits = record { at_closing = canonical_tag Context 1 closing; index_taken = takes_number Context 2 n (canonical_tag Context 1 closing) tt (omega arith) fits; closing = closed }
+index_ends (Some n) fits = record {
+  at_closing = canonical_tag Context 1 closing;
+  index_taken =
+      takes_number Context 2 n (canonical_tag Context 1 closing) tt (omega arith) fits;
+  closing = closed;
+}
 
-reference_taken : (r : ObjectPropertyReference) → CanBeNamed (Some r) → FitsReference (Some r) → TakesReference (reference_octets r ++ canonical_tag Context 1 closing) r
+reference_taken : (r : ObjectPropertyReference) → CanBeNamed (Some r) → FitsReference (Some r) →
+    TakesReference (reference_octets r ++ canonical_tag Context 1 closing) r
 reference_taken r sound fits =
     let object = tagged Context 0 (object_octets r.object.object_type r.object.instance) in
     let property = tagged Context 1 (unsigned_octets r.property) in
     let end = canonical_tag Context 1 closing in
-    let whole : (object ++ (property ++ option_field 2 r.index)) ++ end ≡ object ++ (property ++ (option_field 2 r.index ++ end)) = append_assoc object (property ++ option_field 2 r.index) end ∙ ap (λ (x : List ℕ). object ++ x) (append_assoc property (option_field 2 r.index) end) in
+    let whole : (object ++ (property ++ option_field 2 r.index)) ++ end ≡ object ++ (property ++ (option_field 2 r.index ++ end)) =
+    append_assoc object (property ++ option_field 2 r.index) end ∙ ap (λ (x : List ℕ). object ++ x) (append_assoc property (option_field 2 r.index) end) in
     record {
       at_property = property ++ (option_field 2 r.index ++ end);
       at_index = option_field 2 r.index ++ end;
@@ -77,8 +95,13 @@ reference_taken r sound fits =
       index = index_ends r.index (fits.1);
     }
 
-pub error_spelled : (service class code : ℕ) (o : Option ObjectPropertyReference) → NamesWriteOf service o → CanBeNamed o → class < 2 ^ 32 → code < 2 ^ 32 → FitsReference o → SpellsError service (error_octets class code o) class code o
-error_spelled service class code None names sound small little fits = (names, subst (λ (x : List ℕ). TakesClassAndCode x class code []) (append-nil (class_and_code_octets class code)) (class_and_code class code [] small little))
+pub error_spelled : (service class code : ℕ) (o : Option ObjectPropertyReference) → NamesWriteOf service o → CanBeNamed o → class < 2 ^ 32 → code < 2 ^ 32 →
+    FitsReference o → SpellsError service (error_octets class code o) class code o
+error_spelled service class code None names sound small little fits = (
+  names,
+  subst (λ (x : List ℕ). TakesClassAndCode x class code []) (append-nil (class_and_code_octets class code))
+      (class_and_code class code [] small little),
+)
 error_spelled service class code (Some r) names sound small little fits =
     let end = canonical_tag Context 1 closing in
     let at_reference = reference_octets r ++ end in
@@ -104,7 +127,8 @@ request_flags : (accepted : Bool) → (((16 * 0 + (0 + 2 * bit accepted)) / 8 % 
 request_flags false = (refl, refl)
 request_flags true = (refl, refl)
 
-request_segment_flags : (more accepted : Bool) → (((16 * 0 + ((8 + 4 * bit more) + 2 * bit accepted)) / 8 % 2 == 1) ≡ true) × (more ≡ ((16 * 0 + ((8 + 4 * bit more) + 2 * bit accepted)) / 4 % 2 == 1)) × (accepted ≡ ((16 * 0 + ((8 + 4 * bit more) + 2 * bit accepted)) / 2 % 2 == 1))
+request_segment_flags : (more accepted : Bool) → (((16 * 0 + ((8 + 4 * bit more) + 2 * bit accepted)) / 8 % 2 == 1) ≡ true) ×
+    (more ≡ ((16 * 0 + ((8 + 4 * bit more) + 2 * bit accepted)) / 4 % 2 == 1)) × (accepted ≡ ((16 * 0 + ((8 + 4 * bit more) + 2 * bit accepted)) / 2 % 2 == 1))
 request_segment_flags false false = (refl, refl, refl)
 request_segment_flags false true = (refl, refl, refl)
 request_segment_flags true false = (refl, refl, refl)
@@ -114,7 +138,8 @@ ack_segment_flags : (more : Bool) → (((16 * 3 + (8 + 4 * bit more)) / 8 % 2 ==
 ack_segment_flags false = (refl, refl)
 ack_segment_flags true = (refl, refl)
 
-segment_ack_flags : (negative server : Bool) → (negative ≡ ((16 * 4 + (2 * bit negative + bit server)) / 2 % 2 == 1)) × (server ≡ ((16 * 4 + (2 * bit negative + bit server)) % 2 == 1))
+segment_ack_flags : (negative server : Bool) → (negative ≡ ((16 * 4 + (2 * bit negative + bit server)) / 2 % 2 == 1)) ×
+    (server ≡ ((16 * 4 + (2 * bit negative + bit server)) % 2 == 1))
 segment_ack_flags false false = (refl, refl)
 segment_ack_flags false true = (refl, refl)
 segment_ack_flags true false = (refl, refl)
@@ -165,12 +190,14 @@ segments_code-lt More = omega arith
 -- what stands behind it
 
 fields_spelled : (a : PlainApdu) → CanBeWritten a → HasNumbers a → SpellsFields (field_octets a) a
-fields_spelled (confirmed g accepted m n i v x) fits numbers = record { sizes = 16 * segments_code m + n; segments = omega (arith, segments_code-lt m); apdu = omega (arith, segments_code-lt m); parts = refl }
+fields_spelled (confirmed g accepted m n i v x) fits numbers =
+    record { sizes = 16 * segments_code m + n; segments = omega (arith, segments_code-lt m); apdu = omega (arith, segments_code-lt m); parts = refl }
 fields_spelled (unconfirmed v x) fits numbers = refl
 fields_spelled (simple_ack i v) fits numbers = refl
 fields_spelled (complex_ack g i v x) fits numbers = refl
 fields_spelled (segment_ack negative server i n w) fits numbers = refl
-fields_spelled (error_pdu i v c d o) fits numbers = record { contents = error_octets c d o; parts = refl; spelled = error_spelled v c d o (fits.0) (fits.1) (numbers.0) (numbers.1) (numbers.2) }
+fields_spelled (error_pdu i v c d o) fits numbers =
+    record { contents = error_octets c d o; parts = refl; spelled = error_spelled v c d o (fits.0) (fits.1) (numbers.0) (numbers.1) (numbers.2) }
 fields_spelled (reject_pdu i r) fits numbers = refl
 fields_spelled (abort_pdu server i r) fits numbers = refl
 

@@ -1,9 +1,11 @@
 -- Octets are refused for one cause, and what is short could be completed.
-use Rattle.std.proofs.Common.{◌≡◌, ℕ, zero, suc, ◌+◌, ◌/◌, ◌%◌, ◌<◌, ◌≤◌, ◌==◌, Bool, true, false, List, [], ◌∷◌, ◌++◌, ◌∙◌, length, Some, None, inl, inr, refl, sym, ap, subst, arith}
+use Rattle.std.proofs.Common.{◌≡◌, ℕ, zero, suc, ◌+◌, ◌/◌, ◌%◌, ◌<◌, ◌≤◌, ◌==◌, Bool, true, false, List, [], ◌∷◌, ◌++◌, ◌∙◌, length, Some, None, inl, inr, refl}
+use Rattle.std.proofs.Common.{sym, ap, subst, arith}
 use Rattle.tags.specs.declared.fault.Fault.{Fault}
 use Rattle.tags.specs.declared.fault.Fault.TheVariants.{Short, BadTag, BadLength}
 use Rattle.apdu.proofs.CanonicalLaws.{error_spelled}
-use Rattle.apdu.specs.Apdu.{PlainApdu, confirmed, unconfirmed, simple_ack, complex_ack, segment_ack, error_pdu, reject_pdu, abort_pdu, type_of, HasFlags, SpellsFields, Spells}
+use Rattle.apdu.specs.Apdu.{PlainApdu, confirmed, unconfirmed, simple_ack, complex_ack, segment_ack, error_pdu, reject_pdu, abort_pdu, type_of, HasFlags}
+use Rattle.apdu.specs.Apdu.{SpellsFields, Spells}
 use Rattle.apdu.specs.ApduLaws.{RefusedOnce, ShortIsBegun}
 use Rattle.apdu.specs.ApduWriting.{error_octets}
 use Rattle.apdu.specs.ApduRefusal.{HasNoError, RefusesBehind, IsRefused, IsUnknown, Refuses}
@@ -190,7 +192,8 @@ size_at (suc (suc (suc (suc (suc (suc (suc zero))))))) lt = (More, refl)
 size_at (suc (suc (suc (suc (suc (suc (suc (suc n)))))))) lt = absurd (omega arith)
 
 -- a request and an acknowledgement of any octets that are enough for a segment
-request_at : (first : ℕ) (b : Bool) → (first / 8 % 2 == 1) ≡ b → (s i x y z : ℕ) (tail : List ℕ) → IsCompleted ConfirmedRequest first (s ∷ (i ∷ (x ∷ (y ∷ (z ∷ tail)))))
+request_at : (first : ℕ) (b : Bool) → (first / 8 % 2 == 1) ≡ b → (s i x y z : ℕ) (tail : List ℕ) →
+    IsCompleted ConfirmedRequest first (s ∷ (i ∷ (x ∷ (y ∷ (z ∷ tail)))))
 request_at first false e s i x y z tail =
     let m = size_at (s / 16 % 8) (omega arith) in
     record {
@@ -245,12 +248,60 @@ completed UnconfirmedRequest first (x ∷ rest) lt = absurd (omega arith)
 completed SimpleAck first [] lt = record { more = 0 ∷ (0 ∷ []); whole = record { apdu = simple_ack 0 0; kind = refl; flags = tt; fields = refl } }
 completed SimpleAck first (i ∷ []) lt = record { more = 0 ∷ []; whole = record { apdu = simple_ack i 0; kind = refl; flags = tt; fields = refl } }
 completed SimpleAck first (i ∷ x ∷ rest) lt = absurd (omega arith)
-completed SegmentAck first [] lt = record { more = 0 ∷ (0 ∷ (0 ∷ [])); whole = record { apdu = segment_ack (first / 2 % 2 == 1) (first % 2 == 1) 0 0 0; kind = refl; flags = (refl, refl); fields = refl } }
-completed SegmentAck first (i ∷ []) lt = record { more = 0 ∷ (0 ∷ []); whole = record { apdu = segment_ack (first / 2 % 2 == 1) (first % 2 == 1) i 0 0; kind = refl; flags = (refl, refl); fields = refl } }
-completed SegmentAck first (i ∷ x ∷ []) lt = record { more = 0 ∷ []; whole = record { apdu = segment_ack (first / 2 % 2 == 1) (first % 2 == 1) i x 0; kind = refl; flags = (refl, refl); fields = refl } }
+completed SegmentAck first [] lt = record {
+  more = 0 ∷ (0 ∷ (0 ∷ []));
+  whole =
+      record { apdu = segment_ack (first / 2 % 2 == 1) (first % 2 == 1) 0 0 0; kind = refl; flags = (refl, refl); fields = refl };
+}
+completed SegmentAck first (i ∷ []) lt = record {
+  more = 0 ∷ (0 ∷ []);
+  whole =
+      record { apdu = segment_ack (first / 2 % 2 == 1) (first % 2 == 1) i 0 0; kind = refl; flags = (refl, refl); fields = refl };
+}
+completed SegmentAck first (i ∷ x ∷ []) lt =
+    record {
+      more = 0 ∷ [];
+      whole = record {
+        apdu = segment_ack (first / 2 % 2 == 1) (first % 2 == 1) i x 0;
+        kind = refl;
+        flags = (refl, refl);
+        fields =
+            refl;
+      };
+    }
 completed SegmentAck first (i ∷ x ∷ y ∷ rest) lt = absurd (omega arith)
-completed Error first [] lt = record { more = 0 ∷ (0 ∷ error_octets 0 0 None); whole = record { apdu = error_pdu 0 0 0 0 None; kind = refl; flags = tt; fields = record { contents = error_octets 0 0 None; parts = refl; spelled = error_spelled 0 0 0 None (λ e. absurd (omega arith)) tt (omega arith) (omega arith) tt } } }
-completed Error first (i ∷ []) lt = record { more = 0 ∷ error_octets 0 0 None; whole = record { apdu = error_pdu i 0 0 0 None; kind = refl; flags = tt; fields = record { contents = error_octets 0 0 None; parts = refl; spelled = error_spelled 0 0 0 None (λ e. absurd (omega arith)) tt (omega arith) (omega arith) tt } } }
+completed Error first [] lt = record {
+  more = 0 ∷ (0 ∷ error_octets 0 0 None);
+  whole =
+      record {
+        apdu = error_pdu 0 0 0 0 None;
+        kind = refl;
+        flags = tt;
+        fields =
+            record {
+              contents = error_octets 0 0 None;
+              parts = refl;
+              spelled =
+                  error_spelled 0 0 0 None (λ e. absurd (omega arith)) tt (omega arith) (omega arith) tt;
+            };
+      };
+}
+completed Error first (i ∷ []) lt = record {
+  more = 0 ∷ error_octets 0 0 None;
+  whole =
+      record {
+        apdu = error_pdu i 0 0 0 None;
+        kind = refl;
+        flags = tt;
+        fields =
+            record {
+              contents = error_octets 0 0 None;
+              parts = refl;
+              spelled =
+                  error_spelled 0 0 0 None (λ e. absurd (omega arith)) tt (omega arith) (omega arith) tt;
+            };
+      };
+}
 completed Error first (i ∷ x ∷ rest) lt = absurd (omega arith)
 completed Reject first [] lt = record { more = 0 ∷ (0 ∷ []); whole = record { apdu = reject_pdu 0 0; kind = refl; flags = tt; fields = refl } }
 completed Reject first (i ∷ []) lt = record { more = 0 ∷ []; whole = record { apdu = reject_pdu i 0; kind = refl; flags = tt; fields = refl } }
@@ -271,5 +322,13 @@ short_is_begun octets (inr r) =
     record {
       more = c.more;
       apdu = w.apdu;
-      whole = record { first = r.first; rest = r.rest ++ c.more; front = ap (λ (x : List ℕ). x ++ c.more) r.front; kind = r.type_is ∙ ap type_number (sym w.kind); flags = w.flags; fields = w.fields };
+      whole = record {
+        first = r.first;
+        rest = r.rest ++ c.more;
+        front = ap (λ (x : List ℕ). x ++ c.more) r.front;
+        kind =
+            r.type_is ∙ ap type_number (sym w.kind);
+        flags = w.flags;
+        fields = w.fields;
+      };
     }

@@ -20,7 +20,8 @@ use Rattle.apdu.specs.Unconfirmed.{device, segmentation_number}
 use Rattle.apdu.specs.declared.service_error.ObjectPropertyReference.{ObjectPropertyReference}
 use Rattle.apdu.proofs.UnconfirmedLaws.{as_number}
 
-fewer_contents : (class : Class) (number : ℕ) (xs ys : List ℕ) → length xs ≤ length ys → length ys ≤ 4 → length (tagged class number xs) ≤ length (tagged class number ys)
+fewer_contents : (class : Class) (number : ℕ) (xs ys : List ℕ) → length xs ≤ length ys → length ys ≤ 4 →
+    length (tagged class number xs) ≤ length (tagged class number ys)
 fewer_contents class number xs ys le few = omega (arith, few_octets class number xs (omega arith), few_octets class number ys few)
 
 -- the front of octets is octets
@@ -32,7 +33,8 @@ front_fits front rest fits i =
     ]
 
 -- .. and so are the contents of a tag at the front
-inner_fits : (octets : List ℕ) (class : Class) (number : ℕ) (inner rest : List ℕ) → TakesTag octets (carrying class number inner) rest → AreOctets octets → AreOctets inner
+inner_fits : (octets : List ℕ) (class : Class) (number : ℕ) (inner rest : List ℕ) → TakesTag octets (carrying class number inner) rest → AreOctets octets →
+    AreOctets inner
 inner_fits octets class number inner rest t fits =
     let s = t.1 in
     let initial = initial_octets class number (length_bits s.form (length inner)) in
@@ -47,7 +49,8 @@ pub record Least (few octets rest : List ℕ) : Type 0 where
   pub le : length few + length rest ≤ length octets
   pub fits : AreOctets rest
 
-pub number_least : (class : Class) (number : ℕ) (octets : List ℕ) (n : ℕ) (rest : List ℕ) → Takes SpellsUnsigned class number octets n rest → AreOctets octets → Least (tagged class number (unsigned_octets n)) octets rest
+pub number_least : (class : Class) (number : ℕ) (octets : List ℕ) (n : ℕ) (rest : List ℕ) → Takes SpellsUnsigned class number octets n rest →
+    AreOctets octets → Least (tagged class number (unsigned_octets n)) octets rest
 number_least class number octets n rest t fits =
     let tag = t.tag in
     let inner = inner_fits octets class number t.inner rest tag fits in
@@ -56,7 +59,8 @@ number_least class number octets n rest t fits =
     let whole = ap length (tag.2) ∙ length-append (tag.0) rest in
     record { le = omega (arith, one, two, whole); fits = AreOctets-after octets (tag.0) rest (tag.2) fits }
 
-pub object_least : (class : Class) (number : ℕ) (octets : List ℕ) (o : ObjectId) (rest : List ℕ) → Takes IsObject class number octets o rest → AreOctets octets → Least (tagged class number (object_octets o.object_type o.instance)) octets rest
+pub object_least : (class : Class) (number : ℕ) (octets : List ℕ) (o : ObjectId) (rest : List ℕ) → Takes IsObject class number octets o rest →
+    AreOctets octets → Least (tagged class number (object_octets o.object_type o.instance)) octets rest
 object_least class number octets o rest t fits =
     let tag = t.tag in
     let one = tag_shortest (tag.0) class number (contents t.inner) (tag.1) in
@@ -65,7 +69,9 @@ object_least class number octets o rest t fits =
     let whole = ap length (tag.2) ∙ length-append (tag.0) rest in
     record { le = omega (arith, one, two, whole); fits = AreOctets-after octets (tag.0) rest (tag.2) fits }
 
-pub bracket_least : (octets : List ℕ) (number : ℕ) (content : PlainContent) (rest : List ℕ) → TakesTag octets (record { class = Context; number = number; content = content }) rest → AreOctets octets → Least (canonical_tag Context number content) octets rest
+pub bracket_least : (octets : List ℕ) (number : ℕ) (content : PlainContent) (rest : List ℕ) →
+    TakesTag octets (record { class = Context; number = number; content = content }) rest → AreOctets octets →
+    Least (canonical_tag Context number content) octets rest
 bracket_least octets number content rest tag fits =
     let one = tag_shortest (tag.0) Context number content (tag.1) in
     let whole = ap length (tag.2) ∙ length-append (tag.0) rest in
@@ -73,28 +79,42 @@ bracket_least octets number content rest tag fits =
 
 -- the contents of an Error
 
-pub class_and_code_least : (octets : List ℕ) (class code : ℕ) (rest : List ℕ) → TakesClassAndCode octets class code rest → AreOctets octets → Least (class_and_code_octets class code) octets rest
+pub class_and_code_least : (octets : List ℕ) (class code : ℕ) (rest : List ℕ) → TakesClassAndCode octets class code rest → AreOctets octets →
+    Least (class_and_code_octets class code) octets rest
 class_and_code_least octets class code rest t fits =
     let a = number_least Application 9 octets class t.at_code t.class_taken fits in
     let b = number_least Application 9 t.at_code code rest t.code_taken a.fits in
-    record { le = omega (arith, a.le, b.le, length-append (tagged Application 9 (unsigned_octets class)) (tagged Application 9 (unsigned_octets code))); fits = b.fits }
+    record {
+      le = omega (arith, a.le, b.le, length-append (tagged Application 9 (unsigned_octets class)) (tagged Application 9 (unsigned_octets code)));
+      fits = b.fits;
+    }
 
-index_least : (octets : List ℕ) (o : Option ℕ) → EndsReference octets o → AreOctets octets → length (option_field 2 o) + length (canonical_tag Context 1 closing) ≤ length octets
+index_least : (octets : List ℕ) (o : Option ℕ) → EndsReference octets o → AreOctets octets →
+    length (option_field 2 o) + length (canonical_tag Context 1 closing) ≤ length octets
 index_least octets None s fits = (bracket_least octets 1 closing [] s fits).le
 index_least octets (Some n) s fits =
     let a = number_least Context 2 octets n s.at_closing s.index_taken fits in
     let b = bracket_least s.at_closing 1 closing [] s.closing a.fits in
     omega (arith, a.le, b.le)
 
-reference_least : (octets : List ℕ) (r : ObjectPropertyReference) → TakesReference octets r → AreOctets octets → length (reference_octets r) + length (canonical_tag Context 1 closing) ≤ length octets
+reference_least : (octets : List ℕ) (r : ObjectPropertyReference) → TakesReference octets r → AreOctets octets →
+    length (reference_octets r) + length (canonical_tag Context 1 closing) ≤ length octets
 reference_least octets r t fits =
     let a = object_least Context 0 octets r.object t.at_property t.object fits in
     let b = number_least Context 1 t.at_property r.property t.at_index t.property a.fits in
     let c = index_least t.at_index r.index t.index b.fits in
     let behind = tagged Context 1 (unsigned_octets r.property) ++ option_field 2 r.index in
-    omega (arith, a.le, b.le, c, length-append (tagged Context 0 (object_octets r.object.object_type r.object.instance)) behind, length-append (tagged Context 1 (unsigned_octets r.property)) (option_field 2 r.index))
+    omega (
+      arith,
+      a.le,
+      b.le,
+      c,
+      length-append (tagged Context 0 (object_octets r.object.object_type r.object.instance)) behind,
+      length-append (tagged Context 1 (unsigned_octets r.property)) (option_field 2 r.index),
+    )
 
-error_least : (service : ℕ) (octets : List ℕ) (class code : ℕ) (o : Option ObjectPropertyReference) → SpellsError service octets class code o → AreOctets octets → length (error_octets class code o) ≤ length octets
+error_least : (service : ℕ) (octets : List ℕ) (class code : ℕ) (o : Option ObjectPropertyReference) → SpellsError service octets class code o →
+    AreOctets octets → length (error_octets class code o) ≤ length octets
 error_least service octets class code None s fits = omega (arith, (class_and_code_least octets class code [] s.1 fits).le)
 error_least service octets class code (Some r) s fits =
     let t = s.1 in
@@ -144,6 +164,7 @@ i_am_shortest octets i fits s =
     let first = tagged Application 12 (object_octets 8 i.instance) in
     let a = object_least Application 12 octets (device i.instance) s.at_size s.device_taken fits in
     let b = number_least Application 2 s.at_size i.max_apdu s.at_segmentation s.size_taken a.fits in
-    let c = number_least Application 9 s.at_segmentation (segmentation_number i.segmentation) s.at_vendor (as_number s.at_segmentation i.segmentation s.at_vendor s.segmentation_taken) b.fits in
+    let c = number_least Application 9 s.at_segmentation (segmentation_number i.segmentation) s.at_vendor
+    (as_number s.at_segmentation i.segmentation s.at_vendor s.segmentation_taken) b.fits in
     let d = number_least Application 2 s.at_vendor i.vendor [] s.vendor_taken c.fits in
     omega (arith, a.le, b.le, c.le, d.le, length-append first (second ++ (third ++ last)), length-append second (third ++ last), length-append third last)

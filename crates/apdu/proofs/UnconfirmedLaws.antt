@@ -14,28 +14,32 @@ use Rattle.apdu.specs.declared.unconfirmed.IAm.{IAm}
 use Rattle.apdu.specs.declared.unconfirmed.Limits.{Limits}
 use Rattle.apdu.specs.declared.unconfirmed.Segmentation.{Segmentation}
 use Rattle.apdu.specs.declared.unconfirmed.Segmentation.TheVariants.{Both, Transmit, Receive, NoSegmentation}
-use Rattle.apdu.specs.Unconfirmed.{SpellsLimits, OnlyLimits, NoLimits, SpellsWhoIs, OnlyWhoIs, NoWhoIs, device, segmentation_number, SaysSegmentation, OnlyIAm, NoIAm}
+use Rattle.apdu.specs.Unconfirmed.{SpellsLimits, OnlyLimits, NoLimits, SpellsWhoIs, OnlyWhoIs, NoWhoIs, device, segmentation_number, SaysSegmentation, OnlyIAm}
+use Rattle.apdu.specs.Unconfirmed.{NoIAm}
 
 -- limits
 
 pub no_low : (octets : List ℕ) → Lacks SpellsUnsigned Context 0 octets → NoLimits octets
 no_low octets lacks = record { none = λ m n s. lacks.none m s.at_high s.low_taken }
 
-pub no_high : (octets : List ℕ) (low : ℕ) (at_high : List ℕ) → Only SpellsUnsigned Context 0 octets low at_high → Lacks SpellsUnsigned Context 1 at_high → NoLimits octets
+pub no_high : (octets : List ℕ) (low : ℕ) (at_high : List ℕ) → Only SpellsUnsigned Context 0 octets low at_high → Lacks SpellsUnsigned Context 1 at_high →
+    NoLimits octets
 no_high octets low at_high one lacks = record {
   none = λ m n s.
       let p = one.only m s.at_high s.low_taken in
       lacks.none n [] (rw (p.1) s.high_taken);
 }
 
-pub no_limits_left_over : (octets : List ℕ) (low : ℕ) (at_high : List ℕ) (high : ℕ) (rest : List ℕ) → Only SpellsUnsigned Context 0 octets low at_high → Only SpellsUnsigned Context 1 at_high high rest → rest ≢ [] → NoLimits octets
+pub no_limits_left_over : (octets : List ℕ) (low : ℕ) (at_high : List ℕ) (high : ℕ) (rest : List ℕ) → Only SpellsUnsigned Context 0 octets low at_high →
+    Only SpellsUnsigned Context 1 at_high high rest → rest ≢ [] → NoLimits octets
 no_limits_left_over octets low at_high high rest one two some = record {
   none = λ m n s.
       let p = one.only m s.at_high s.low_taken in
       some ((two.only n [] (rw (p.1) s.high_taken)).1);
 }
 
-pub only_limits : (octets : List ℕ) (low : ℕ) (at_high : List ℕ) (high : ℕ) (rest : List ℕ) → Only SpellsUnsigned Context 0 octets low at_high → Only SpellsUnsigned Context 1 at_high high rest → OnlyLimits octets low high
+pub only_limits : (octets : List ℕ) (low : ℕ) (at_high : List ℕ) (high : ℕ) (rest : List ℕ) → Only SpellsUnsigned Context 0 octets low at_high →
+    Only SpellsUnsigned Context 1 at_high high rest → OnlyLimits octets low high
 only_limits octets low at_high high rest one two = record {
   only = λ m n s.
       let p = one.only m s.at_high s.low_taken in
@@ -88,13 +92,16 @@ segmentation_below Transmit = omega arith
 segmentation_below Receive = omega arith
 segmentation_below NoSegmentation = omega arith
 
-pub as_number : (octets : List ℕ) (s : Segmentation) (rest : List ℕ) → Takes SaysSegmentation Application 9 octets s rest → Takes SpellsUnsigned Application 9 octets (segmentation_number s) rest
+pub as_number : (octets : List ℕ) (s : Segmentation) (rest : List ℕ) → Takes SaysSegmentation Application 9 octets s rest →
+    Takes SpellsUnsigned Application 9 octets (segmentation_number s) rest
 as_number octets s rest t = record { inner = t.inner; tag = t.tag; said = t.said.number }
 
-pub takes_segmentation : (octets : List ℕ) (n : ℕ) (s : Segmentation) (rest : List ℕ) → Takes SpellsUnsigned Application 9 octets n rest → segmentation_number s ≡ n → Takes SaysSegmentation Application 9 octets s rest
+pub takes_segmentation : (octets : List ℕ) (n : ℕ) (s : Segmentation) (rest : List ℕ) → Takes SpellsUnsigned Application 9 octets n rest →
+    segmentation_number s ≡ n → Takes SaysSegmentation Application 9 octets s rest
 takes_segmentation octets n s rest t e = record { inner = t.inner; tag = t.tag; said = record { number = rw e t.said } }
 
-pub only_segmentation : (octets : List ℕ) (n : ℕ) (s : Segmentation) (rest : List ℕ) → Only SpellsUnsigned Application 9 octets n rest → segmentation_number s ≡ n → Only SaysSegmentation Application 9 octets s rest
+pub only_segmentation : (octets : List ℕ) (n : ℕ) (s : Segmentation) (rest : List ℕ) → Only SpellsUnsigned Application 9 octets n rest →
+    segmentation_number s ≡ n → Only SaysSegmentation Application 9 octets s rest
 only_segmentation octets n s rest one e = record {
   only = λ u after t.
       let p = one.only (segmentation_number u) after (as_number octets u after t) in
@@ -104,7 +111,8 @@ only_segmentation octets n s rest one e = record {
 pub lacks_segmentation : (octets : List ℕ) → Lacks SpellsUnsigned Application 9 octets → Lacks SaysSegmentation Application 9 octets
 lacks_segmentation octets lacks = record { none = λ s rest t. lacks.none (segmentation_number s) rest (as_number octets s rest t) }
 
-pub lacks_segmentation_over : (octets : List ℕ) (n : ℕ) (rest : List ℕ) → Only SpellsUnsigned Application 9 octets n rest → 4 ≤ n → Lacks SaysSegmentation Application 9 octets
+pub lacks_segmentation_over : (octets : List ℕ) (n : ℕ) (rest : List ℕ) → Only SpellsUnsigned Application 9 octets n rest → 4 ≤ n →
+    Lacks SaysSegmentation Application 9 octets
 lacks_segmentation_over octets n rest one over = record {
   none = λ s after t.
       let p = one.only (segmentation_number s) after (as_number octets s after t) in
@@ -123,14 +131,16 @@ no_other_object octets o at_size one other = record {
   none = λ i s. other (ap (λ (x : ObjectId). x.object_type) ((one.only (device i.instance) s.at_size s.device_taken).0));
 }
 
-pub no_size : (octets : List ℕ) (o : ObjectId) (at_size : List ℕ) → Only IsObject Application 12 octets o at_size → Lacks SpellsUnsigned Application 2 at_size → NoIAm octets
+pub no_size : (octets : List ℕ) (o : ObjectId) (at_size : List ℕ) → Only IsObject Application 12 octets o at_size →
+    Lacks SpellsUnsigned Application 2 at_size → NoIAm octets
 no_size octets o at_size one lacks = record {
   none = λ i s.
       let p = one.only (device i.instance) s.at_size s.device_taken in
       lacks.none i.max_apdu s.at_segmentation (rw (p.1) s.size_taken);
 }
 
-pub no_segmentation : (octets : List ℕ) (o : ObjectId) (at_size : List ℕ) (n : ℕ) (at_segmentation : List ℕ) → Only IsObject Application 12 octets o at_size → Only SpellsUnsigned Application 2 at_size n at_segmentation → Lacks SaysSegmentation Application 9 at_segmentation → NoIAm octets
+pub no_segmentation : (octets : List ℕ) (o : ObjectId) (at_size : List ℕ) (n : ℕ) (at_segmentation : List ℕ) → Only IsObject Application 12 octets o at_size →
+    Only SpellsUnsigned Application 2 at_size n at_segmentation → Lacks SaysSegmentation Application 9 at_segmentation → NoIAm octets
 no_segmentation octets o at_size n at_segmentation one two lacks = record {
   none = λ i s.
       let p = one.only (device i.instance) s.at_size s.device_taken in
@@ -138,7 +148,9 @@ no_segmentation octets o at_size n at_segmentation one two lacks = record {
       lacks.none i.segmentation s.at_vendor (rw (q.1) s.segmentation_taken);
 }
 
-pub no_vendor : (octets : List ℕ) (o : ObjectId) (at_size : List ℕ) (n : ℕ) (at_segmentation : List ℕ) (g : Segmentation) (at_vendor : List ℕ) → Only IsObject Application 12 octets o at_size → Only SpellsUnsigned Application 2 at_size n at_segmentation → Only SaysSegmentation Application 9 at_segmentation g at_vendor → Lacks SpellsUnsigned Application 2 at_vendor → NoIAm octets
+pub no_vendor : (octets : List ℕ) (o : ObjectId) (at_size : List ℕ) (n : ℕ) (at_segmentation : List ℕ) (g : Segmentation) (at_vendor : List ℕ) →
+    Only IsObject Application 12 octets o at_size → Only SpellsUnsigned Application 2 at_size n at_segmentation →
+    Only SaysSegmentation Application 9 at_segmentation g at_vendor → Lacks SpellsUnsigned Application 2 at_vendor → NoIAm octets
 no_vendor octets o at_size n at_segmentation g at_vendor one two three lacks = record {
   none = λ i s.
       let p = one.only (device i.instance) s.at_size s.device_taken in
@@ -147,7 +159,9 @@ no_vendor octets o at_size n at_segmentation g at_vendor one two three lacks = r
       lacks.none i.vendor [] (rw (z.1) s.vendor_taken);
 }
 
-pub no_i_am_left_over : (octets : List ℕ) (o : ObjectId) (at_size : List ℕ) (n : ℕ) (at_segmentation : List ℕ) (g : Segmentation) (at_vendor : List ℕ) (v : ℕ) (rest : List ℕ) → Only IsObject Application 12 octets o at_size → Only SpellsUnsigned Application 2 at_size n at_segmentation → Only SaysSegmentation Application 9 at_segmentation g at_vendor → Only SpellsUnsigned Application 2 at_vendor v rest → rest ≢ [] → NoIAm octets
+pub no_i_am_left_over : (octets : List ℕ) (o : ObjectId) (at_size : List ℕ) (n : ℕ) (at_segmentation : List ℕ) (g : Segmentation) (at_vendor : List ℕ) (v : ℕ)
+    (rest : List ℕ) → Only IsObject Application 12 octets o at_size → Only SpellsUnsigned Application 2 at_size n at_segmentation →
+    Only SaysSegmentation Application 9 at_segmentation g at_vendor → Only SpellsUnsigned Application 2 at_vendor v rest → rest ≢ [] → NoIAm octets
 no_i_am_left_over octets o at_size n at_segmentation g at_vendor v rest one two three four some = record {
   none = λ i s.
       let p = one.only (device i.instance) s.at_size s.device_taken in
@@ -162,7 +176,10 @@ introduced instance max_apdu segmentation vendor = record { instance = instance;
 introduced_again : (i : IAm) → introduced i.instance i.max_apdu i.segmentation i.vendor ≡ i
 introduced_again i = refl
 
-pub only_i_am : (octets : List ℕ) (o : ObjectId) (at_size : List ℕ) (n : ℕ) (at_segmentation : List ℕ) (g : Segmentation) (at_vendor : List ℕ) (v : ℕ) (rest : List ℕ) → Only IsObject Application 12 octets o at_size → Only SpellsUnsigned Application 2 at_size n at_segmentation → Only SaysSegmentation Application 9 at_segmentation g at_vendor → Only SpellsUnsigned Application 2 at_vendor v rest → OnlyIAm octets (record { instance = o.instance; max_apdu = n; segmentation = g; vendor = v })
+pub only_i_am : (octets : List ℕ) (o : ObjectId) (at_size : List ℕ) (n : ℕ) (at_segmentation : List ℕ) (g : Segmentation) (at_vendor : List ℕ) (v : ℕ)
+    (rest : List ℕ) → Only IsObject Application 12 octets o at_size → Only SpellsUnsigned Application 2 at_size n at_segmentation →
+    Only SaysSegmentation Application 9 at_segmentation g at_vendor → Only SpellsUnsigned Application 2 at_vendor v rest →
+    OnlyIAm octets (record { instance = o.instance; max_apdu = n; segmentation = g; vendor = v })
 only_i_am octets o at_size n at_segmentation g at_vendor v rest one two three four = record {
   only = λ i s.
       let p = one.only (device i.instance) s.at_size s.device_taken in
@@ -181,7 +198,8 @@ pub ruleset i_am_rules = (no_device, no_other_object, no_size, no_segmentation, 
 -- what octets spell is one
 
 pub limits_alone : (octets : List ℕ) (low high : ℕ) → SpellsLimits octets low high → OnlyLimits octets low high
-limits_alone octets low high s = only_limits octets low s.at_high high [] (alone_number Context 0 octets low s.at_high s.low_taken) (alone_number Context 1 s.at_high high [] s.high_taken)
+limits_alone octets low high s = only_limits octets low s.at_high high [] (alone_number Context 0 octets low s.at_high s.low_taken)
+    (alone_number Context 1 s.at_high high [] s.high_taken)
 
 no_limits_at_end : (octets : List ℕ) (low high : ℕ) → octets ≡ [] → SpellsLimits octets low high → ⊥
 no_limits_at_end octets low high e s = (no_contents_at_end Context 0 octets e).none s.low_taken.inner s.at_high s.low_taken.tag
@@ -214,14 +232,18 @@ who_is_spelled None fits = refl
 who_is_spelled (Some l) fits = record {
   at_high = tagged Context 1 (unsigned_octets l.high);
   low_taken = takes_number Context 0 l.low (tagged Context 1 (unsigned_octets l.high)) tt (omega arith) (fits.0);
-  high_taken = subst (λ (x : List ℕ). Takes SpellsUnsigned Context 1 x l.high []) (append-nil (tagged Context 1 (unsigned_octets l.high))) (takes_number Context 1 l.high [] tt (omega arith) (fits.1));
+  high_taken = subst (λ (x : List ℕ). Takes SpellsUnsigned Context 1 x l.high []) (append-nil (tagged Context 1 (unsigned_octets l.high)))
+      (takes_number Context 1 l.high [] tt (omega arith) (fits.1));
 }
 
-segmentation_spelled : (s : Segmentation) (rest : List ℕ) → Takes SaysSegmentation Application 9 (tagged Application 9 (unsigned_octets (segmentation_number s)) ++ rest) s rest
-segmentation_spelled s rest = takes_segmentation (tagged Application 9 (unsigned_octets (segmentation_number s)) ++ rest) (segmentation_number s) s rest (takes_number Application 9 (segmentation_number s) rest (omega arith) (omega arith) (omega (arith, segmentation_below s))) refl
+segmentation_spelled : (s : Segmentation) (rest : List ℕ) →
+    Takes SaysSegmentation Application 9 (tagged Application 9 (unsigned_octets (segmentation_number s)) ++ rest) s rest
+segmentation_spelled s rest = takes_segmentation (tagged Application 9 (unsigned_octets (segmentation_number s)) ++ rest) (segmentation_number s) s rest
+    (takes_number Application 9 (segmentation_number s) rest (omega arith) (omega arith) (omega (arith, segmentation_below s))) refl
 
 vendor_spelled : (v : ℕ) → v < 2 ^ 32 → Takes SpellsUnsigned Application 2 (tagged Application 2 (unsigned_octets v)) v []
-vendor_spelled v fits = subst (λ (x : List ℕ). Takes SpellsUnsigned Application 2 x v []) (append-nil (tagged Application 2 (unsigned_octets v))) (takes_number Application 2 v [] (omega arith) (omega arith) fits)
+vendor_spelled v fits = subst (λ (x : List ℕ). Takes SpellsUnsigned Application 2 x v []) (append-nil (tagged Application 2 (unsigned_octets v)))
+    (takes_number Application 2 v [] (omega arith) (omega arith) fits)
 
 pub i_am_spelled : IAmSpells
 i_am_spelled i instance size vendor =

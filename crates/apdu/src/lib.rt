@@ -14,13 +14,13 @@
 //! - `apdu_laws`: what holds of every spelling and number, for the proofs of the layers above.
 #![tactic(auto)]
 
-pub mod apdu;
-pub mod apdu_laws;
-pub mod numbers;
-pub mod pdu_type;
-pub mod service_error;
-pub mod sizes;
-pub mod unconfirmed;
+mod apdu;
+mod apdu_laws;
+mod numbers;
+mod pdu_type;
+mod service_error;
+mod sizes;
+mod unconfirmed;
 
 pub use apdu::{Apdu, Segment};
 pub use apdu_fields::{class_and_code_from, contents_of};

@@ -13,7 +13,9 @@ same_contents class number x y e =
     cc
 
 -- the contents are one, and so is what they say
-only_said : {A : Type 0} (Says : List ℕ → A → Type 0) → ((inner : List ℕ) (a b : A) → Says inner a → Says inner b → a ≡ b) → (class : Class) (number : ℕ) (octets inner : List ℕ) (a : A) (rest : List ℕ) → OnlyTag octets (carrying class number inner) rest → Says inner a → Only Says class number octets a rest
+only_said : {A : Type 0} (Says : List ℕ → A → Type 0) → ((inner : List ℕ) (a b : A) → Says inner a → Says inner b → a ≡ b) →
+    (class : Class) (number : ℕ) (octets inner : List ℕ) (a : A) (rest : List ℕ) → OnlyTag octets (carrying class number inner) rest → Says inner a →
+    Only Says class number octets a rest
 only_said Says one class number octets inner a rest h s = record {
   only = λ b after t.
       let p = h.only _ after t.tag in
@@ -37,25 +39,31 @@ one_object inner o p s t =
     let instance : o.instance ≡ p.instance = omega (arith, s.sound, t.sound, s.value, t.value) in
     cc (identified_again o, identified_again p)
 
-pub only_number : (class : Class) (number : ℕ) (octets inner : List ℕ) (n : ℕ) (rest : List ℕ) → OnlyTag octets (carrying class number inner) rest → SpellsUnsigned inner n → Only SpellsUnsigned class number octets n rest
+pub only_number : (class : Class) (number : ℕ) (octets inner : List ℕ) (n : ℕ) (rest : List ℕ) → OnlyTag octets (carrying class number inner) rest →
+    SpellsUnsigned inner n → Only SpellsUnsigned class number octets n rest
 only_number = only_said SpellsUnsigned one_unsigned
 
-pub only_object : (class : Class) (number : ℕ) (octets inner : List ℕ) (o : ObjectId) (rest : List ℕ) → OnlyTag octets (carrying class number inner) rest → IsObject inner o → Only IsObject class number octets o rest
+pub only_object : (class : Class) (number : ℕ) (octets inner : List ℕ) (o : ObjectId) (rest : List ℕ) → OnlyTag octets (carrying class number inner) rest →
+    IsObject inner o → Only IsObject class number octets o rest
 only_object = only_said IsObject one_object
 
 -- .. so what is taken is taken alone
-pub alone_number : (class : Class) (number : ℕ) (octets : List ℕ) (n : ℕ) (rest : List ℕ) → Takes SpellsUnsigned class number octets n rest → Only SpellsUnsigned class number octets n rest
+pub alone_number : (class : Class) (number : ℕ) (octets : List ℕ) (n : ℕ) (rest : List ℕ) → Takes SpellsUnsigned class number octets n rest →
+    Only SpellsUnsigned class number octets n rest
 alone_number class number octets n rest t = only_number class number octets t.inner n rest (only_tag octets (carrying class number t.inner) rest t.tag) t.said
 
-pub alone_object : (class : Class) (number : ℕ) (octets : List ℕ) (o : ObjectId) (rest : List ℕ) → Takes IsObject class number octets o rest → Only IsObject class number octets o rest
+pub alone_object : (class : Class) (number : ℕ) (octets : List ℕ) (o : ObjectId) (rest : List ℕ) → Takes IsObject class number octets o rest →
+    Only IsObject class number octets o rest
 alone_object class number octets o rest t = only_object class number octets t.inner o rest (only_tag octets (carrying class number t.inner) rest t.tag) t.said
 
-pub lacks_contents : {A : Type 0} (Says : List ℕ → A → Type 0) (class : Class) (number : ℕ) (octets : List ℕ) → NoContents class number octets → Lacks Says class number octets
+pub lacks_contents : {A : Type 0} (Says : List ℕ → A → Type 0) (class : Class) (number : ℕ) (octets : List ℕ) → NoContents class number octets →
+    Lacks Says class number octets
 lacks_contents Says class number octets h = record { none = λ a rest t. h.none t.inner rest t.tag }
 
 pub ruleset parameter_rules = (only_number, only_object, lacks_contents)
 
-pub no_contents_of_other : (class : Class) (number : ℕ) (octets : List ℕ) (t : PlainTag) (rest : List ℕ) → OnlyTag octets t rest → CarriesOther class number t → NoContents class number octets
+pub no_contents_of_other : (class : Class) (number : ℕ) (octets : List ℕ) (t : PlainTag) (rest : List ℕ) → OnlyTag octets t rest →
+    CarriesOther class number t → NoContents class number octets
 no_contents_of_other class number octets t rest only other = record { none = λ inner after u. other.other inner ((only.only _ after u).0) }
 
 pub no_contents_without_tag : (class : Class) (number : ℕ) (octets : List ℕ) → NoTag octets → NoContents class number octets
@@ -64,7 +72,8 @@ no_contents_without_tag class number octets lacks = record { none = λ inner aft
 pub no_contents_at_end : (class : Class) (number : ℕ) (octets : List ℕ) → octets ≡ [] → NoContents class number octets
 no_contents_at_end class number octets e = no_contents_without_tag class number octets (no_tag_at_end octets e)
 
-pub no_contents_in : {X : Type 0} (r : Option X) (class : Class) (number : ℕ) (octets : List ℕ) (t : PlainTag) (rest : List ℕ) → OnlyTag octets t rest → IfNone r (CarriesOther class number t) → IfNone r (NoContents class number octets)
+pub no_contents_in : {X : Type 0} (r : Option X) (class : Class) (number : ℕ) (octets : List ℕ) (t : PlainTag) (rest : List ℕ) → OnlyTag octets t rest →
+    IfNone r (CarriesOther class number t) → IfNone r (NoContents class number octets)
 no_contents_in (Some x) class number octets t rest only other = tt
 no_contents_in None class number octets t rest only other = no_contents_of_other class number octets t rest only other
 

@@ -29,7 +29,7 @@ pub record Takes {A : Type 0} (Says : List ℕ → A → Type 0) (class : Class)
   pub tag : TakesTag octets (carrying class number inner) rest
   pub said : Says inner a
 
--- .. and none that says anything else
+-- the next tag is one that says this, and none that says anything else
 pub record Only {A : Type 0} (Says : List ℕ → A → Type 0) (class : Class) (number : ℕ) (octets : List ℕ) (a : A)
     (rest : List ℕ) : Type 0 where
   pub only : (b : A) (after : List ℕ) → Takes Says class number octets b after → (a ≡ b) × (rest ≡ after)

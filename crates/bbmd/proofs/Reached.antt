@@ -1,5 +1,6 @@
 -- Over full tables a broadcast reaches each other station once.
-use Rattle.std.proofs.Common.{◌≡◌, ◌≤◌, ℕ, ◌+◌, ◌*◌, true, false, Bool, List, [], ◌∷◌, ◌++◌, Some, None, sym, ap, refl, ◌∙◌, ◌⊎◌, inl, inr, subst, length, not, cond, arith}
+use Rattle.std.proofs.Common.{◌≡◌, ◌≤◌, ℕ, ◌+◌, ◌*◌, true, false, Bool, List, [], ◌∷◌, ◌++◌, Some, None, sym, ap, refl, ◌∙◌, ◌⊎◌, inl, inr, subst, length, not}
+use Rattle.std.proofs.Common.{cond, arith}
 use Rattle.std.specs.Prelude.{flat_map, option_to_list, Option, is_some}
 use Rattle.std.specs.List.{AllByRecursion}
 use Rattle.std.proofs.lemmas.Grind.{flat_map-append}
@@ -7,13 +8,16 @@ use Rattle.bvll.specs.declared.address.Address.{Address}
 use Rattle.bvll.specs.Datagram.{Datagram}
 use Rattle.bvll.specs.Datagram as bvll
 use Rattle.bbmd.specs.declared.spreading.Subnet.{Subnet}
-use Rattle.broadcast_tables.specs.Tables.{is_among, same_address, others, served}
-use Rattle.broadcast_manager.specs.State.{ManagerState, members_of, peers_of}
-use Rattle.broadcast_manager.specs.Manager.{carrying, said, from_one, distributed, all_but}
-use Rattle.bbmd.specs.Reach.{Going, times, managers_of, owns, going, passed, asked_of, begun_in, begun, three_ways, stations, hearers, all_in, everyone, IsManaged, AreFull, IsReached, Reaches}
-use Rattle.bbmd.proofs.Times.{same_is, itself_is, first_counts, times-append, among_times, times_among, not_among_times, no_times_among, times-filter, total, total-append, times-others, times_itself, is_false, all_split}
+use Rattle.bbmd_tables.specs.Tables.{all_but, is_among, same_address, others, members_of, peers_of, served}
+use Rattle.bbmd_manager.specs.State.{ManagerState}
+use Rattle.bbmd_manager.specs.Manager.{carrying, said, from_one, distributed}
+use Rattle.bbmd.specs.Reach.{Going, times, managers_of, owns, going, passed, asked_of, begun_in, begun, three_ways, stations, hearers, all_in, everyone}
+use Rattle.bbmd.specs.Reach.{IsManaged, AreFull, IsReached, Reaches}
+use Rattle.bbmd.proofs.Times.{same_is, itself_is, first_counts, times-append, among_times, times_among, not_among_times, no_times_among, times-filter, total}
+use Rattle.bbmd.proofs.Times.{total-append, times-others, times_itself, is_false, all_split}
 use Rattle.std.proofs.lemmas.List.{append-nil}
-use Rattle.bbmd.proofs.Reaching.{tos, each, tos-each, Adds, weight, passed_weighs, goes, goes_adds, goes_on, goes_on_adds, Around, times_owns, beside_silent, Onward, heard_beside}
+use Rattle.bbmd.proofs.Reaching.{tos, each, tos-each, Adds, weight, passed_weighs, goes, goes_adds, goes_on, goes_on_adds, Around, times_owns, beside_silent}
+use Rattle.bbmd.proofs.Reaching.{Onward, heard_beside}
 
 everyone_split : {A : Type 0} (b : Address) (now : ℕ) (pre : List (Subnet A)) (s : Subnet A) (post : List (Subnet A)) →
     times b (everyone now (pre ++ s ∷ post))
@@ -45,19 +49,19 @@ owns_split b pre s post = omega (
   times_owns b (option_to_list s.manager) (managers_of post),
 )
 
-own_member : (b : Address) (members : List Address) (m : ManagerState) → is_among m.own members ≡ true →
-    (c : Bool) → same_address m.own b ≡ c → cond c 1 0 + 0 ≤ times b members
+own_member : (b : Address) (members : List Address) (m : ManagerState) → is_among m.tables.own members ≡ true →
+    (c : Bool) → same_address m.tables.own b ≡ c → cond c 1 0 + 0 ≤ times b members
 own_member b members m e true f = omega (
   arith,
-  among_times m.own members e,
-  ap (λ (x : Address). times x members) (same_is m.own b f),
+  among_times m.tables.own members e,
+  ap (λ (x : Address). times x members) (same_is m.tables.own b f),
 )
 own_member b members m e false f = omega arith
 
 owned_one : (b : Address) (ms : List ManagerState) (members : List Address) (o : Option ManagerState) →
     AllByRecursion (IsManaged ms members) (option_to_list o) → times b (owns (option_to_list o)) ≤ times b members
 owned_one b ms members None managed = omega arith
-owned_one b ms members (Some m) managed = own_member b members m (managed.0).itself (same_address m.own b) refl
+owned_one b ms members (Some m) managed = own_member b members m (managed.0).itself (same_address m.tables.own b) refl
 
 -- managers are members
 pub owned_members : {A : Type 0} (b : Address) (now : ℕ) (ms : List ManagerState) (ts : List (Subnet A)) →
@@ -70,16 +74,16 @@ owned_members b now ms (t ∷ ts) managed = omega (
   owned_one b ms t.members t.manager (managed.0),
   owned_members b now ms ts (managed.1),
   times-append b (all_in now t) (everyone now ts),
-  times-append b t.members (flat_map (λ m. served now m.foreign) (option_to_list t.manager)),
+  times-append b t.members (flat_map (λ m. served now m.tables.foreign) (option_to_list t.manager)),
 )
 
 asked_none : (now : ℕ) (origin : Address) (npdu : List ℕ) (o : Option ManagerState) →
-    times origin (flat_map (λ m. served now m.foreign) (option_to_list o)) ≡ 0 →
+    times origin (flat_map (λ m. served now m.tables.foreign) (option_to_list o)) ≡ 0 →
     flat_map (asked_of now origin npdu) (option_to_list o) ≡ []
 asked_none now origin npdu None e = refl
 asked_none now origin npdu (Some m) e =
-    ap (λ (b : Bool). going origin (from_one b (record { to = m.own ∷ []; what = bvll.distribute npdu })) ++ [])
-    (no_times_among origin (served now m.foreign) (omega (arith, e, times-append origin (served now m.foreign) [])))
+    ap (λ (b : Bool). going origin (from_one b (record { to = m.tables.own ∷ []; what = bvll.distribute npdu })) ++ [])
+    (no_times_among origin (served now m.tables.foreign) (omega (arith, e, times-append origin (served now m.tables.foreign) [])))
 
 broadcast_none : (origin : Address) (npdu : List ℕ) (members : List Address) → times origin members ≡ 0 →
     going origin (from_one (is_among origin members) (record { to = others origin members; what = bvll.broadcast npdu }))
@@ -94,7 +98,7 @@ begun_none : {A : Type 0} (now : ℕ) (origin : Address) (npdu : List ℕ) (ts :
 begun_none now origin npdu [] e = refl
 begun_none now origin npdu (t ∷ ts) e =
     let split = times-append origin (all_in now t) (everyone now ts) in
-    let parts = times-append origin t.members (flat_map (λ m. served now m.foreign) (option_to_list t.manager)) in
+    let parts = times-append origin t.members (flat_map (λ m. served now m.tables.foreign) (option_to_list t.manager)) in
     nothing _ _ _ (broadcast_none origin npdu t.members (omega (arith, e, split, parts)))
     (asked_none now origin npdu t.manager (omega (arith, e, split, parts)))
     (begun_none now origin npdu ts (omega (arith, e, split))) where
@@ -115,11 +119,11 @@ abbrev pub with : {A : Type 0} → List Address → ManagerState → Subnet A
 with members m = record { members = members; manager = Some m }
 
 all_in_is : (A : Type 0) (b : Address) (now : ℕ) (members : List Address) (m : ManagerState) →
-    times b (all_in now (with {A = A} members m)) ≡ times b members + times b (served now m.foreign)
+    times b (all_in now (with {A = A} members m)) ≡ times b members + times b (served now m.tables.foreign)
 all_in_is A b now members m = omega (
   arith,
-  times-append b members (served now m.foreign ++ []),
-  times-append b (served now m.foreign) [],
+  times-append b members (served now m.tables.foreign ++ []),
+  times-append b (served now m.tables.foreign) [],
 )
 
 -- what full tables say of a subnet with a manager, among others
@@ -129,11 +133,11 @@ pub record Known {A : Type 0} (now : ℕ) (pre : List (Subnet A)) (members : Lis
   pub behind : Around now (managers_of (pre ++ with members m ∷ post)) (with members m) post
   pub managed : IsManaged (managers_of (pre ++ with members m ∷ post)) members m
   pub apart : (b : Address) →
-      times b (everyone now pre) + (times b members + times b (served now m.foreign) + times b (everyone now post)) ≤ 1
+      times b (everyone now pre) + (times b members + times b (served now m.tables.foreign) + times b (everyone now post)) ≤ 1
   pub one : (b : Address) → times b (owns (managers_of (pre ++ with members m ∷ post))) ≤ 1
-  pub own_once : times m.own (owns (managers_of (pre ++ with members m ∷ post))) ≡ 1
-  pub own_in : times m.own members ≡ 1
-  pub own_out : times m.own (served now m.foreign) ≡ 0
+  pub own_once : times m.tables.own (owns (managers_of (pre ++ with members m ∷ post))) ≡ 1
+  pub own_in : times m.tables.own members ≡ 1
+  pub own_out : times m.tables.own (served now m.tables.foreign) ≡ 0
 
 pub known : {A : Type 0} (now : ℕ) (pre : List (Subnet A)) (members : List Address) (m : ManagerState)
     (post : List (Subnet A)) → AreFull now (pre ++ with members m ∷ post) → Known now pre members m post
@@ -141,7 +145,7 @@ known {A} now pre members m post full =
     let ms = managers_of (pre ++ with members m ∷ post) in
     let parts = all_split _ pre (with members m) post full.managed in
     let managed = parts.1.0 in
-    let inside = among_times m.own members managed.itself in
+    let inside = among_times m.tables.own members managed.itself in
     record {
       before = record {
         managed = parts.0;
@@ -163,37 +167,37 @@ known {A} now pre members m post full =
       one = λ b. omega (arith, full.apart b, owned_members b now ms (pre ++ with members m ∷ post) full.managed);
       own_once = omega (
         arith,
-        full.apart m.own,
-        owned_members m.own now ms (pre ++ with members m ∷ post) full.managed,
-        owns_split m.own pre (with members m) post,
-        times_itself m.own,
+        full.apart m.tables.own,
+        owned_members m.tables.own now ms (pre ++ with members m ∷ post) full.managed,
+        owns_split m.tables.own pre (with members m) post,
+        times_itself m.tables.own,
       );
       own_in = omega (
         arith,
         inside,
-        full.apart m.own,
-        everyone_split m.own now pre (with members m) post,
-        all_in_is A m.own now members m,
+        full.apart m.tables.own,
+        everyone_split m.tables.own now pre (with members m) post,
+        all_in_is A m.tables.own now members m,
       );
       own_out = omega (
         arith,
         inside,
-        full.apart m.own,
-        everyone_split m.own now pre (with members m) post,
-        all_in_is A m.own now members m,
+        full.apart m.tables.own,
+        everyone_split m.tables.own now pre (with members m) post,
+        all_in_is A m.tables.own now members m,
       );
     }
 
 weighs_once : (k : List Going → ℕ) (now : ℕ) (from : Address) (d : Datagram) (xs : List Address) (m : ManagerState) (n : ℕ) →
-    times m.own xs ≡ n → total (weight k now from d xs) (m ∷ []) ≡ n * k (going m.own (carrying (said now from m d))) + 0
-weighs_once k now from d xs m n e = ap (λ (i : ℕ). i * k (going m.own (carrying (said now from m d))) + 0) e
+    times m.tables.own xs ≡ n → total (weight k now from d xs) (m ∷ []) ≡ n * k (going m.tables.own (carrying (said now from m d))) + 0
+weighs_once k now from d xs m n e = ap (λ (i : ℕ). i * k (going m.tables.own (carrying (said now from m d))) + 0) e
 
 -- what is said within a subnet and to its manager is passed on by that manager alone
 first_way : {A : Type 0} (k : List Going → ℕ) (adds : Adds k) (now : ℕ) (from : Address) (d : Datagram)
     (xs : List Address) (pre : List (Subnet A)) (members : List Address) (m : ManagerState) (post : List (Subnet A)) →
-    Known now pre members m post → times m.own xs ≡ 1 →
-    ((b : Address) → times b members ≡ 0 → times b (served now m.foreign) ≡ 0 → times b xs ≡ 0) →
-    k (passed now (managers_of (pre ++ with members m ∷ post)) (each from d xs)) ≡ k (going m.own (carrying (said now from m d)))
+    Known now pre members m post → times m.tables.own xs ≡ 1 →
+    ((b : Address) → times b members ≡ 0 → times b (served now m.tables.foreign) ≡ 0 → times b xs ≡ 0) →
+    k (passed now (managers_of (pre ++ with members m ∷ post)) (each from d xs)) ≡ k (going m.tables.own (carrying (said now from m d)))
 first_way {A} k adds now from d xs pre members m post w e inside =
     let ms = managers_of (pre ++ with members m ∷ post) in
     let outside = λ (b : Address) (f : times b (all_in now (with {A = A} members m)) ≡ 0).
@@ -212,32 +216,32 @@ second_way : {A : Type 0} (a : Address) (now : ℕ) (origin : Address) (npdu : L
     (pre : List (Subnet A)) (members : List Address) (m : ManagerState) (post : List (Subnet A)) →
     Known now pre members m post → AllByRecursion (λ t. is_some t.manager ≡ true) pre →
     AllByRecursion (λ t. is_some t.manager ≡ true) post →
-    times a (owns (managers_of (pre ++ with members m ∷ post))) ≡ 0 → times m.own ys ≡ 0 →
-    ((b : Address) → times b members ≡ 0 → times b (served now m.foreign) ≡ 0 →
-    times b ys ≡ times b (peers_of m)) →
-    goes a (passed now (managers_of (pre ++ with members m ∷ post)) (each m.own (bvll.forwarded origin npdu) ys))
+    times a (owns (managers_of (pre ++ with members m ∷ post))) ≡ 0 → times m.tables.own ys ≡ 0 →
+    ((b : Address) → times b members ≡ 0 → times b (served now m.tables.foreign) ≡ 0 →
+    times b ys ≡ times b (peers_of m.tables)) →
+    goes a (passed now (managers_of (pre ++ with members m ∷ post)) (each m.tables.own (bvll.forwarded origin npdu) ys))
     ≡ times a (everyone now pre) + times a (everyone now post)
 second_way {A} a now origin npdu ys pre members m post w has_before has_behind station e peers =
     let ms = managers_of (pre ++ with members m ∷ post) in
-    let other = λ (b : Address) (f : times b members ≡ 0). is_false (same_address b m.own) (λ g.
-    omega (arith, f, w.own_in, ap (λ (x : Address). times x members) (same_is b m.own g))) in
-    let onward : Onward now ms (with {A = A} members m) m.own a ys = record {
+    let other = λ (b : Address) (f : times b members ≡ 0). is_false (same_address b m.tables.own) (λ g.
+    omega (arith, f, w.own_in, ap (λ (x : Address). times x members) (same_is b m.tables.own g))) in
+    let onward : Onward now ms (with {A = A} members m) m.tables.own a ys = record {
       one = w.one;
-      itself = omega (arith, w.own_in, all_in_is A m.own now members m);
+      itself = omega (arith, w.own_in, all_in_is A m.tables.own now members m);
       there = omega (arith, w.own_once);
       station = station;
       onward = λ b f.
           let none : times b members ≡ 0 = omega (arith, f, all_in_is A b now members m) in
-          peers b none (omega (arith, f, all_in_is A b now members m)) ∙ w.managed.peers b ∙ times-others m.own b (owns ms) ∙
+          peers b none (omega (arith, f, all_in_is A b now members m)) ∙ w.managed.peers b ∙ times-others m.tables.own b (owns ms) ∙
           ap (λ (c : Bool). cond (not c) (times b (owns ms)) 0) (other b none);
     } in
     omega (
       arith,
-      passed_weighs (goes a) (goes_adds a) now m.own (bvll.forwarded origin npdu) ys ms,
-      managers_split (weight (goes a) now m.own (bvll.forwarded origin npdu) ys) pre (with members m) post,
-      heard_beside now ms (with members m) m.own a origin npdu ys pre w.before has_before onward,
-      heard_beside now ms (with members m) m.own a origin npdu ys post w.behind has_behind onward,
-      weighs_once (goes a) now m.own (bvll.forwarded origin npdu) ys m 0 e,
+      passed_weighs (goes a) (goes_adds a) now m.tables.own (bvll.forwarded origin npdu) ys ms,
+      managers_split (weight (goes a) now m.tables.own (bvll.forwarded origin npdu) ys) pre (with members m) post,
+      heard_beside now ms (with members m) m.tables.own a origin npdu ys pre w.before has_before onward,
+      heard_beside now ms (with members m) m.tables.own a origin npdu ys post w.behind has_behind onward,
+      weighs_once (goes a) now m.tables.own (bvll.forwarded origin npdu) ys m 0 e,
     )
 
 times_none : (b : Bool) (n : ℕ) → n ≡ 0 → cond b n 0 ≡ 0
@@ -280,37 +284,37 @@ member_reaches : {A : Type 0} (now : ℕ) (o a : Address) (npdu : List ℕ) (pre
 member_reaches {A} now o a npdu pre members m post w has_before has_behind station heard among =
     let ms = managers_of (pre ++ with {A = A} members m ∷ post) in
     let xs = others o members in
-    let ys = peers_of m ++ served now m.foreign in
+    let ys = peers_of m.tables ++ served now m.tables.foreign in
     let gs = each o (bvll.broadcast npdu) xs in
-    let own_two : same_address m.own o ≡ false =
-    are_two m.own o (owns ms) 1 0 w.own_once station (λ e. absurd (cc e)) in
-    let two_own : same_address o m.own ≡ false =
-    are_two o m.own (owns ms) 0 1 station w.own_once (λ e. absurd (cc e)) in
-    let e : times m.own xs ≡ 1 = others_all o m.own members own_two ∙ w.own_in in
-    let inside = λ (b : Address) (f : times b members ≡ 0) (g : times b (served now m.foreign) ≡ 0).
+    let own_two : same_address m.tables.own o ≡ false =
+    are_two m.tables.own o (owns ms) 1 0 w.own_once station (λ e. absurd (cc e)) in
+    let two_own : same_address o m.tables.own ≡ false =
+    are_two o m.tables.own (owns ms) 0 1 station w.own_once (λ e. absurd (cc e)) in
+    let e : times m.tables.own xs ≡ 1 = others_all o m.tables.own members own_two ∙ w.own_in in
+    let inside = λ (b : Address) (f : times b members ≡ 0) (g : times b (served now m.tables.foreign) ≡ 0).
     others_none o b members f in
-    let there : times o (members_of m) ≡ times o members = others_all m.own o m.members two_own ∙
+    let there : times o (members_of m.tables) ≡ times o members = others_all m.tables.own o m.tables.members two_own ∙
     ap (times o) w.managed.knows in
-    let is_member = times_among o (members_of m) (omega (arith, there, among_times o members among)) in
-    let says : going m.own (carrying (said now o m (bvll.broadcast npdu))) ≡ each m.own (bvll.forwarded o npdu) ys =
-    ap (λ (b : Bool). going m.own (carrying (from_one b (record { to = ys; what = bvll.forwarded o npdu })))) is_member in
+    let is_member = times_among o (members_of m.tables) (omega (arith, there, among_times o members among)) in
+    let says : going m.tables.own (carrying (said now o m (bvll.broadcast npdu))) ≡ each m.tables.own (bvll.forwarded o npdu) ys =
+    ap (λ (b : Bool). going m.tables.own (carrying (from_one b (record { to = ys; what = bvll.forwarded o npdu })))) is_member in
     let first = first_way (goes a) (goes_adds a) now o (bvll.broadcast npdu) xs pre members m post w e inside ∙
-    ap (goes a) says ∙ ap (times a) (tos-each m.own (bvll.forwarded o npdu) ys) ∙
-    times-append a (peers_of m) (served now m.foreign) in
+    ap (goes a) says ∙ ap (times a) (tos-each m.tables.own (bvll.forwarded o npdu) ys) ∙
+    times-append a (peers_of m.tables) (served now m.tables.foreign) in
     let second = first_way (goes_on a now ms) (goes_on_adds a now ms) now o (bvll.broadcast npdu) xs pre members m post w e
     inside ∙ ap (goes_on a now ms) says ∙
     second_way a now o npdu ys pre members m post w has_before has_behind heard
     (omega (
       arith,
-      times-append m.own (peers_of m) (served now m.foreign),
-      others_itself m.own m.managers,
+      times-append m.tables.own (peers_of m.tables) (served now m.tables.foreign),
+      others_itself m.tables.own m.tables.managers,
       w.own_out,
     ))
-    (λ b f g. omega (arith, times-append b (peers_of m) (served now m.foreign), g)) in
-    let no_peer : times a (peers_of m) ≡ 0 = w.managed.peers a ∙ others_none m.own a (owns ms) heard in
+    (λ b f g. omega (arith, times-append b (peers_of m.tables) (served now m.tables.foreign), g)) in
+    let no_peer : times a (peers_of m.tables) ≡ 0 = w.managed.peers a ∙ others_none m.tables.own a (owns ms) heard in
     let begins : goes a gs ≡ cond (not (same_address a o)) (times a members) 0 =
     ap (times a) (tos-each o (bvll.broadcast npdu) xs) ∙ times-others o a members in
-    let all = member_sum (same_address a o) (goes a gs) (times a members) (times a (served now m.foreign))
+    let all = member_sum (same_address a o) (goes a gs) (times a members) (times a (served now m.tables.foreign))
     (times a (everyone now pre)) (times a (everyone now post))
     (times a (everyone now (pre ++ with {A = A} members m ∷ post))) begins
     (λ c. omega (
@@ -340,56 +344,56 @@ served_sum false foreign members served pre post all e f g = omega (arith, e, g)
 served_reaches : {A : Type 0} (now : ℕ) (o a : Address) (npdu : List ℕ) (pre : List (Subnet A)) (members : List Address)
     (m : ManagerState) (post : List (Subnet A)) → Known now pre members m post →
     AllByRecursion (λ t. is_some t.manager ≡ true) pre → AllByRecursion (λ t. is_some t.manager ≡ true) post →
-    times a (owns (managers_of (pre ++ with members m ∷ post))) ≡ 0 → is_among o (served now m.foreign) ≡ true →
-    goes a (three_ways now (managers_of (pre ++ with members m ∷ post)) (each o (bvll.distribute npdu) (m.own ∷ [])))
+    times a (owns (managers_of (pre ++ with members m ∷ post))) ≡ 0 → is_among o (served now m.tables.foreign) ≡ true →
+    goes a (three_ways now (managers_of (pre ++ with members m ∷ post)) (each o (bvll.distribute npdu) (m.tables.own ∷ [])))
     ≡ cond (not (same_address a o)) (times a (everyone now (pre ++ with members m ∷ post))) 0
 served_reaches {A} now o a npdu pre members m post w has_before has_behind heard among =
     let ms = managers_of (pre ++ with {A = A} members m ∷ post) in
-    let foreign = others o (served now m.foreign) in
-    let ys = all_but now o m in
-    let gs = each o (bvll.distribute npdu) (m.own ∷ []) in
-    let own_two : same_address m.own a ≡ false =
-    are_two m.own a (owns ms) 1 0 w.own_once heard (λ e. absurd (cc e)) in
-    let two_own : same_address a m.own ≡ false =
-    are_two a m.own (owns ms) 0 1 heard w.own_once (λ e. absurd (cc e)) in
-    let inside = λ (b : Address) (f : times b members ≡ 0) (g : times b (served now m.foreign) ≡ 0).
-    first_counts m.own b false 0 0 (are_two m.own b members 1 0 w.own_in f (λ e. absurd (cc e))) refl in
-    let says : going m.own (carrying (said now o m (bvll.distribute npdu))) ≡ each m.own (bvll.forwarded o npdu) ys =
-    ap (λ (b : Bool). going m.own (carrying (distributed b now o m npdu))) among in
-    let parts = λ (b : Address). times-append b (members_of m) (peers_of m ++ foreign) in
-    let rest = λ (b : Address). times-append b (peers_of m) foreign in
-    let first = first_way (goes a) (goes_adds a) now o (bvll.distribute npdu) (m.own ∷ []) pre members m post w
-    (times_itself m.own) inside ∙ ap (goes a) says ∙ ap (times a) (tos-each m.own (bvll.forwarded o npdu) ys) in
+    let foreign = others o (served now m.tables.foreign) in
+    let ys = all_but now o m.tables in
+    let gs = each o (bvll.distribute npdu) (m.tables.own ∷ []) in
+    let own_two : same_address m.tables.own a ≡ false =
+    are_two m.tables.own a (owns ms) 1 0 w.own_once heard (λ e. absurd (cc e)) in
+    let two_own : same_address a m.tables.own ≡ false =
+    are_two a m.tables.own (owns ms) 0 1 heard w.own_once (λ e. absurd (cc e)) in
+    let inside = λ (b : Address) (f : times b members ≡ 0) (g : times b (served now m.tables.foreign) ≡ 0).
+    first_counts m.tables.own b false 0 0 (are_two m.tables.own b members 1 0 w.own_in f (λ e. absurd (cc e))) refl in
+    let says : going m.tables.own (carrying (said now o m (bvll.distribute npdu))) ≡ each m.tables.own (bvll.forwarded o npdu) ys =
+    ap (λ (b : Bool). going m.tables.own (carrying (distributed b now o m npdu))) among in
+    let parts = λ (b : Address). times-append b (members_of m.tables) (peers_of m.tables ++ foreign) in
+    let rest = λ (b : Address). times-append b (peers_of m.tables) foreign in
+    let first = first_way (goes a) (goes_adds a) now o (bvll.distribute npdu) (m.tables.own ∷ []) pre members m post w
+    (times_itself m.tables.own) inside ∙ ap (goes a) says ∙ ap (times a) (tos-each m.tables.own (bvll.forwarded o npdu) ys) in
     let knows = λ (b : Address). ap (times b) w.managed.knows in
-    let second = first_way (goes_on a now ms) (goes_on_adds a now ms) now o (bvll.distribute npdu) (m.own ∷ []) pre members
-    m post w (times_itself m.own) inside ∙ ap (goes_on a now ms) says ∙
+    let second = first_way (goes_on a now ms) (goes_on_adds a now ms) now o (bvll.distribute npdu) (m.tables.own ∷ []) pre members
+    m post w (times_itself m.tables.own) inside ∙ ap (goes_on a now ms) says ∙
     second_way a now o npdu ys pre members m post w has_before has_behind heard
     (omega (
       arith,
-      parts m.own,
-      rest m.own,
-      others_itself m.own m.members,
-      others_itself m.own m.managers,
-      others_none o m.own (served now m.foreign) w.own_out,
+      parts m.tables.own,
+      rest m.tables.own,
+      others_itself m.tables.own m.tables.members,
+      others_itself m.tables.own m.tables.managers,
+      others_none o m.tables.own (served now m.tables.foreign) w.own_out,
     ))
     (λ b f g. omega (
       arith,
       parts b,
       rest b,
-      others_none m.own b m.members (knows b ∙ f),
-      others_none o b (served now m.foreign) g,
+      others_none m.tables.own b m.tables.members (knows b ∙ f),
+      others_none o b (served now m.tables.foreign) g,
     )) in
-    let no_peer : times a (peers_of m) ≡ 0 = w.managed.peers a ∙ others_none m.own a (owns ms) heard in
-    let all_members : times a (members_of m) ≡ times a members = others_all m.own a m.members two_own ∙ knows a in
-    let begins : goes a gs ≡ 0 = first_counts m.own a false 0 0 own_two refl in
-    let all = served_sum (same_address a o) (times a foreign) (times a members) (times a (served now m.foreign))
+    let no_peer : times a (peers_of m.tables) ≡ 0 = w.managed.peers a ∙ others_none m.tables.own a (owns ms) heard in
+    let all_members : times a (members_of m.tables) ≡ times a members = others_all m.tables.own a m.tables.members two_own ∙ knows a in
+    let begins : goes a gs ≡ 0 = first_counts m.tables.own a false 0 0 own_two refl in
+    let all = served_sum (same_address a o) (times a foreign) (times a members) (times a (served now m.tables.foreign))
     (times a (everyone now pre)) (times a (everyone now post))
-    (times a (everyone now (pre ++ with {A = A} members m ∷ post))) (times-others o a (served now m.foreign))
+    (times a (everyone now (pre ++ with {A = A} members m ∷ post))) (times-others o a (served now m.tables.foreign))
     (λ c. omega (
       arith,
       w.apart a,
-      among_times o (served now m.foreign) among,
-      ap (λ (x : Address). times x (served now m.foreign)) (same_is a o c),
+      among_times o (served now m.tables.foreign) among,
+      ap (λ (x : Address). times x (served now m.tables.foreign)) (same_is a o c),
     ))
     (omega (arith, everyone_split a now pre (with {A = A} members m) post, all_in_is A a now members m)) in
     omega (
@@ -474,25 +478,25 @@ member_begins {A} now o npdu pre members m post w among =
     ++ flat_map (asked_of now o npdu) (m ∷ [])) among ∙
     ap (λ (gs : List Going). each o (bvll.broadcast npdu) (others o members) ++ gs)
     (asked_none now o npdu (Some m)
-    (omega (arith, w.apart o, one, times-append o (served now m.foreign) []))) ∙
+    (omega (arith, w.apart o, one, times-append o (served now m.tables.foreign) []))) ∙
     append-nil (each o (bvll.broadcast npdu) (others o members))
 
 served_begins : {A : Type 0} (now : ℕ) (o : Address) (npdu : List ℕ) (pre : List (Subnet A)) (members : List Address)
     (m : ManagerState) (post : List (Subnet A)) → Known now pre members m post →
-    is_among o (served now m.foreign) ≡ true →
-    begun now o npdu (pre ++ with members m ∷ post) ≡ each o (bvll.distribute npdu) (m.own ∷ [])
+    is_among o (served now m.tables.foreign) ≡ true →
+    begun now o npdu (pre ++ with members m ∷ post) ≡ each o (bvll.distribute npdu) (m.tables.own ∷ [])
 served_begins {A} now o npdu pre members m post w among =
-    let one = among_times o (served now m.foreign) among in
+    let one = among_times o (served now m.tables.foreign) among in
     begun_is now o npdu pre (with {A = A} members m) post (omega (arith, w.apart o, one)) (omega (arith, w.apart o, one)) ∙
     ap (λ (gs : List Going). gs ++ flat_map (asked_of now o npdu) (m ∷ []))
     (broadcast_none o npdu members (omega (arith, w.apart o, one))) ∙
-    ap (λ (b : Bool). going o (from_one b (record { to = m.own ∷ []; what = bvll.distribute npdu })) ++ []) among
+    ap (λ (b : Bool). going o (from_one b (record { to = m.tables.own ∷ []; what = bvll.distribute npdu })) ++ []) among
 
 -- from a subnet with a manager
 managed_reaches : {A : Type 0} (now : ℕ) (o : Address) (npdu : List ℕ) (pre : List (Subnet A)) (members : List Address)
     (m : ManagerState) (post : List (Subnet A)) → AreFull now (pre ++ with members m ∷ post) →
     times o (owns (managers_of (pre ++ with members m ∷ post))) ≡ 0 →
-    1 ≤ times o members + times o (served now m.foreign) → (b : Bool) → is_among o members ≡ b →
+    1 ≤ times o members + times o (served now m.tables.foreign) → (b : Bool) → is_among o members ≡ b →
     IsReached now o (pre ++ with members m ∷ post) (hearers now o npdu (pre ++ with members m ∷ post))
 managed_reaches {A} now o npdu pre members m post full station stands true e =
     let w = known now pre members m post full in
@@ -503,8 +507,8 @@ managed_reaches {A} now o npdu pre members m post full station stands true e =
 managed_reaches {A} now o npdu pre members m post full station stands false e =
     let w = known now pre members m post full in
     let has = has_all pre (with {A = A} members m) post full.several in
-    let among = times_among o (served now m.foreign) (omega (arith, stands, not_among_times o members e)) in
-    all_reached now o npdu (pre ++ with members m ∷ post) (each o (bvll.distribute npdu) (m.own ∷ []))
+    let among = times_among o (served now m.tables.foreign) (omega (arith, stands, not_among_times o members e)) in
+    all_reached now o npdu (pre ++ with members m ∷ post) (each o (bvll.distribute npdu) (m.tables.own ∷ []))
     (served_begins now o npdu pre members m post w among)
     (λ a heard. served_reaches now o a npdu pre members m post w (has.0) (has.1) heard among)
 

@@ -8,9 +8,9 @@ use Rattle.bvll.specs.declared.address.Address.{Address}
 use Rattle.bvll.specs.Datagram.{Datagram}
 use Rattle.bvll.specs.Datagram as bvll
 use Rattle.bbmd.specs.declared.spreading.Subnet.{Subnet}
-use Rattle.broadcast_tables.specs.Tables.{is_among, same_address, served}
-use Rattle.broadcast_manager.specs.State.{ManagerState, members_of, peers_of}
-use Rattle.broadcast_manager.specs.Manager.{carrying, said, from_one}
+use Rattle.bbmd_tables.specs.Tables.{is_among, same_address, members_of, peers_of, served}
+use Rattle.bbmd_manager.specs.State.{ManagerState}
+use Rattle.bbmd_manager.specs.Manager.{carrying, said, from_one}
 use Rattle.bbmd.specs.Reach.{Going, times, managers_of, owns, going, passed_by, passed, all_in, everyone, IsManaged}
 use Rattle.bbmd.proofs.Times.{same_is, times-append, among_times, times_among, total, total-append, total-more, times-others, times_itself, is_false}
 
@@ -37,7 +37,7 @@ pub record Adds (k : List Going → ℕ) : Type 0 where
 
 -- what a manager says to it, as often as it comes
 abbrev pub weight : (List Going → ℕ) → ℕ → Address → Datagram → List Address → ManagerState → ℕ
-weight k now from d xs m = times m.own xs * k (going m.own (carrying (said now from m d)))
+weight k now from d xs m = times m.tables.own xs * k (going m.tables.own (carrying (said now from m d)))
 
 passed_one : (k : List Going → ℕ) (adds : Adds k) (b : Bool) (gs : List Going) → k (cond b gs []) ≡ cond b 1 0 * k gs
 passed_one k adds true gs = omega arith
@@ -45,12 +45,12 @@ passed_one k adds false gs = omega (arith, adds.none)
 
 passed_first : (k : List Going → ℕ) (adds : Adds k) (now : ℕ) (g : Going) (ms : List ManagerState) →
     k (flat_map (passed_by now g) ms)
-    ≡ total (λ m. cond (same_address g.to m.own) 1 0 * k (going m.own (carrying (said now g.from m g.what)))) ms
+    ≡ total (λ m. cond (same_address g.to m.tables.own) 1 0 * k (going m.tables.own (carrying (said now g.from m g.what)))) ms
 passed_first k adds now g [] = adds.none
 passed_first k adds now g (m ∷ ms) =
     adds.more (passed_by now g m) (flat_map (passed_by now g) ms) ∙ omega (
       arith,
-      passed_one k adds (same_address g.to m.own) (going m.own (carrying (said now g.from m g.what))),
+      passed_one k adds (same_address g.to m.tables.own) (going m.tables.own (carrying (said now g.from m g.what))),
       passed_first k adds now g ms,
     )
 
@@ -66,9 +66,9 @@ passed_weighs k adds now from d [] ms = adds.none ∙ weighs_nothing k now from 
 passed_weighs k adds now from d (x ∷ xs) ms =
     let first = passed_first k adds now (record { from = from; to = x; what = d }) ms in
     let rest = passed_weighs k adds now from d xs ms in
-    let both = total-more (λ (m : ManagerState). cond (same_address x m.own) 1 0 * k (going m.own (carrying (said now from m d))))
+    let both = total-more (λ (m : ManagerState). cond (same_address x m.tables.own) 1 0 * k (going m.tables.own (carrying (said now from m d))))
     (weight k now from d xs) (weight k now from d (x ∷ xs))
-    (λ m. add-mul (cond (same_address x m.own) 1 0) (times m.own xs) (k (going m.own (carrying (said now from m d))))) ms in
+    (λ m. add-mul (cond (same_address x m.tables.own) 1 0) (times m.tables.own xs) (k (going m.tables.own (carrying (said now from m d))))) ms in
     adds.more (flat_map (passed_by now (record { from = from; to = x; what = d })) ms) (passed now ms (each from d xs)) ∙
     omega (arith, first, rest, both)
 
@@ -101,7 +101,7 @@ pub record Around {A : Type 0} (now : ℕ) (ms : List ManagerState) (s : Subnet 
 
 owns-append : (xs ys : List ManagerState) → owns (xs ++ ys) ≡ owns xs ++ owns ys
 owns-append [] ys = refl
-owns-append (x ∷ xs) ys = ap (λ (zs : List Address). x.own ∷ zs) (owns-append xs ys)
+owns-append (x ∷ xs) ys = ap (λ (zs : List Address). x.tables.own ∷ zs) (owns-append xs ys)
 
 pub times_owns : (b : Address) (xs ys : List ManagerState) → times b (owns (xs ++ ys)) ≡ times b (owns xs) + times b (owns ys)
 times_owns b xs ys = ap (times b) (owns-append xs ys) ∙ times-append b (owns xs) (owns ys)
@@ -121,7 +121,7 @@ apart_from now ms s t ts w b e = omega (
   arith,
   w.apart b,
   times-append b (all_in now t) (everyone now ts),
-  times-append b t.members (flat_map (λ m. served now m.foreign) (option_to_list t.manager)),
+  times-append b t.members (flat_map (λ m. served now m.tables.foreign) (option_to_list t.manager)),
   among_times b t.members e,
 )
 
@@ -130,7 +130,7 @@ unweighed : (k : List Going → ℕ) (now : ℕ) (from : Address) (d : Datagram)
     ((b : Address) → is_among b members ≡ true → times b xs ≡ 0) → total (weight k now from d xs) (option_to_list o) ≡ 0
 unweighed k now from d xs ms members None managed z = refl
 unweighed k now from d xs ms members (Some m) managed z =
-    ap (λ (n : ℕ). n * k (going m.own (carrying (said now from m d))) + 0) (z m.own (managed.0).itself) ∙ omega arith
+    ap (λ (n : ℕ). n * k (going m.tables.own (carrying (said now from m d))) + 0) (z m.tables.own (managed.0).itself) ∙ omega arith
 
 -- managers beside say nothing of what goes within the subnet
 pub beside_silent : {A : Type 0} (k : List Going → ℕ) (now : ℕ) (from : Address) (d : Datagram) (xs : List Address)
@@ -147,24 +147,24 @@ beside_silent k now from d xs ms s (t ∷ ts) w z = omega (
 
 -- who hears what a manager says of what a peer forwards
 heard_of_peer : (a : Address) (now : ℕ) (own origin : Address) (npdu : List ℕ) (m : ManagerState) →
-    is_among own (peers_of m) ≡ true →
-    goes a (going m.own (carrying (said now own m (bvll.forwarded origin npdu))))
-    ≡ times a (members_of m) + times a (served now m.foreign)
+    is_among own (peers_of m.tables) ≡ true →
+    goes a (going m.tables.own (carrying (said now own m (bvll.forwarded origin npdu))))
+    ≡ times a (members_of m.tables) + times a (served now m.tables.foreign)
 heard_of_peer a now own origin npdu m e =
-    ap (λ (b : Bool). goes a (going m.own (carrying (from_one b (record {
-      to = members_of m ++ served now m.foreign;
+    ap (λ (b : Bool). goes a (going m.tables.own (carrying (from_one b (record {
+      to = members_of m.tables ++ served now m.tables.foreign;
       what = bvll.forwarded origin npdu;
     }))))) e ∙
-    ap (times a) (tos-each m.own (bvll.forwarded origin npdu) (members_of m ++ served now m.foreign)) ∙
-    times-append a (members_of m) (served now m.foreign)
+    ap (times a) (tos-each m.tables.own (bvll.forwarded origin npdu) (members_of m.tables ++ served now m.tables.foreign)) ∙
+    times-append a (members_of m.tables) (served now m.tables.foreign)
 
 heard_in : (a : Address) (now : ℕ) (own origin : Address) (npdu : List ℕ) (ys members : List Address) (m : ManagerState) →
-    m.members ≡ members → times m.own ys ≡ 1 → is_among own (peers_of m) ≡ true → same_address a m.own ≡ false →
-    weight (goes a) now own (bvll.forwarded origin npdu) ys m ≡ times a members + times a (served now m.foreign)
+    m.tables.members ≡ members → times m.tables.own ys ≡ 1 → is_among own (peers_of m.tables) ≡ true → same_address a m.tables.own ≡ false →
+    weight (goes a) now own (bvll.forwarded origin npdu) ys m ≡ times a members + times a (served now m.tables.foreign)
 heard_in a now own origin npdu ys members m knows once peer other =
-    let all = times-others m.own a m.members ∙ ap (λ (b : Bool). cond (not b) (times a m.members) 0) other ∙
+    let all = times-others m.tables.own a m.tables.members ∙ ap (λ (b : Bool). cond (not b) (times a m.tables.members) 0) other ∙
     ap (times a) knows in
-    ap (λ (n : ℕ). n * goes a (going m.own (carrying (said now own m (bvll.forwarded origin npdu))))) once ∙
+    ap (λ (n : ℕ). n * goes a (going m.tables.own (carrying (said now own m (bvll.forwarded origin npdu))))) once ∙
     omega (arith, heard_of_peer a now own origin npdu m peer, all)
 
 -- what goes out of the subnet to the other managers, and who isn't one
@@ -182,23 +182,23 @@ heard_by_one : {A : Type 0} (now : ℕ) (ms : List ManagerState) (s : Subnet A) 
     ((b : Address) → is_among b members ≡ true → times b (all_in now s) ≡ 0) →
     ((b : Address) → times b (owns (option_to_list o)) ≤ times b (owns ms)) → Onward now ms s own a ys →
     total (weight (goes a) now own (bvll.forwarded origin npdu) ys) (option_to_list o)
-    ≡ times a members + times a (flat_map (λ m. served now m.foreign) (option_to_list o))
+    ≡ times a members + times a (flat_map (λ m. served now m.tables.foreign) (option_to_list o))
 heard_by_one now ms s own a origin npdu ys members None e managed z owned w = absurd (cc e)
 heard_by_one now ms s own a origin npdu ys members (Some m) e managed z owned w =
     let q = managed.0 in
-    let outside : times m.own (all_in now s) ≡ 0 = z m.own q.itself in
-    let once : times m.own (owns ms) ≡ 1 = omega (arith, w.one m.own, owned m.own, times_itself m.own) in
-    let another : same_address own m.own ≡ false = is_false (same_address own m.own) (λ f.
-    omega (arith, w.itself, ap (λ (x : Address). times x (all_in now s)) (same_is own m.own f), outside)) in
-    let other : same_address a m.own ≡ false = is_false (same_address a m.own) (λ f.
-    omega (arith, w.station, ap (λ (x : Address). times x (owns ms)) (same_is a m.own f), once)) in
-    let peers : times own (peers_of m) ≡ times own (owns ms) = q.peers own ∙ times-others m.own own (owns ms) ∙
+    let outside : times m.tables.own (all_in now s) ≡ 0 = z m.tables.own q.itself in
+    let once : times m.tables.own (owns ms) ≡ 1 = omega (arith, w.one m.tables.own, owned m.tables.own, times_itself m.tables.own) in
+    let another : same_address own m.tables.own ≡ false = is_false (same_address own m.tables.own) (λ f.
+    omega (arith, w.itself, ap (λ (x : Address). times x (all_in now s)) (same_is own m.tables.own f), outside)) in
+    let other : same_address a m.tables.own ≡ false = is_false (same_address a m.tables.own) (λ f.
+    omega (arith, w.station, ap (λ (x : Address). times x (owns ms)) (same_is a m.tables.own f), once)) in
+    let peers : times own (peers_of m.tables) ≡ times own (owns ms) = q.peers own ∙ times-others m.tables.own own (owns ms) ∙
     ap (λ (b : Bool). cond (not b) (times own (owns ms)) 0) another in
-    let peer = times_among own (peers_of m) (omega (arith, peers, w.there)) in
+    let peer = times_among own (peers_of m.tables) (omega (arith, peers, w.there)) in
     omega (
       arith,
-      heard_in a now own origin npdu ys members m q.knows (w.onward m.own outside ∙ once) peer other,
-      times-append a (served now m.foreign) [],
+      heard_in a now own origin npdu ys members m q.knows (w.onward m.tables.own outside ∙ once) peer other,
+      times-append a (served now m.tables.foreign) [],
     )
 
 -- who hears what the managers beside say of it
@@ -215,5 +215,5 @@ heard_beside now ms s own a origin npdu ys (t ∷ ts) around each_has w = omega 
       (λ b. omega (arith, around.owned b, times_owns b (option_to_list t.manager) (managers_of ts))) w,
   heard_beside now ms s own a origin npdu ys ts (around_rest now ms s t ts around) (each_has.1) w,
   times-append a (all_in now t) (everyone now ts),
-  times-append a t.members (flat_map (λ m. served now m.foreign) (option_to_list t.manager)),
+  times-append a t.members (flat_map (λ m. served now m.tables.foreign) (option_to_list t.manager)),
 )

@@ -4,9 +4,9 @@ use Rattle.std.proofs.lemmas.List.Folds.{list_any-append}
 use Rattle.bvll.specs.declared.address.Address.{Address}
 use Rattle.bvll.specs.Datagram.{canonical}
 use Rattle.bvll.specs.Datagram as bvll
-use Rattle.broadcast_tables.specs.Tables.{is_among, same_address, others, served}
-use Rattle.broadcast_manager.specs.State.{ManagerState, members_of, peers_of}
-use Rattle.broadcast_manager.specs.Manager.{Saying, all_but, distributed, from_one}
+use Rattle.bbmd_tables.specs.Tables.{all_but, is_among, same_address, others, members_of, peers_of, served}
+use Rattle.bbmd_manager.specs.State.{ManagerState}
+use Rattle.bbmd_manager.specs.Manager.{Saying, distributed, from_one}
 use Rattle.bbmd.specs.Laws.{AreApart, BroadcastGoesOn, DistributedGoesOn, ForwardedIsSame, ForwardedStays}
 
 pub or_false : (p q : Bool) → (p || q) ≡ false → (p ≡ false) × (q ≡ false)
@@ -65,46 +65,46 @@ not_told a s t e f = ap (λ (u : Saying). is_among a u.to) (sym e) ∙ f
 
 pub forwarded_stays : ForwardedStays
 forwarded_stays now from st origin npdu s apart e =
-    let p = from_one_is (is_among from (peers_of st)) _ s e in (
-      λ a m. not_told a _ s (p.1) (neither a (members_of st) (served now st.foreign)
+    let p = from_one_is (is_among from (peers_of st.tables)) _ s e in (
+      λ a m. not_told a _ s (p.1) (neither a (members_of st.tables) (served now st.tables.foreign)
           (apart_back _ _ apart.members a m) (apart_back _ _ apart.strangers a m)),
-      not_told st.own _ s (p.1) (neither st.own (members_of st) (served now st.foreign)
-          (not_among_others st.own st.members) apart.itself),
+      not_told st.tables.own _ s (p.1) (neither st.tables.own (members_of st.tables) (served now st.tables.foreign)
+          (not_among_others st.tables.own st.tables.members) apart.itself),
     )
 
 pub forwarded_is_same : ForwardedIsSame
 forwarded_is_same now from st octets origin npdu s spells e =
-    let p = from_one_is (is_among from (peers_of st)) _ s e in
+    let p = from_one_is (is_among from (peers_of st.tables)) _ s e in
     ap (λ (t : Saying). canonical t.what) (sym (p.1)) ∙ sym spells.parts
 
 pub broadcast_goes_on : BroadcastGoesOn
 broadcast_goes_on now from st npdu s apart e =
-    let p = from_one_is (is_among from (members_of st)) _ s e in
+    let p = from_one_is (is_among from (members_of st.tables)) _ s e in
     record {
-      back = not_told from _ s (p.1) (neither from (peers_of st) (served now st.foreign)
+      back = not_told from _ s (p.1) (neither from (peers_of st.tables) (served now st.tables.foreign)
           (apart.members from (p.0)) (apart_back _ _ apart.foreign from (p.0)));
-      itself = not_told st.own _ s (p.1) (neither st.own (peers_of st) (served now st.foreign)
-          (not_among_others st.own st.managers) apart.itself);
+      itself = not_told st.tables.own _ s (p.1) (neither st.tables.own (peers_of st.tables) (served now st.tables.foreign)
+          (not_among_others st.tables.own st.tables.managers) apart.itself);
     }
 
 distributed_is : (b : Bool) (now : ℕ) (from : Address) (st : ManagerState) (npdu : List ℕ) (s : Saying) → b ≡ true →
     distributed b now from st npdu ≡ Some s →
-    record { to = all_but now from st; what = bvll.forwarded from npdu } ≡ s
+    record { to = all_but now from st.tables; what = bvll.forwarded from npdu } ≡ s
 distributed_is true now from st npdu s t e = cc
 distributed_is false now from st npdu s t e = absurd (cc t)
 
 pub distributed_goes_on : DistributedGoesOn
 distributed_goes_on now from st npdu s apart f e =
-    let p = distributed_is (is_among from (served now st.foreign)) now from st npdu s f e in
+    let p = distributed_is (is_among from (served now st.tables.foreign)) now from st npdu s f e in
     record {
-      back = not_told from _ s p (neither from (members_of st) (peers_of st ++ others from (served now st.foreign))
+      back = not_told from _ s p (neither from (members_of st.tables) (peers_of st.tables ++ others from (served now st.tables.foreign))
           (apart.foreign from f)
-          (neither from (peers_of st) (others from (served now st.foreign))
+          (neither from (peers_of st.tables) (others from (served now st.tables.foreign))
           (apart.strangers from f)
-          (not_among_others from (served now st.foreign))));
-      itself = not_told st.own _ s p (neither st.own (members_of st) (peers_of st ++ others from (served now st.foreign))
-          (not_among_others st.own st.members)
-          (neither st.own (peers_of st) (others from (served now st.foreign))
-          (not_among_others st.own st.managers)
-          (still_not_among st.own from (served now st.foreign) apart.itself)));
+          (not_among_others from (served now st.tables.foreign))));
+      itself = not_told st.tables.own _ s p (neither st.tables.own (members_of st.tables) (peers_of st.tables ++ others from (served now st.tables.foreign))
+          (not_among_others st.tables.own st.tables.members)
+          (neither st.tables.own (peers_of st.tables) (others from (served now st.tables.foreign))
+          (not_among_others st.tables.own st.tables.managers)
+          (still_not_among st.tables.own from (served now st.tables.foreign) apart.itself)));
     }

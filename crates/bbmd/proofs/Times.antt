@@ -4,7 +4,7 @@ use Rattle.std.specs.Prelude.{filter, flat_map, nat_eq}
 use Rattle.std.specs.List.{AllByRecursion}
 use Rattle.std.specs.Cmp.Lexicographic.{pointwise, same_text}
 use Rattle.bvll.specs.declared.address.Address.{Address}
-use Rattle.broadcast_tables.specs.Tables.{is_among, same_address, others}
+use Rattle.bbmd_tables.specs.Tables.{is_among, same_address, others}
 use Rattle.bbmd.specs.Reach.{times}
 
 and_true : (p q : Bool) → (p && q) ≡ true → (p ≡ true) × (q ≡ true)

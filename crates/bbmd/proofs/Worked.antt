@@ -1,7 +1,7 @@
 -- Tables of two subnets are full.
 use Rattle.std.proofs.Common.{◌≡◌, ◌≤◌, ◌+◌, Bool, true, false, List, [], ◌∷◌, ◌&&◌, not, cond, refl, arith, inr, ap}
 use Rattle.bvll.specs.declared.address.Address.{Address}
-use Rattle.broadcast_tables.specs.Tables.{is_among, same_address}
+use Rattle.bbmd_tables.specs.Tables.{is_among, same_address}
 use Rattle.bbmd.specs.Reach.{AreFull, everyone, times}
 use Rattle.bbmd.specs.Worked.{two_subnets}
 use Rattle.bbmd.proofs.Times.{same_is, not_among_times}

@@ -4,10 +4,12 @@ use Rattle.std.specs.List.{AllByRecursion}
 use Rattle.bvll.specs.declared.address.Address.{Address}
 use Rattle.bvll.specs.Datagram.{Datagram}
 use Rattle.bvll.specs.Datagram as bvll
+use Rattle.profile.specs.declared.link_kind.LinkKind.TheVariants.{BacnetIp}
+use Rattle.profile.specs.LinkKind.{max_npdu}
 use Rattle.bbmd.specs.declared.spreading.Subnet.{Subnet}
-use Rattle.broadcast_tables.specs.Tables.{is_among, others, same_address, served}
-use Rattle.broadcast_manager.specs.State.{ManagerState, peers_of}
-use Rattle.broadcast_manager.specs.Manager.{Saying, carrying, from_one, said}
+use Rattle.bbmd_tables.specs.Tables.{is_among, others, peers_of, same_address, served}
+use Rattle.bbmd_manager.specs.State.{ManagerState}
+use Rattle.bbmd_manager.specs.Manager.{Saying, carrying, from_one, said}
 
 -- a datagram on its way between two addresses
 pub record Going : Type 0 where
@@ -26,7 +28,7 @@ managers_of ss = flat_map (λ s. option_to_list s.manager) ss
 
 -- where they are
 abbrev pub owns : List ManagerState → List Address
-owns ms = map (λ m. m.own) ms
+owns ms = map (λ m. m.tables.own) ms
 
 -- a datagram to each of these
 abbrev pub going_to : Address → Datagram → List Address → List Going
@@ -39,7 +41,7 @@ going from (Some s) = going_to from s.what s.to
 
 -- what a manager forwards of a datagram that comes to its address
 abbrev pub passed_by : ℕ → Going → ManagerState → List Going
-passed_by now g m = cond (same_address g.to m.own) (going m.own (carrying (said now g.from m g.what))) []
+passed_by now g m = cond (same_address g.to m.tables.own) (going m.tables.own (carrying (said now g.from m g.what))) []
 
 -- what managers forward of datagrams, each of which comes to its address once
 abbrev pub passed : ℕ → List ManagerState → List Going → List Going
@@ -47,8 +49,8 @@ passed now ms gs = flat_map (λ g. flat_map (passed_by now g) ms) gs
 
 -- what an origin says to a manager that serves it (J.2.10)
 abbrev pub asked_of : ℕ → Address → List ℕ → ManagerState → List Going
-asked_of now origin npdu m = going origin (from_one (is_among origin (served now m.foreign)) (record {
-  to = m.own ∷ [];
+asked_of now origin npdu m = going origin (from_one (is_among origin (served now m.tables.foreign)) (record {
+  to = m.tables.own ∷ [];
   what = bvll.distribute npdu;
 }))
 
@@ -83,7 +85,7 @@ hearers now origin npdu ss =
 
 -- the members of a subnet, and the foreign devices that its manager serves
 abbrev pub all_in : {A : Type 0} → ℕ → Subnet A → List Address
-all_in now s = s.members ++ flat_map (λ m. served now m.foreign) (option_to_list s.manager)
+all_in now s = s.members ++ flat_map (λ m. served now m.tables.foreign) (option_to_list s.manager)
 
 -- all members and foreign devices of a network
 abbrev pub everyone : {A : Type 0} → ℕ → List (Subnet A) → List Address
@@ -91,9 +93,9 @@ everyone now ss = flat_map (all_in now) ss
 
 -- a manager is a member of the subnet whose members it knows, and its peers are the other managers, each once
 pub record IsManaged (ms : List ManagerState) (members : List Address) (m : ManagerState) : Type 0 where
-  pub knows : m.members ≡ members
-  pub itself : is_among m.own members ≡ true
-  pub peers : (a : Address) → times a (peers_of m) ≡ times a (others m.own (owns ms))
+  pub knows : m.tables.members ≡ members
+  pub itself : is_among m.tables.own members ≡ true
+  pub peers : (a : Address) → times a (peers_of m.tables) ≡ times a (others m.tables.own (owns ms))
 
 -- full tables (J.4.3): managers as above, one in each of several subnets, and no address twice among members and
 -- foreign devices
@@ -111,6 +113,7 @@ pub record IsReached {A : Type 0} (now : ℕ) (origin : Address) (ss : List (Sub
 -- a broadcast of a member or a foreign device over full tables, which isn't too long, reaches each other station once
 -- (J.4.5)
 abbrev pub Reaches : Type 0 → Type 0
-Reaches A = (now : ℕ) (origin : Address) (npdu : List ℕ) (ss : List (Subnet A)) → length npdu ≤ 1497 → AreFull now ss →
+Reaches A = (now : ℕ) (origin : Address) (npdu : List ℕ) (ss : List (Subnet A)) → length npdu ≤ max_npdu BacnetIp →
+    AreFull now ss →
     is_among origin (stations (managers_of ss) (everyone now ss)) ≡ true →
     IsReached now origin ss (hearers now origin npdu ss)

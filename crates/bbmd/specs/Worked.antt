@@ -2,7 +2,7 @@
 use Rattle.std.specs.Prelude.{ℕ, List, [], ◌∷◌, Some}
 use Rattle.bvll.specs.declared.address.Address.{Address}
 use Rattle.bbmd.specs.declared.spreading.Subnet.{Subnet}
-use Rattle.broadcast_manager.specs.State.{ManagerState}
+use Rattle.bbmd_tables.specs.Tables.{TablesState}
 
 -- a port at 127.0.0.1
 abbrev pub at_port : ℕ → Address
@@ -12,27 +12,25 @@ at_port port = record { ip = 127 ∷ (0 ∷ (0 ∷ (1 ∷ []))); port = port }
 abbrev pub both_managers : List Address
 both_managers = at_port 47808 ∷ (at_port 47809 ∷ [])
 
--- the first one, with a member at 47810 and a foreign device at 47824 that registered at 0 for 60 seconds
-abbrev pub first_manager : ManagerState
-first_manager = record {
+-- the tables of the first one, with a member at 47810, and a foreign device that registered at 0 for 60 seconds
+abbrev pub first_tables : TablesState
+first_tables = record {
   own = at_port 47808;
   members = at_port 47808 ∷ (at_port 47810 ∷ []);
   managers = both_managers;
   foreign = record { device = at_port 47824; seconds_to_live = 60; at = 0 } ∷ [];
-  moment = 0;
 }
 
--- the second one, with a member at 47811
-abbrev pub second_manager : ManagerState
-second_manager = record {
+-- the tables of the second one, with a member at 47811
+abbrev pub second_tables : TablesState
+second_tables = record {
   own = at_port 47809;
   members = at_port 47809 ∷ (at_port 47811 ∷ []);
   managers = both_managers;
   foreign = [];
-  moment = 0;
 }
 
 -- both subnets
 abbrev pub two_subnets : {A : Type 0} → List (Subnet A)
-two_subnets = record { members = first_manager.members; manager = Some first_manager }
-    ∷ (record { members = second_manager.members; manager = Some second_manager } ∷ [])
+two_subnets = record { members = first_tables.members; manager = Some (record { tables = first_tables; moment = 0 }) }
+    ∷ (record { members = second_tables.members; manager = Some (record { tables = second_tables; moment = 0 }) } ∷ [])

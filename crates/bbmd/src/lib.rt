@@ -1,10 +1,10 @@
 //! Broadcast managers of BACnet/IP (ANSI/ASHRAE 135, clauses J.4 and J.5): a manager carries the broadcasts of its
 //! subnet to the managers of the others and to foreign devices, and theirs to its subnet.
 //!
-//! Promised to the layer above, besides what `broadcast_manager` promises of each manager: [`spread`] answers who hears
+//! Promised to the layer above, besides what `bbmd_manager` promises of each manager: [`spread`] answers who hears
 //! a broadcast that goes through managers: over full tables each other station once ([`reach`]). There what goes
 //! through a manager never comes back to who said it ([`goes_on`]), nor from one manager through another to a third
-//! ([`forwarded_stays`], [`full_are_apart`]).
+//! ([`forwarded_stays`], [`full_are_apart`]). What layers above need of a manager and its tables, they name here.
 //!
 //! - `spreading`: who hears a broadcast that goes through managers.
 //! - `laws`: what holds of all of it.
@@ -13,8 +13,7 @@
 mod laws;
 mod spreading;
 
-pub use broadcast_manager::{
-    Bbmd, GRACE_SECONDS, MAX_FOREIGN_DEVICES, MAX_FORWARDED_OCTETS, MAX_PEERS, Registration, Sent,
-};
+pub use bbmd_manager::{Bbmd, Outgoing};
+pub use bbmd_tables::{GRACE_SECONDS, ManagerTables, Registration};
 pub use laws::{forwarded_stays, full_are_apart, goes_on};
 pub use spreading::{SiteTables, Subnet, reach, spread, two_subnets};

@@ -2,13 +2,13 @@
 
 ghost use Rattle.std.specs.Prelude.{◌≡◌, ◌++◌, [], ◌∷◌, true, map, flat_map, IfOk, OnOk};
 ghost use Rattle.bvll.specs.Datagram.{datagram_of};
-ghost use Rattle.broadcast_tables.specs.Tables.{is_among};
+ghost use Rattle.bbmd_tables.specs.Tables.{is_among};
 ghost use Rattle.bbmd.specs.Reach.{AreFull, IsReached, Reaches, asked_of, begun, begun_in, broadcast_of, everyone, going_to, hearers, managers_of, owns, passed, passed_by, stations};
 ghost use Rattle.bbmd.specs.Passing.{going_of, onward};
 ghost use Rattle.bbmd.specs.Worked.{at_port, two_subnets};
 
-use broadcast_manager::Bbmd;
-use broadcast_tables::addresses::{append_others, is_among, is_same};
+use bbmd_manager::Bbmd;
+use bbmd_tables::{append_others, is_among, is_same};
 use bvll::{Address, Bvll};
 use std::alloc::{AllocError, Allocator};
 use tags::Items;
@@ -43,7 +43,16 @@ fn onward(from: Address, what: Bvll<'static>) -> Bvll<'static>
         Bvll::OriginalBroadcastNpdu(npdu) | Bvll::DistributeBroadcastToNetwork(npdu) => {
             Bvll::ForwardedNpdu { origin: from, npdu }
         }
-        _ => what,
+        Bvll::Result(_)
+        | Bvll::WriteBroadcastDistributionTable(_)
+        | Bvll::ReadBroadcastDistributionTable
+        | Bvll::ReadBroadcastDistributionTableAck(_)
+        | Bvll::ForwardedNpdu { .. }
+        | Bvll::RegisterForeignDevice { .. }
+        | Bvll::ReadForeignDeviceTable
+        | Bvll::ReadForeignDeviceTableAck(_)
+        | Bvll::DeleteForeignDeviceTableEntry(_)
+        | Bvll::OriginalUnicastNpdu(_) => what,
     }
 }
 

@@ -1,11 +1,13 @@
 //! Remembered answers (ANSI/ASHRAE 135, clause 5.4.5): finding one, and executing a request with so many there.
 
 use crate::clock::{Often, Work, print, told};
+use apdu::ConfirmedService;
 use npdu::{Mac, Station, Way};
-use objects::{DataLink, Request, SiteObjects, Table};
+use objects::{SiteObjects, Table};
+use primitives::Request;
+use profile::{KEEP_MS, LinkKind};
 use remembered::{Asker, ListRecords, Record, Records, RememberedAnswer, SlabRecords};
-use segments::numbers::KEEP_MS;
-use services::{ConfirmedService, ObjectExecutor};
+use services::ObjectExecutor;
 use std::alloc::{AllocError, Allocator, Global};
 use std::io;
 use tags::{Items, ObjectId};
@@ -96,7 +98,7 @@ fn table<A: Allocator + Copy>(alloc: A) -> io::Result<Table<A>> {
         name: Items::new(alloc),
         instance: 1,
         vendor: 260,
-        data_link: DataLink::BacnetIp,
+        data_link: LinkKind::BacnetIp,
         objects: Items::new(alloc),
     };
     match Table::new(alloc, site) {

@@ -1,5 +1,6 @@
 -- What is refused spells nothing, and what is cut could be completed.
-use Rattle.std.proofs.Common.{◌≡◌, ℕ, ◌+◌, ◌*◌, ◌/◌, ◌<◌, ◌≤◌, ◌^◌, ◌%◌, List, [], ◌∷◌, ◌++◌, length, get_or, Some, slice_get, refl, ap, sym, subst, arith, ◌∙◌, inl, inr, flat_map, length-append}
+use Rattle.std.proofs.Common.{◌≡◌, ℕ, ◌+◌, ◌*◌, ◌/◌, ◌<◌, ◌≤◌, ◌^◌, ◌%◌, List, [], ◌∷◌, ◌++◌, length, get_or, Some, slice_get, refl, ap, sym, subst, arith, ◌∙◌}
+use Rattle.std.proofs.Common.{inl, inr, flat_map, length-append}
 use Rattle.std.specs.List.{AllByRecursion}
 use Rattle.std.specs.Prelude.{Result, IfOk, IfErr, OnErr, Ok, Err}
 use Rattle.byteorder.specs.Endian.{big_bytes}
@@ -10,7 +11,9 @@ use Rattle.bvll.specs.declared.entry.DistributionEntry.{DistributionEntry}
 use Rattle.bvll.specs.declared.entry.ForeignDevice.{ForeignDevice}
 use Rattle.bvll.specs.declared.function.Function.{Function}
 use Rattle.bvll.specs.declared.function.Function.TheVariants as f
-use Rattle.bvll.specs.Datagram.{Datagram, datagram_of, outcome, write_distribution, read_distribution, distribution, forwarded, register, read_foreign, foreign, delete_foreign, distribute, unicast, broadcast, function, contents, contents_length, HasFields, header, whole_length, Spells, NoDatagram}
+use Rattle.bvll.specs.Datagram.{Datagram, datagram_of, outcome, write_distribution, read_distribution, distribution, forwarded, register, read_foreign, foreign}
+use Rattle.bvll.specs.Datagram.{delete_foreign, distribute, unicast, broadcast, function, contents, contents_length, HasFields, header, whole_length, Spells}
+use Rattle.bvll.specs.Datagram.{NoDatagram}
 use Rattle.bvll.specs.Entry.{distribution_octets, foreign_octets, IsDistributionEntry, IsForeignDevice}
 use Rattle.bvll.specs.Function.{number_of}
 use Rattle.tags.specs.Number.{AreOctets}
@@ -19,7 +22,9 @@ use Rattle.bvll.specs.Refusal.{HasContents, IsLength, IsOtherVersion, IsUnknown,
 
 -- the functions in the order of their numbers
 functions : List Function
-functions = f.Result ∷ f.WriteBroadcastDistributionTable ∷ f.ReadBroadcastDistributionTable ∷ f.ReadBroadcastDistributionTableAck ∷ f.ForwardedNpdu ∷ f.RegisterForeignDevice ∷ f.ReadForeignDeviceTable ∷ f.ReadForeignDeviceTableAck ∷ f.DeleteForeignDeviceTableEntry ∷ f.DistributeBroadcastToNetwork ∷ f.OriginalUnicastNpdu ∷ f.OriginalBroadcastNpdu ∷ []
+functions = f.Result ∷ f.WriteBroadcastDistributionTable ∷ f.ReadBroadcastDistributionTable ∷ f.ReadBroadcastDistributionTableAck ∷ f.ForwardedNpdu ∷
+    f.RegisterForeignDevice ∷ f.ReadForeignDeviceTable ∷ f.ReadForeignDeviceTableAck ∷ f.DeleteForeignDeviceTableEntry ∷ f.DistributeBroadcastToNetwork ∷
+    f.OriginalUnicastNpdu ∷ f.OriginalBroadcastNpdu ∷ []
 
 slice_get-functions : (k : Function) → slice_get functions (number_of k) ≡ Some k
 unfolding functions
@@ -59,7 +64,8 @@ number_of-le f.OriginalBroadcastNpdu = omega arith
 
 -- the lengths of contents
 
-pub length-distribution : (entries : List DistributionEntry) → AllByRecursion IsDistributionEntry entries → length (flat_map distribution_octets entries) ≡ 10 * length entries
+pub length-distribution : (entries : List DistributionEntry) → AllByRecursion IsDistributionEntry entries →
+    length (flat_map distribution_octets entries) ≡ 10 * length entries
 length-distribution [] all = refl
 length-distribution (e ∷ entries) all = simp length-append (omega (arith, all.0.address.ip, all.0.mask, length-distribution entries all.1))
 
@@ -100,7 +106,8 @@ contents-length : (d : Datagram) → HasFields d → IsLength (function d) (leng
 contents-length d fits = subst (λ n. IsLength (function d) n) (sym (length-contents d fits)) (IsLength-counted d)
 
 -- what stands behind a header of its length is a datagram
-spelled : (k : Function) (whole : ℕ) (octets rest : List ℕ) (d : Datagram) → octets ≡ header k whole ++ rest → whole ≡ length octets → whole < 2 ^ 16 → HasContents k rest d → Spells octets d
+spelled : (k : Function) (whole : ℕ) (octets rest : List ℕ) (d : Datagram) → octets ≡ header k whole ++ rest → whole ≡ length octets → whole < 2 ^ 16 →
+    HasContents k rest d → Spells octets d
 spelled k whole octets rest d front is lt has =
     let counted : whole ≡ whole_length d = is ∙ ap length front ∙ omega (arith, ap length has.contents, length-contents d has.fields) in
     record {
@@ -109,7 +116,8 @@ spelled k whole octets rest d front is lt has =
       parts = front ∙ rw (counted, sym has.function, has.contents) refl;
     }
 
-pub spelled_if : (k : Function) (whole : ℕ) (octets rest : List ℕ) (result : Result Bvll Fault) → octets ≡ header k whole ++ rest → whole ≡ length octets → whole < 2 ^ 16 → IfOk result (λ b. HasContents k rest (datagram_of b)) → IfOk result (λ b. Spells octets (datagram_of b))
+pub spelled_if : (k : Function) (whole : ℕ) (octets rest : List ℕ) (result : Result Bvll Fault) → octets ≡ header k whole ++ rest → whole ≡ length octets →
+    whole < 2 ^ 16 → IfOk result (λ b. HasContents k rest (datagram_of b)) → IfOk result (λ b. Spells octets (datagram_of b))
 spelled_if k whole octets rest (Ok b) front is lt has = spelled k whole octets rest (datagram_of b) front is lt has
 spelled_if k whole octets rest (Err e) front is lt has = tt
 
@@ -156,7 +164,8 @@ misfit octets d r s =
     let p = header_parts r.function (function d) r.whole (whole_length d) r.rest (contents d) r.fits s.sound.fits (sym r.front ∙ s.parts) in
     elim r.misfit [
       | inl wrong ↦ wrong (p.1 ∙ sym s.whole)
-      | inr wrong ↦ wrong (subst (λ (k : Function). IsLength k (length r.rest)) (sym p.0) (subst (λ (o : List ℕ). IsLength (function d) (length o)) (sym p.2) (contents-length d s.sound.fields)))
+      | inr wrong ↦ wrong (subst (λ (k : Function). IsLength k (length r.rest)) (sym p.0)
+          (subst (λ (o : List ℕ). IsLength (function d) (length o)) (sym p.2) (contents-length d s.sound.fields)))
     ]
 
 pub refused_none : (e : Fault) (octets : List ℕ) → Refuses e octets → NoDatagram octets
@@ -195,7 +204,8 @@ cut_before_function [] lt first = cut_empty
 cut_before_function (a ∷ []) lt first = subst (λ (x : ℕ). IsCut (x ∷ [])) (sym (first (omega arith))) cut_first
 cut_before_function (a ∷ b ∷ rest) lt first = absurd (omega arith)
 
-pub cut_behind_function : (octets : List ℕ) (k : Function) → AreOctets octets → 2 ≤ length octets → length octets < 4 → get_or octets 0 0 ≡ 0x81 → get_or octets 1 0 ≡ number_of k → IsCut octets
+pub cut_behind_function : (octets : List ℕ) (k : Function) → AreOctets octets → 2 ≤ length octets → length octets < 4 → get_or octets 0 0 ≡ 0x81 →
+    get_or octets 1 0 ≡ number_of k → IsCut octets
 cut_behind_function [] k fits le lt first number = absurd (omega arith)
 cut_behind_function (a ∷ []) k fits le lt first number = absurd (omega arith)
 cut_behind_function (a ∷ b ∷ []) k fits le lt first number =

@@ -10,7 +10,8 @@ use Rattle.bvll.specs.declared.entry.ForeignDevice.{ForeignDevice}
 use Rattle.bvll.specs.declared.function.Function.{Function}
 use Rattle.bvll.specs.declared.function.Function.TheVariants as f
 use Rattle.bvll.specs.Address.{address_octets, address_at, IsAddress}
-use Rattle.bvll.specs.Datagram.{Datagram, outcome, write_distribution, read_distribution, distribution, forwarded, register, read_foreign, foreign, delete_foreign, distribute, unicast, broadcast, function, contents, HasFields, whole_length, datagram_of, Spells, OnlyDatagram}
+use Rattle.bvll.specs.Datagram.{Datagram, outcome, write_distribution, read_distribution, distribution, forwarded, register, read_foreign, foreign}
+use Rattle.bvll.specs.Datagram.{delete_foreign, distribute, unicast, broadcast, function, contents, HasFields, whole_length, datagram_of, Spells, OnlyDatagram}
 use Rattle.bvll.specs.declared.datagram.Bvll.{Bvll}
 use Rattle.tags.specs.declared.fault.Fault.{Fault}
 use Rattle.std.specs.Prelude.{Result, Ok, Err, IfOk}
@@ -33,16 +34,19 @@ address_again a rest fits =
 length-address : (a : Address) → IsAddress a → length (address_octets a) ≡ 6
 length-address a fits = simp length-append (omega (arith, fits.ip))
 
-same_distribution : (e : DistributionEntry) (address : Address) (mask : List ℕ) → address ≡ e.address → mask ≡ e.mask → record { address = address; mask = mask } ≡ e
+same_distribution : (e : DistributionEntry) (address : Address) (mask : List ℕ) → address ≡ e.address → mask ≡ e.mask →
+    record { address = address; mask = mask } ≡ e
 same_distribution e address mask p q = rw (p, q) refl
 
 distribution_again : (e : DistributionEntry) (rest : List ℕ) → IsDistributionEntry e → distribution_at (distribution_octets e ++ rest) ≡ e
 distribution_again e rest fits =
     let front : distribution_octets e ++ rest ≡ address_octets e.address ++ (e.mask ++ rest) = append_assoc (address_octets e.address) e.mask rest in
     let behind = drop_at (address_octets e.address) (e.mask ++ rest) 6 (length-address e.address fits.address) in
-    ap distribution_at front ∙ same_distribution e _ _ (address_again e.address (e.mask ++ rest) fits.address) (ap (take 4) behind ∙ take_at e.mask rest 4 fits.mask)
+    ap distribution_at front ∙ same_distribution e _ _ (address_again e.address (e.mask ++ rest) fits.address)
+    (ap (take 4) behind ∙ take_at e.mask rest 4 fits.mask)
 
-same_foreign : (e : ForeignDevice) (address : Address) (to_live left : ℕ) → address ≡ e.address → to_live ≡ e.seconds_to_live → left ≡ e.seconds_left → record { address = address; seconds_to_live = to_live; seconds_left = left } ≡ e
+same_foreign : (e : ForeignDevice) (address : Address) (to_live left : ℕ) → address ≡ e.address → to_live ≡ e.seconds_to_live → left ≡ e.seconds_left →
+    record { address = address; seconds_to_live = to_live; seconds_left = left } ≡ e
 same_foreign e address to_live left p q r = rw (p, q, r) refl
 
 foreign_again : (e : ForeignDevice) (rest : List ℕ) → IsForeignDevice e → foreign_at (foreign_octets e ++ rest) ≡ e
@@ -51,13 +55,16 @@ foreign_again e rest fits =
     let front : foreign_octets e ++ rest ≡ address_octets e.address ++ (times ++ rest) = append_assoc (address_octets e.address) times rest in
     let long = length-address e.address fits.address in
     let behind = drop_at (address_octets e.address) (times ++ rest) 6 long in
-    let last : drop 8 (address_octets e.address ++ (times ++ rest)) ≡ big_bytes 2 e.seconds_left ++ rest = sym (drop-drop 2 6 (address_octets e.address ++ (times ++ rest))) ∙ ap (λ (x : List ℕ). drop 2 x) behind in
+    let last : drop 8 (address_octets e.address ++ (times ++ rest)) ≡ big_bytes 2 e.seconds_left ++ rest =
+    sym (drop-drop 2 6 (address_octets e.address ++ (times ++ rest))) ∙ ap (λ (x : List ℕ). drop 2 x) behind in
     ap foreign_at front ∙ same_foreign e _ _ _ (address_again e.address (times ++ rest) fits.address)
     (ap (big_number 2) behind ∙ big_number-reads_back 2 e.seconds_to_live (big_bytes 2 e.seconds_left ++ rest) fits.to_live)
     (ap (big_number 2) last ∙ big_number-reads_back 2 e.seconds_left rest fits.left)
 
 -- entries are read again from their octets
-again : {E : Type 0} (entry_at : List ℕ → E) (octets_of : E → List ℕ) (IsEntry : E → Type 0) → ((e : E) (rest : List ℕ) → IsEntry e → (entry_at (octets_of e ++ rest) ≡ e) × (length (octets_of e) ≡ 10)) → (es : List E) → AllByRecursion IsEntry es → entries_at entry_at (flat_map octets_of es) ≡ es
+again : {E : Type 0} (entry_at : List ℕ → E) (octets_of : E → List ℕ) (IsEntry : E → Type 0) →
+    ((e : E) (rest : List ℕ) → IsEntry e → (entry_at (octets_of e ++ rest) ≡ e) × (length (octets_of e) ≡ 10)) → (es : List E) → AllByRecursion IsEntry es →
+    entries_at entry_at (flat_map octets_of es) ≡ es
 again entry_at octets_of IsEntry back [] all = refl
 again entry_at octets_of IsEntry back (e ∷ es) all =
     let one = back e (flat_map octets_of es) all.0 in
@@ -66,10 +73,12 @@ again entry_at octets_of IsEntry back (e ∷ es) all =
     ∙ rw (one.0, drop_at (octets_of e) (flat_map octets_of es) 10 one.1, again entry_at octets_of IsEntry back es all.1) refl
 
 distributions_again : (es : List DistributionEntry) → AllByRecursion IsDistributionEntry es → entries_at distribution_at (flat_map distribution_octets es) ≡ es
-distributions_again es all = again distribution_at distribution_octets IsDistributionEntry (λ e rest fits. (distribution_again e rest fits, simp length-append (omega (arith, fits.address.ip, fits.mask)))) es all
+distributions_again es all = again distribution_at distribution_octets IsDistributionEntry
+    (λ e rest fits. (distribution_again e rest fits, simp length-append (omega (arith, fits.address.ip, fits.mask)))) es all
 
 foreigns_again : (es : List ForeignDevice) → AllByRecursion IsForeignDevice es → entries_at foreign_at (flat_map foreign_octets es) ≡ es
-foreigns_again es all = again foreign_at foreign_octets IsForeignDevice (λ e rest fits. (foreign_again e rest fits, simp length-append (omega (arith, fits.address.ip)))) es all
+foreigns_again es all = again foreign_at foreign_octets IsForeignDevice
+    (λ e rest fits. (foreign_again e rest fits, simp length-append (omega (arith, fits.address.ip)))) es all
 
 -- the datagram of a function and its contents
 datagram_at : Function → List ℕ → Datagram
@@ -106,7 +115,8 @@ datagram_again (broadcast npdu) fits = refl
 
 pub one_datagram : SpellOne
 one_datagram octets d e s t =
-    let p = header_parts (function d) (function e) (whole_length d) (whole_length e) (contents d) (contents e) s.sound.fits t.sound.fits (sym s.parts ∙ t.parts) in
+    let p = header_parts (function d) (function e) (whole_length d) (whole_length e) (contents d) (contents e) s.sound.fits t.sound.fits
+    (sym s.parts ∙ t.parts) in
     sym (datagram_again d s.sound.fields) ∙ rw (p.0, p.2) (datagram_again e t.sound.fields)
 
 -- what was read is the only datagram that is spelled

@@ -16,5 +16,11 @@ code_number (Other n) = n
 
 -- a code that has a name goes by it
 abbrev pub IsNamed : ResultCode → Type 0
-IsNamed (Other n) = (n ≢ 0x00) × (n ≢ 0x10) × (n ≢ 0x20) × (n ≢ 0x30) × (n ≢ 0x40) × (n ≢ 0x50) × (n ≢ 0x60)
+IsNamed (Other n) = (n ≢ code_number Success)
+    × (n ≢ code_number WriteBroadcastDistributionTableNak)
+    × (n ≢ code_number ReadBroadcastDistributionTableNak)
+    × (n ≢ code_number RegisterForeignDeviceNak)
+    × (n ≢ code_number ReadForeignDeviceTableNak)
+    × (n ≢ code_number DeleteForeignDeviceTableEntryNak)
+    × (n ≢ code_number DistributeBroadcastToNetworkNak)
 IsNamed _ = Unit {0}

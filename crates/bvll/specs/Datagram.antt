@@ -71,9 +71,17 @@ HasFields (foreign entries) = AllByRecursion IsForeignDevice entries
 HasFields (delete_foreign address) = IsAddress address
 HasFields _ = Unit {0}
 
--- the first four octets: 81, the function and the length of the whole (J.2)
+-- the first octet of each datagram (J.2)
+abbrev pub BACNET_IP : ℕ
+BACNET_IP = 0x81
+
+-- the octets of a header: the first one, the function, and the length of the whole (J.2)
+abbrev pub HEADER_OCTETS : ℕ
+HEADER_OCTETS = 4
+
+-- the header of a datagram of this function and length (J.2)
 abbrev pub header : Function → ℕ → List ℕ
-header function whole = 0x81 ∷ (number_of function ∷ big_bytes 2 whole)
+header function whole = BACNET_IP ∷ (number_of function ∷ big_bytes 2 whole)
 
 -- the number of octets behind the header
 abbrev pub contents_length : Datagram → ℕ
@@ -92,7 +100,7 @@ contents_length (broadcast npdu) = length npdu
 
 -- the length of the whole
 abbrev pub whole_length : Datagram → ℕ
-whole_length d = 4 + contents_length d
+whole_length d = HEADER_OCTETS + contents_length d
 
 -- the one spelling
 abbrev pub canonical : Datagram → List ℕ

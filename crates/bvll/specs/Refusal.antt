@@ -4,7 +4,7 @@ use Rattle.tags.specs.declared.fault.Fault.{Fault}
 use Rattle.tags.specs.declared.fault.Fault.TheVariants.{Short, BadTag, BadLength, BadVersion}
 use Rattle.bvll.specs.declared.function.Function.{Function}
 use Rattle.bvll.specs.declared.function.Function.TheVariants as f
-use Rattle.bvll.specs.Datagram.{Datagram, header, function, contents, HasFields}
+use Rattle.bvll.specs.Datagram.{BACNET_IP, Datagram, header, function, contents, HasFields}
 
 -- the contents of a datagram of this function
 pub record HasContents (k : Function) (octets : List ℕ) (d : Datagram) : Type 0 where
@@ -30,13 +30,13 @@ pub record IsOtherVersion (octets : List ℕ) : Type 0 where
   pub first : ℕ
   pub rest : List ℕ
   pub front : octets ≡ first ∷ rest
-  pub other : first ≢ 0x81
+  pub other : first ≢ BACNET_IP
 
 -- the second octet is none of the twelve functions
 pub record IsUnknown (octets : List ℕ) : Type 0 where
   pub number : ℕ
   pub rest : List ℕ
-  pub front : octets ≡ 0x81 ∷ (number ∷ rest)
+  pub front : octets ≡ BACNET_IP ∷ (number ∷ rest)
   pub unknown : 11 < number
 
 -- some octets behind would complete the header

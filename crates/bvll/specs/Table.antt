@@ -2,8 +2,8 @@
 use Rattle.std.specs.Prelude.{◌≡◌, ℕ, zero, suc, ◌/◌, List, [], ◌∷◌, length, drop, flat_map}
 use Rattle.std.specs.List.{AllByRecursion}
 use Rattle.bvll.specs.declared.table.Iter.{Iter}
-use Rattle.bvll.specs.declared.table.Table.{Table}
-use Rattle.bvll.specs.declared.table.Table.TheVariants.{Octets, Entries}
+use Rattle.bvll.specs.declared.table.BvllTable.{BvllTable}
+use Rattle.bvll.specs.declared.table.BvllTable.TheVariants.{Octets, Entries}
 
 -- the octets, all of them, are those of the entry
 pub record SpellsEntry {E : Type 0} (octets_of : E → List ℕ) (IsEntry : E → Type 0) (octets : List ℕ)
@@ -27,7 +27,7 @@ abbrev pub entries_at : {E : Type 0} → (List ℕ → E) → List ℕ → List 
 entries_at entry_at octets = first_entries entry_at (length octets / 10) octets
 
 -- the entries of a table
-abbrev pub entries_of : {E : Type 0} → (List ℕ → E) → Table E → List E
+abbrev pub entries_of : {E : Type 0} → (List ℕ → E) → BvllTable E → List E
 entries_of entry_at (Octets octets) = entries_at entry_at octets.now
 entries_of entry_at (Entries entries) = entries.now
 

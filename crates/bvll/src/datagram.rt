@@ -4,7 +4,7 @@ use crate::address::{ADDRESS_OCTETS, Address};
 use crate::code::ResultCode;
 use crate::entry::{DistributionEntry, ENTRY_OCTETS, ForeignDevice};
 use crate::function::Function;
-use crate::table::Table;
+use crate::table::BvllTable;
 use byteorder::{BigEndian, ByteOrder};
 use std::alloc::{AllocError, Allocator};
 use tags::{Fault, all_or_none};
@@ -21,11 +21,11 @@ pub enum Bvll<'a> {
     /// How a manager took a request (J.2.1).
     Result(ResultCode),
     /// The distribution table that a manager is to keep (J.2.2).
-    WriteBroadcastDistributionTable(Table<'a, DistributionEntry>),
+    WriteBroadcastDistributionTable(BvllTable<'a, DistributionEntry>),
     /// Asks a manager for its distribution table (J.2.3).
     ReadBroadcastDistributionTable,
     /// The distribution table that a manager keeps (J.2.4).
-    ReadBroadcastDistributionTableAck(Table<'a, DistributionEntry>),
+    ReadBroadcastDistributionTableAck(BvllTable<'a, DistributionEntry>),
     /// A broadcast on its way through a manager; the origin is the station that said it (J.2.5).
     ForwardedNpdu { origin: Address, npdu: &'a [u8] },
     /// Asks a manager for its broadcasts, for so many seconds (J.2.6).
@@ -33,7 +33,7 @@ pub enum Bvll<'a> {
     /// Asks a manager for its foreign device table (J.2.7).
     ReadForeignDeviceTable,
     /// The foreign devices that a manager serves (J.2.8).
-    ReadForeignDeviceTableAck(Table<'a, ForeignDevice>),
+    ReadForeignDeviceTableAck(BvllTable<'a, ForeignDevice>),
     /// Asks a manager to serve a foreign device no longer (J.2.9).
     DeleteForeignDeviceTableEntry(Address),
     /// Asks a manager to broadcast an NPDU (J.2.10).
@@ -189,14 +189,14 @@ impl<'a> Bvll<'a> {
         Ok(match function {
             Function::Result => Bvll::Result(ResultCode::from(Bvll::number_from(contents)?)),
             Function::WriteBroadcastDistributionTable => {
-                Bvll::WriteBroadcastDistributionTable(Table::read(contents)?)
+                Bvll::WriteBroadcastDistributionTable(BvllTable::read(contents)?)
             }
             Function::ReadBroadcastDistributionTable => {
                 Bvll::nothing_from(contents)?;
                 Bvll::ReadBroadcastDistributionTable
             }
             Function::ReadBroadcastDistributionTableAck => {
-                Bvll::ReadBroadcastDistributionTableAck(Table::read(contents)?)
+                Bvll::ReadBroadcastDistributionTableAck(BvllTable::read(contents)?)
             }
             Function::ForwardedNpdu => {
                 let (origin, npdu) = Bvll::address_from(contents)?;
@@ -210,7 +210,7 @@ impl<'a> Bvll<'a> {
                 Bvll::ReadForeignDeviceTable
             }
             Function::ReadForeignDeviceTableAck => {
-                Bvll::ReadForeignDeviceTableAck(Table::read(contents)?)
+                Bvll::ReadForeignDeviceTableAck(BvllTable::read(contents)?)
             }
             Function::DeleteForeignDeviceTableEntry => {
                 Bvll::DeleteForeignDeviceTableEntry(Bvll::only_address_from(contents)?)

@@ -10,8 +10,8 @@ use byteorder::{BigEndian, ByteOrder};
 /// The octets of an entry in a table.
 pub const ENTRY_OCTETS: usize = 10;
 
-/// An entry of a table, which ten octets spell.
-pub trait Entry: Copy {
+/// An entry of a broadcast distribution table or a foreign device table, which ten octets spell (J.2.2, J.2.8).
+pub trait TableEntry: Copy {
     ghost entry_at: { List ℕ → Self };
 
     ghost octets_of: { Self → List ℕ };
@@ -50,7 +50,7 @@ pub struct ForeignDevice {
     pub seconds_left: u16,
 }
 
-impl Entry for DistributionEntry {
+impl TableEntry for DistributionEntry {
     ghost use Rattle.bvll.specs.Entry.{distribution_at, distribution_octets, IsDistributionEntry};
     ghost use Rattle.bvll.specs.EntryLaws.{distribution_spelled};
 
@@ -76,7 +76,7 @@ impl Entry for DistributionEntry {
     }
 }
 
-impl Entry for ForeignDevice {
+impl TableEntry for ForeignDevice {
     ghost use Rattle.bvll.specs.Entry.{foreign_at, foreign_octets, IsForeignDevice};
     ghost use Rattle.bvll.specs.EntryLaws.{foreign_spelled};
 

@@ -2,13 +2,14 @@
 
 ghost use Rattle.std.specs.Prelude.{◌≡◌, ◌≢◌, ◌↔◌, ◌%◌, [], length, IfOk, IfErr, IsTrue, OnOk, OnErr, ◌++◌, flat_map, slice_get};
 
-use crate::entry::{ENTRY_OCTETS, Entry};
+use crate::entry::{ENTRY_OCTETS, TableEntry};
 use std::alloc::{AllocError, Allocator};
 use tags::Fault;
 
-/// The entries of a table: in a datagram that was read, or in a list that is to be written.
+/// A broadcast distribution table or a foreign device table, as a datagram has it (J.2.2, J.2.8): in octets that were
+/// read, or in a list that is to be written.
 #[derive(Clone, Copy, Debug)]
-pub enum Table<'a, E> {
+pub enum BvllTable<'a, E> {
     /// Ten octets for each entry. What is left over belongs to none.
     Octets(&'a [u8]),
     Entries(&'a [E]),
@@ -17,10 +18,10 @@ pub enum Table<'a, E> {
 /// Goes through the entries of a table.
 #[derive(Clone, Copy, Debug)]
 pub struct Iter<'a, E> {
-    rest: Table<'a, E>,
+    rest: BvllTable<'a, E>,
 }
 
-impl<'a, E: Entry> Table<'a, E> {
+impl<'a, E: TableEntry> BvllTable<'a, E> {
     ghost use Rattle.bvll.specs.Table.{entries_at, entries_of, rest_of, SpellsTable};
     ghost use Rattle.std.specs.List.{AllByRecursion};
     ghost use Rattle.tags.specs.Canonical.{Extends};
@@ -31,14 +32,14 @@ impl<'a, E: Entry> Table<'a, E> {
     ///
     /// `BadLength` for octets that are not whole entries.
     #[tactic(auto, using(crate::proofs::Tables::table_rules))]
-    pub fn read(octets: &'a [u8]) -> Result<Table<'a, E>, Fault>
+    pub fn read(octets: &'a [u8]) -> Result<BvllTable<'a, E>, Fault>
         ensures read { IfOk result (λ t. SpellsTable E.octets_of E.IsEntry octets.entry.now (entries_of E.entry_at t)) }
         ensures refused { IfErr result (λ e. (e ≡ Fault.BadLength) × (length octets.entry.now % 10 ≢ 0)) }
     {
         if octets.len() % ENTRY_OCTETS != 0 {
             return Err(Fault::BadLength);
         }
-        Ok(Table::Octets(octets))
+        Ok(BvllTable::Octets(octets))
     }
 
     /// The number of entries.
@@ -47,8 +48,8 @@ impl<'a, E: Entry> Table<'a, E> {
         ensures { result ≡ length (entries_of E.entry_at self.now) }
     {
         match self {
-            Table::Octets(octets) => octets.len() / ENTRY_OCTETS,
-            Table::Entries(entries) => entries.len(),
+            BvllTable::Octets(octets) => octets.len() / ENTRY_OCTETS,
+            BvllTable::Entries(entries) => entries.len(),
         }
     }
 
@@ -64,8 +65,8 @@ impl<'a, E: Entry> Table<'a, E> {
         ensures { result ≡ slice_get (entries_of E.entry_at self.now) index }
     {
         match self {
-            Table::Octets(octets) => Table::row(octets, index),
-            Table::Entries(entries) => entries.get(index).copied(),
+            BvllTable::Octets(octets) => BvllTable::row(octets, index),
+            BvllTable::Entries(entries) => entries.get(index).copied(),
         }
     }
 
@@ -100,7 +101,7 @@ impl<'a, E: Entry> Table<'a, E> {
     }
 }
 
-impl<'a, E: Entry> Iterator for Iter<'a, E> {
+impl<'a, E: TableEntry> Iterator for Iter<'a, E> {
     type Item = E;
 
     ghost use Rattle.std.specs.Iterator.{YieldsFirst, item_count};
@@ -113,20 +114,20 @@ impl<'a, E: Entry> Iterator for Iter<'a, E> {
     #[tactic(auto, using(crate::proofs::Tables::next_rules))]
     fn next(&mut self) -> Option<E> {
         match self.rest {
-            Table::Octets(octets) => {
+            BvllTable::Octets(octets) => {
                 if octets.len() < ENTRY_OCTETS {
                     return None;
                 }
                 let entry = E::from_octets(octets);
                 let (_, rest) = octets.split_at(ENTRY_OCTETS);
-                self.rest = Table::Octets(rest);
+                self.rest = BvllTable::Octets(rest);
                 Some(entry)
             }
-            Table::Entries(entries) => {
+            BvllTable::Entries(entries) => {
                 let [entry, rest @ ..] = entries else {
                     return None;
                 };
-                self.rest = Table::Entries(rest);
+                self.rest = BvllTable::Entries(rest);
                 Some(*entry)
             }
         }

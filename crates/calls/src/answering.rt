@@ -3,18 +3,15 @@
 use crate::decoding::INVOKE_ID;
 use crate::opened::{OWN, device};
 use bvll::Bvll;
-use device::Device;
+use endpoint::Device;
 use npdu::{Mac, Parcel, Target};
-use segments::numbers::MAX_MOMENT_MS;
+use profile::{LinkKind, MAX_MOMENT_MS};
 use std::alloc::Allocator;
 use std::mem;
 use tags::{Fault, Octets};
 
 /// From where the datagram comes.
 const FROM: Mac = Mac::Six([127, 0, 0, 1, 0xBA, 0xC2]);
-
-/// The longest NPDU on the link, in octets.
-const LONGEST_NPDU: usize = 1497;
 
 /// A device that hears one datagram again and again, each time with another invoke ID, and so many ms later. What it
 /// hears and what it says lie each in one buffer that is kept.
@@ -106,7 +103,7 @@ fn say_all<A: Allocator + Copy>(parcels: &[Parcel<A>], out: &mut Vec<u8, A>) -> 
 
 /// Writes the datagram of an NPDU to one station.
 fn say<A: Allocator + Copy>(npdu: &[u8], out: &mut Vec<u8, A>) -> Result<u64, Fault> {
-    if npdu.len() > LONGEST_NPDU {
+    if npdu.len() > usize::from(LinkKind::BacnetIp.max_npdu()) {
         return Ok(0);
     }
     out.clear();

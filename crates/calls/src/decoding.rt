@@ -1,8 +1,9 @@
 //! Decoding a datagram, down to its request.
 
+use apdu::Apdu;
 use bvll::Bvll;
 use npdu::View;
-use services::{Apdu, decode_request};
+use services::decode_request;
 use std::alloc::Allocator;
 
 /// Where the invoke ID of a datagram lies whose NPDU has neither DNET nor SNET.

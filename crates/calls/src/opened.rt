@@ -1,8 +1,9 @@
 //! The device: number 10 on network 1 at 127.0.0.1:47811, with so many Binary Values.
 
-use device::Device;
+use endpoint::Device;
 use npdu::{Mac, Station};
-use objects::{DataLink, SiteObject, SiteObjects, Table, ValueKind};
+use objects::{SiteObject, SiteObjects, Table, ValueKind};
+use profile::LinkKind;
 use std::alloc::{AllocError, Allocator};
 use tags::{Fault, Items, Value};
 
@@ -35,7 +36,7 @@ fn site<A: Allocator + Copy>(alloc: A, objects: u16) -> Result<SiteObjects<A>, A
         name: Items::from_slice(alloc, b"device")?,
         instance: 10,
         vendor: 0,
-        data_link: DataLink::BacnetIp,
+        data_link: LinkKind::BacnetIp,
         objects: values,
     })
 }

@@ -1,7 +1,8 @@
 //! A table replies to ReadProperty (ANSI/ASHRAE 135, clause 15.5).
 
 use crate::opened::table;
-use objects::{ObjectType, Property, Reply, Request, Table};
+use objects::Table;
+use primitives::{ObjectType, Property, Reply, Request};
 use std::alloc::{AllocError, Allocator};
 use tags::{Fault, ObjectId};
 

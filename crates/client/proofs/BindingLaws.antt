@@ -2,9 +2,9 @@
 use Rattle.std.proofs.Common.{◌≡◌, ◌≢◌, ◌∙◌, refl, sym, ap, subst, ℕ, Bool, true, false, List, [], ◌∷◌, Option, Some, None}
 use Rattle.std.proofs.lemmas.Bool.{eqb-true, eqb-false, eq-eqb, ne_eqb}
 use Rattle.std.specs.Prelude.{cond, if◌then◌else◌, map, option_map}
-use Rattle.client_rules.specs.Binding.{binding_of, is_of, marked, put}
+use Rattle.bindings.specs.Binding.{binding_of, is_of, marked, put_binding}
 use Rattle.client.specs.Laws.{IsOnce, MarkedAlone, MarkedIsOnce, OthersStay, PutIsHeld, PutIsOnce}
-use Rattle.client_rules.specs.declared.binding.Binding.{Binding}
+use Rattle.bindings.specs.declared.binding.Binding.{Binding}
 
 -- what stands first is found, or what is behind it
 first_found : (n : ℕ) (x : Binding) (xs : List Binding) → is_of n x ≡ true → binding_of n (x ∷ xs) ≡ Some x
@@ -14,24 +14,26 @@ later_found : (n : ℕ) (x : Binding) (xs : List Binding) → is_of n x ≡ fals
 later_found n x xs e = ap (λ (c : Bool). cond c (Some x) (binding_of n xs)) e
 
 -- what is put stands in the place of the first, or behind it
-put_first : (b x : Binding) (xs : List Binding) → is_of b.instance x ≡ true → put b (x ∷ xs) ≡ b ∷ xs
-put_first b x xs e = ap (λ (c : Bool). if c then b ∷ xs else x ∷ put b xs) e
+put_first : (b x : Binding) (xs : List Binding) → is_of b.instance x ≡ true → put_binding b (x ∷ xs) ≡ b ∷ xs
+put_first b x xs e = ap (λ (c : Bool). if c then b ∷ xs else x ∷ put_binding b xs) e
 
-put_later : (b x : Binding) (xs : List Binding) → is_of b.instance x ≡ false → put b (x ∷ xs) ≡ x ∷ put b xs
-put_later b x xs e = ap (λ (c : Bool). if c then b ∷ xs else x ∷ put b xs) e
+put_later : (b x : Binding) (xs : List Binding) → is_of b.instance x ≡ false → put_binding b (x ∷ xs) ≡ x ∷ put_binding b xs
+put_later b x xs e = ap (λ (c : Bool). if c then b ∷ xs else x ∷ put_binding b xs) e
 
 its_own : (b : Binding) → is_of b.instance b ≡ true
 its_own b = eq-eqb b.instance b.instance refl
 
-held_by : (c : Bool) (b x : Binding) (xs : List Binding) → is_of b.instance x ≡ c → binding_of b.instance (put b xs) ≡ Some b → binding_of b.instance (put b (x ∷ xs)) ≡ Some b
+held_by : (c : Bool) (b x : Binding) (xs : List Binding) → is_of b.instance x ≡ c → binding_of b.instance (put_binding b xs) ≡ Some b →
+    binding_of b.instance (put_binding b (x ∷ xs)) ≡ Some b
 held_by true b x xs e ih = ap (binding_of b.instance) (put_first b x xs e) ∙ first_found b.instance b xs (its_own b)
-held_by false b x xs e ih = ap (binding_of b.instance) (put_later b x xs e) ∙ later_found b.instance x (put b xs) e ∙ ih
+held_by false b x xs e ih = ap (binding_of b.instance) (put_later b x xs e) ∙ later_found b.instance x (put_binding b xs) e ∙ ih
 
 pub put_is_held : PutIsHeld
 put_is_held b [] = first_found b.instance b [] (its_own b)
 put_is_held b (x ∷ xs) = held_by (is_of b.instance x) b x xs refl (put_is_held b xs)
 
-others_by : (c : Bool) (b x : Binding) (xs : List Binding) (n : ℕ) → n ≢ b.instance → is_of b.instance x ≡ c → binding_of n (put b xs) ≡ binding_of n xs → binding_of n (put b (x ∷ xs)) ≡ binding_of n (x ∷ xs)
+others_by : (c : Bool) (b x : Binding) (xs : List Binding) (n : ℕ) → n ≢ b.instance → is_of b.instance x ≡ c →
+    binding_of n (put_binding b xs) ≡ binding_of n xs → binding_of n (put_binding b (x ∷ xs)) ≡ binding_of n (x ∷ xs)
 others_by true b x xs n other e ih =
     let is : x.instance ≡ b.instance = eqb-true x.instance b.instance e in
     ap (binding_of n) (put_first b x xs e)
@@ -44,7 +46,8 @@ pub others_stay : OthersStay
 others_stay b [] n other = later_found n b [] (ne_eqb b.instance n (λ f. other (sym f)))
 others_stay b (x ∷ xs) n other = others_by (is_of b.instance x) b x xs n other refl (others_stay b xs n other)
 
-marked_by_test : (c : Bool) (net : ℕ) (x : Binding) (o r : Option Binding) → r ≡ option_map (marked net) o → cond c (Some (marked net x)) r ≡ option_map (marked net) (cond c (Some x) o)
+marked_by_test : (c : Bool) (net : ℕ) (x : Binding) (o r : Option Binding) → r ≡ option_map (marked net) o →
+    cond c (Some (marked net x)) r ≡ option_map (marked net) (cond c (Some x) o)
 marked_by_test true net x o r ih = refl
 marked_by_test false net x o r ih = ih
 
@@ -52,7 +55,8 @@ pub marked_alone : MarkedAlone
 marked_alone net [] n = refl
 marked_alone net (x ∷ xs) n = marked_by_test (is_of n x) net x (binding_of n xs) (binding_of n (map (marked net) xs)) (marked_alone net xs n)
 
-once_by : (c : Bool) (b x : Binding) (xs : List Binding) → is_of b.instance x ≡ c → binding_of x.instance xs ≡ None → IsOnce xs → IsOnce (put b xs) → IsOnce (put b (x ∷ xs))
+once_by : (c : Bool) (b x : Binding) (xs : List Binding) → is_of b.instance x ≡ c → binding_of x.instance xs ≡ None → IsOnce xs → IsOnce (put_binding b xs) →
+    IsOnce (put_binding b (x ∷ xs))
 once_by true b x xs e none rest ih =
     let is : x.instance ≡ b.instance = eqb-true x.instance b.instance e in
     subst IsOnce (sym (put_first b x xs e)) (ap (λ (n : ℕ). binding_of n xs) (sym is) ∙ none, rest)

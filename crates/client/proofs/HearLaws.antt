@@ -6,16 +6,16 @@ use Rattle.apdu.specs.declared.apdu.Apdu.{Apdu}
 use Rattle.apdu.specs.declared.unconfirmed.IAm.{IAm}
 use Rattle.client_tsm.specs.Client.{committed}
 use Rattle.client_tsm.specs.Hearing.{heard_of}
-use Rattle.client_tsm.specs.Steps.{IsPlan, effects_of}
-use Rattle.client_tsm.specs.declared.plan.Plan.{Plan}
+use Rattle.client_tsm.specs.Steps.{IsPlan, told_of_plan}
+use Rattle.client_tsm.specs.declared.plan.ClientPlan.{ClientPlan}
 use Rattle.npdu.specs.declared.mac.Station.{Station}
 use Rattle.npdu.specs.declared.mac.Way.{Way}
-use Rattle.client_rules.specs.Binding.{has_place, introduced, put}
+use Rattle.bindings.specs.Binding.{has_place, introduced, put_binding}
 use Rattle.client.specs.Client.{ClientState}
 use Rattle.client.specs.Hearing.{IsIAm, IsNoIAm, Learnt, Transacts, silence}
 use Rattle.client.specs.Saying.{told_of}
 use Rattle.unitdata.proofs.HearLaws.{something}
-use Rattle.client.specs.declared.client.Told.{Told}
+use Rattle.client.specs.declared.client.ClientTold.{ClientTold}
 
 pub other_service : (service : ℕ) (octets : List ℕ) → service ≢ 0 → IsNoIAm service octets
 other_service service octets other = record { none = λ i is. other is.i_am }
@@ -25,15 +25,18 @@ no_i_am service octets lacks = record { none = λ i is. lacks.none i is.spelled 
 
 pub ruleset i_am_rules = (other_service, no_i_am)
 
-pub bound : {A : Type 0} (station : Station) (way : Way) (service : ℕ) (octets : List ℕ) (i : IAm) (old new : ClientState A) (told : Told A) → IsIAm service octets i → has_place i.instance old.bindings ≡ true → told ≡ silence → new ≡ record old { bindings = put (introduced station way i) old.bindings } → Learnt station way service octets old told new
+pub bound : {A : Type 0} (station : Station) (way : Way) (service : ℕ) (octets : List ℕ) (i : IAm) (old new : ClientState A) (told : ClientTold A) →
+    IsIAm service octets i → has_place i.instance old.bindings ≡ true → told ≡ silence →
+    new ≡ record old { bindings = put_binding (introduced station way i) old.bindings } → Learnt station way service octets old told new
 bound station way service octets i old new told is place silent left =
     record {
-      bindings = put (introduced station way i) old.bindings;
+      bindings = put_binding (introduced station way i) old.bindings;
       learns = inl (record { i_am = i; is = is; place = place; bound = refl });
       holds = record { silent = silent; left = left };
     }
 
-pub ignored : {A : Type 0} (station : Station) (way : Way) (service : ℕ) (octets : List ℕ) (old : ClientState A) (told : Told A) → IsNoIAm service octets → told ≡ silence → Learnt station way service octets old told old
+pub ignored : {A : Type 0} (station : Station) (way : Way) (service : ℕ) (octets : List ℕ) (old : ClientState A) (told : ClientTold A) →
+    IsNoIAm service octets → told ≡ silence → Learnt station way service octets old told old
 ignored station way service octets old told other silent =
     record {
       bindings = old.bindings;
@@ -43,15 +46,17 @@ ignored station way service octets old told other silent =
 
 pub ruleset learn_rules = (bound, ignored)
 
-pub transacted : {A : Type 0} (now : ℕ) (from : Station) (a : Apdu) (old new : ClientState A) (plan : Plan A) (told : Told A) → HasNamedNumbers a → IsPlan now from (heard_of a) old.machine plan → told ≡ told_of now old.mac (effects_of plan) → new ≡ record old { machine = committed now plan.change old.machine } → Transacts now from (apdu_of a) old told new
+pub transacted : {A : Type 0} (now : ℕ) (from : Station) (a : Apdu) (old new : ClientState A) (plan : ClientPlan A) (told : ClientTold A) →
+    HasNamedNumbers a → IsPlan now from (heard_of a) old.machine plan → told ≡ told_of now old.mac (told_of_plan plan) →
+    new ≡ record old { machine = committed now plan.change old.machine } → Transacts now from (apdu_of a) old told new
 transacted now from a old new plan told named planned said left =
     record {
       apdu = a;
       named = named;
       is = refl;
-      effects = effects_of plan;
+      tsm_told = told_of_plan plan;
       left = committed now plan.change old.machine;
-      step = record { plan = plan; planned = planned; effects_are = refl; left_is = refl };
+      step = record { plan = plan; planned = planned; told_is = refl; left_is = refl };
       told_is = said;
       new_is = left;
     }

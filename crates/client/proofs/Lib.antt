@@ -1,3 +1,3 @@
-pub mod HearLaws
-pub mod BindingLaws
-pub mod HeardLaws
+mod HearLaws
+mod BindingLaws
+mod HeardLaws

@@ -1,12 +1,12 @@
 -- A client on its network: what it knows (5.4.4, 16.10).
 use Rattle.std.specs.Prelude.{ℕ, Bool, List, []}
 use Rattle.apdu.specs.declared.sizes.MaxApdu.{MaxApdu}
-use Rattle.client_tsm.specs.Accepts.{accepts_of}
+use Rattle.bindings.specs.Accepts.{accepts_of}
 use Rattle.client_tsm.specs.Client.{ClientTsmState}
 use Rattle.client_tsm.specs.Client as tsm
 use Rattle.npdu.specs.declared.mac.Mac.{Mac}
 use Rattle.npdu.specs.declared.mac.Station.{Station}
-use Rattle.client_rules.specs.declared.binding.Binding.{Binding}
+use Rattle.bindings.specs.declared.binding.Binding.{Binding}
 
 -- its client of transactions; the devices that it is bound to, in the order of their first I-Ams; its network and its
 -- address there

@@ -3,15 +3,15 @@ use Rattle.std.specs.Prelude.{◌≡◌, ℕ, Bool, true, false, Option, Some, N
 use Rattle.client_tsm.specs.Client.{ClientTsmState, committed}
 use Rattle.client_tsm.specs.Issuing.{issued}
 use Rattle.client_tsm.specs.Issuing as tsm
-use Rattle.client_rules.specs.declared.bound.Bound.{Bound}
+use Rattle.bindings.specs.declared.bound.Bound.{Bound}
 use Rattle.primitives.specs.declared.plain_data.Request.{Request}
 use Rattle.tags.specs.declared.fault.Fault.{Fault}
 use Rattle.tags.specs.declared.fault.Fault.TheVariants.{Unbound, NoRoute}
-use Rattle.client_rules.specs.Binding.{binding_of}
+use Rattle.bindings.specs.Binding.{binding_of}
 use Rattle.client.specs.Client.{ClientState}
 use Rattle.client.specs.Saying.{parcels_of}
-use Rattle.client_rules.specs.declared.binding.Binding.{Binding}
-use Rattle.client.specs.declared.client.Issued.{Issued}
+use Rattle.bindings.specs.declared.binding.Binding.{Binding}
+use Rattle.client.specs.declared.client.ClientIssued.{ClientIssued}
 
 -- a network that a router refused, before what the client of transactions refuses
 abbrev pub refusal_if : {A : Type 0} → (refused : Bool) → ℕ → Request A → Bound → ClientTsmState A → Option Fault
@@ -28,7 +28,7 @@ abbrev pub refusal : {A : Type 0} → ℕ → (instance : ℕ) → Request A →
 refusal now instance request c = refusal_by (binding_of instance c.bindings) now request c.machine
 
 -- a request is issued as its client of transactions does, to where the device of this instance is bound
-pub record Issues {A : Type 0} (now instance : ℕ) (request : Request A) (old : ClientState A) (told : Issued A)
+pub record Issues {A : Type 0} (now instance : ℕ) (request : Request A) (old : ClientState A) (told : ClientIssued A)
     (new : ClientState A) : Type 0 where
   pub binding : Binding
   pub held : binding_of instance old.bindings ≡ Some binding

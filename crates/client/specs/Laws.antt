@@ -3,17 +3,17 @@ use Rattle.std.specs.Prelude.{◌≡◌, ◌≢◌, ℕ, List, [], ◌∷◌, ma
 use Rattle.apdu.specs.Apdu.{apdu_of, HasNamedNumbers}
 use Rattle.apdu.specs.declared.apdu.Apdu.{Apdu}
 use Rattle.client_tsm.specs.Hearing.{heard_of}
-use Rattle.client_rules.specs.Binding.{binding_of, marked, put}
-use Rattle.client_rules.specs.declared.binding.Binding.{Binding}
+use Rattle.bindings.specs.Binding.{binding_of, marked, put_binding}
+use Rattle.bindings.specs.declared.binding.Binding.{Binding}
 
 -- a binding that is put is that of its instance
 abbrev pub PutIsHeld : Type 0
-PutIsHeld = (b : Binding) (bs : List Binding) → binding_of b.instance (put b bs) ≡ Some b
+PutIsHeld = (b : Binding) (bs : List Binding) → binding_of b.instance (put_binding b bs) ≡ Some b
 
--- .. and those of all other instances are as before
+-- where a binding is put, those of all other instances are as before
 abbrev pub OthersStay : Type 0
 OthersStay = (b : Binding) (bs : List Binding) (instance : ℕ) → instance ≢ b.instance →
-    binding_of instance (put b bs) ≡ binding_of instance bs
+    binding_of instance (put_binding b bs) ≡ binding_of instance bs
 
 -- the binding of an instance after a router refused a network is the one before, marked where it is on that network
 abbrev pub MarkedAlone : Type 0
@@ -25,11 +25,11 @@ abbrev pub IsOnce : List Binding → Type 0
 IsOnce [] = Unit {0}
 IsOnce (b ∷ bs) = (binding_of b.instance bs ≡ None) × IsOnce bs
 
--- .. also after one is put
+-- where no instance has two bindings, none has two after one is put
 abbrev pub PutIsOnce : Type 0
-PutIsOnce = (b : Binding) (bs : List Binding) → IsOnce bs → IsOnce (put b bs)
+PutIsOnce = (b : Binding) (bs : List Binding) → IsOnce bs → IsOnce (put_binding b bs)
 
--- .. or a router refused a network
+-- where no instance has two bindings, none has two after a router refused a network
 abbrev pub MarkedIsOnce : Type 0
 MarkedIsOnce = (net : ℕ) (bs : List Binding) → IsOnce bs → IsOnce (map (marked net) bs)
 

@@ -1,17 +1,17 @@
 //! A client on its network, and its wake.
 
 use crate::saying::parcels_of;
-use client_rules::{Binding, binding_of};
-use client_tsm::{ClientTsm, Plan};
+use apdu::MaxApdu;
+use bindings::{Binding, binding_of};
+use client_tsm::{ClientPlan, ClientTsm};
 use npdu::{Mac, Parcel, Station};
-use services::MaxApdu;
 use std::alloc::{AllocError, Allocator};
 use std::marker::Model;
 use tags::{Fault, Items};
 
 /// What comes of an issue.
 #[derive(Drop)]
-pub struct Issued<A: Allocator> {
+pub struct ClientIssued<A: Allocator> {
     /// The invoke ID that was given.
     pub invoke_id: u8,
     /// What is said, in order.
@@ -20,11 +20,11 @@ pub struct Issued<A: Allocator> {
 
 /// What comes of any other input.
 #[derive(Drop)]
-pub struct Told<A: Allocator> {
+pub struct ClientTold<A: Allocator> {
     /// What is said, in order.
     pub said: Items<Parcel<A>, A>,
     /// What came of transactions, in order.
-    pub outcomes: Items<client_tsm::Told<A>, A>,
+    pub outcomes: Items<client_tsm::TransactionOutcome<A>, A>,
 }
 
 /// A client on its network.
@@ -54,11 +54,12 @@ impl<A: Allocator + Copy> Client<A> {
     ghost use Rattle.std.specs.Prelude.{◌≡◌, ◌<◌, ◌≤◌, ◌^◌, IfOk, IfErr, OnOk, OnErr};
     ghost use Rattle.apdu.specs.Sizes.{apdu_code};
     ghost use Rattle.client_tsm.specs.Client.{committed};
-    ghost use Rattle.client_tsm.specs.Steps.{effects_of};
+    ghost use Rattle.client_tsm.specs.Steps.{told_of_plan};
     ghost use Rattle.client_tsm.specs.Waking.{woken};
-    ghost use Rattle.client_rules.specs.Binding as spec;
+    ghost use Rattle.bindings.specs.Binding as spec;
     ghost use Rattle.client.specs.Client.{new_client};
     ghost use Rattle.client.specs.Saying.{told_of};
+    ghost use Rattle.profile.specs.Times.{MAX_MOMENT_MS};
 
     /// A client at this address that is bound to no device and has asked nothing, whose memory will be that of
     /// `alloc`. It takes answers in segments or not, in APDUs of at most this size, whose code has four bits
@@ -117,11 +118,11 @@ impl<A: Allocator + Copy> Client<A> {
     ///
     /// # Errors
     /// `Memory` alone. The client is then as it was.
-    pub fn on_tick(&mut self, now: u64) -> Result<Told<A>, Fault>
-        requires greatest { now ≤ 2 ^ 62 }
+    pub fn on_tick(&mut self, now: u64) -> Result<ClientTold<A>, Fault>
+        requires greatest { now ≤ MAX_MOMENT_MS }
         requires order { self.old.machine.moment ≤ now }
         ensures told { IfOk result (λ told. told ≡
-            told_of now self.old.mac (effects_of (woken now self.old.machine.open_ones))) }
+            told_of now self.old.mac (told_of_plan (woken now self.old.machine.open_ones))) }
         ensures left { OnOk result (self.new ≡ record self.old {
           machine = committed now (woken now self.old.machine.open_ones).change self.old.machine;
         }) }
@@ -134,20 +135,20 @@ impl<A: Allocator + Copy> Client<A> {
 
     /// What was planned at the moment `now`, in milliseconds, is said, told and done. Nothing takes memory once its
     /// client of transactions has changed.
-    pub(crate) fn act(&mut self, plan: Plan<A>, now: u64) -> Result<Told<A>, Fault>
-        requires greatest { now ≤ 2 ^ 62 }
+    pub(crate) fn act(&mut self, plan: ClientPlan<A>, now: u64) -> Result<ClientTold<A>, Fault>
+        requires greatest { now ≤ MAX_MOMENT_MS }
         requires order { self.old.machine.moment ≤ now }
-        ensures told { IfOk result (λ told. told ≡ told_of now self.old.mac (effects_of plan)) }
+        ensures told { IfOk result (λ told. told ≡ told_of now self.old.mac (told_of_plan plan)) }
         ensures left { OnOk result (self.new ≡ record self.old {
           machine = committed now plan.change self.old.machine;
         }) }
         ensures cause { IfErr result (λ fault. fault ≡ Fault.Memory) }
         ensures unchanged { OnErr result (self.new ≡ self.old) }
     {
-        let Plan { said, told, change } = plan;
+        let ClientPlan { said, told, change } = plan;
         let said = parcels_of(self.alloc, self.mac, now, said.as_slice())?;
         self.machine.commit(change, now)?;
-        Ok(Told {
+        Ok(ClientTold {
             said,
             outcomes: told,
         })

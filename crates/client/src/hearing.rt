@@ -3,19 +3,19 @@
 ghost use Rattle.std.specs.Prelude.{◌≡◌, IfSome, IfNone};
 ghost use Rattle.client.specs.Hearing.{IsIAm, IsNoIAm, silence};
 
-use crate::client::{Client, Told};
-use client_rules::{introduced, mark, put};
+use crate::client::{Client, ClientTold};
+use apdu::{Apdu, IAm, UnconfirmedService, i_am_from};
+use bindings::{introduced, mark_refused, put_binding};
 use npdu::{Parcel, Rejected, Station, Way};
-use services::{Apdu, IAm, UnconfirmedService, i_am_from};
 use std::alloc::Allocator;
 use tags::{Fault, Items};
 use unitdata::{Content, hear};
 
 /// Nothing is said or told.
-fn silence<A: Allocator + Copy>(alloc: A) -> Told<A>
+fn silence<A: Allocator + Copy>(alloc: A) -> ClientTold<A>
     ensures { result ≡ silence }
 {
-    Told {
+    ClientTold {
         said: Items::new(alloc),
         outcomes: Items::new(alloc),
     }
@@ -36,9 +36,10 @@ fn i_am_in(service: u8, octets: &[u8]) -> Option<IAm>
 impl<A: Allocator + Copy> Client<A> {
     ghost use Rattle.std.specs.Prelude.{◌≡◌, ◌≤◌, ◌^◌, ◌⊎◌, true, false, IfOk, IfErr, OnOk, OnErr};
     ghost use Rattle.apdu.specs.Apdu.{HasNamedNumbers, apdu_of};
-    ghost use Rattle.client_rules.specs.Binding.{has_place, introduced, marked_by, put};
+    ghost use Rattle.bindings.specs.Binding.{has_place, introduced, mark_refused, put_binding};
     ghost use Rattle.client.specs.Hearing.{BringsTooMany, ClientHears, Does, IsTooMany, Learnt, Overflows, Transacts};
     ghost use Rattle.unitdata.specs.Hearing.{BringsSomething, says};
+    ghost use Rattle.profile.specs.Times.{MAX_MOMENT_MS};
 
     /// Hears a parcel at the moment `now`, in milliseconds, and answers what is said and told. A parcel that brings
     /// nothing to the client is dropped without memory (5.4.4, 6.4.4, 16.10.3).
@@ -46,8 +47,8 @@ impl<A: Allocator + Copy> Client<A> {
     /// # Errors
     /// `TableFull` for an I-Am for whose device there is no place, or `Memory`. The client is then as it was.
     #[tactic(auto, using(crate::proofs::HearLaws::heard_rules))]
-    pub fn on_parcel(&mut self, parcel: &Parcel<A>, now: u64) -> Result<Told<A>, Fault>
-        requires greatest { now ≤ 2 ^ 62 }
+    pub fn on_parcel(&mut self, parcel: &Parcel<A>, now: u64) -> Result<ClientTold<A>, Fault>
+        requires greatest { now ≤ MAX_MOMENT_MS }
         requires order { self.old.machine.moment ≤ now }
         ensures step { IfOk result (λ told.
             ClientHears now parcel.now.from parcel.now.to parcel.now.npdu self.old told self.new) }
@@ -75,8 +76,8 @@ impl<A: Allocator + Copy> Client<A> {
         way: Way,
         apdu: &Apdu<'_>,
         now: u64,
-    ) -> Result<Told<A>, Fault>
-        requires greatest { now ≤ 2 ^ 62 }
+    ) -> Result<ClientTold<A>, Fault>
+        requires greatest { now ≤ MAX_MOMENT_MS }
         requires order { self.old.machine.moment ≤ now }
         requires named { HasNamedNumbers apdu.now }
         ensures does { IfOk result (λ told.
@@ -87,30 +88,36 @@ impl<A: Allocator + Copy> Client<A> {
     {
         match apdu {
             Apdu::UnconfirmedRequest { service, data } => self.learn(station, way, *service, data),
-            _ => self.transact(station, apdu, now),
+            Apdu::ConfirmedRequest { .. }
+            | Apdu::SimpleAck { .. }
+            | Apdu::ComplexAck { .. }
+            | Apdu::SegmentAck { .. }
+            | Apdu::Error { .. }
+            | Apdu::Reject { .. }
+            | Apdu::Abort { .. } => self.transact(station, apdu, now),
         }
     }
 
     /// A router refused a message.
     fn refuse(&mut self, rejected: Rejected)
         ensures { self.new ≡ record self.old {
-          bindings = marked_by rejected.reason rejected.net self.old.bindings;
+          bindings = mark_refused rejected.reason rejected.net self.old.bindings;
         } }
     {
-        mark(&mut self.bindings, rejected);
+        mark_refused(&mut self.bindings, rejected);
     }
 
     /// A device is bound by its I-Am from this station.
     fn bind(&mut self, station: Station, way: Way, i_am: &IAm) -> Result<(), Fault>
         ensures bound { OnOk result (self.new ≡ record self.old {
-          bindings = put (introduced station way i_am.now) self.old.bindings;
+          bindings = put_binding (introduced station way i_am.now) self.old.bindings;
         }) }
         ensures place { OnOk result (has_place i_am.now.instance self.old.bindings ≡ true) }
         ensures refused { IfErr result (λ fault. (fault ≡ Fault.Memory) ⊎
             ((fault ≡ Fault.TableFull) × (has_place i_am.now.instance self.old.bindings ≡ false))) }
         ensures unchanged { OnErr result (self.new ≡ self.old) }
     {
-        put(&mut self.bindings, introduced(station, way, i_am))?;
+        put_binding(&mut self.bindings, introduced(station, way, i_am))?;
         Ok(())
     }
 
@@ -122,7 +129,7 @@ impl<A: Allocator + Copy> Client<A> {
         way: Way,
         service: u8,
         octets: &[u8],
-    ) -> Result<Told<A>, Fault>
+    ) -> Result<ClientTold<A>, Fault>
         ensures learnt { IfOk result (λ told. Learnt station way service octets.now self.old told self.new) }
         ensures cause { IfErr result (λ fault. (fault ≡ Fault.Memory) ⊎ ((fault ≡ Fault.TableFull) ×
             Overflows service octets.now self.old.bindings)) }
@@ -137,8 +144,13 @@ impl<A: Allocator + Copy> Client<A> {
 
     /// What its client of transactions does on an APDU.
     #[tactic(auto, using(crate::proofs::HearLaws::transact_rules))]
-    fn transact(&mut self, station: Station, apdu: &Apdu<'_>, now: u64) -> Result<Told<A>, Fault>
-        requires greatest { now ≤ 2 ^ 62 }
+    fn transact(
+        &mut self,
+        station: Station,
+        apdu: &Apdu<'_>,
+        now: u64,
+    ) -> Result<ClientTold<A>, Fault>
+        requires greatest { now ≤ MAX_MOMENT_MS }
         requires order { self.old.machine.moment ≤ now }
         requires named { HasNamedNumbers apdu.now }
         ensures transacts { IfOk result (λ told. Transacts now station (apdu_of apdu.now) self.old told self.new) }

@@ -1,11 +1,11 @@
 //! What a client asks.
 
-use crate::client::{Client, Issued};
+use crate::client::{Client, ClientIssued};
 use crate::saying::{parcels_of, who_is_parcel};
-use client_tsm::Plan;
+use apdu::Limits;
+use client_tsm::ClientPlan;
 use npdu::Parcel;
-use objects::Request;
-use services::Limits;
+use primitives::Request;
 use std::alloc::Allocator;
 use tags::Fault;
 
@@ -14,6 +14,7 @@ impl<A: Allocator + Copy> Client<A> {
     ghost use Rattle.primitives.specs.Sound.{IsSoundRequest};
     ghost use Rattle.client.specs.Issuing.{Issues, refusal};
     ghost use Rattle.client.specs.Saying as saying;
+    ghost use Rattle.profile.specs.Times.{MAX_MOMENT_MS};
 
     /// Asks all devices, or those with an instance within limits, who they are: what is said at the moment `now`, in
     /// milliseconds (16.10.1).
@@ -39,9 +40,9 @@ impl<A: Allocator + Copy> Client<A> {
         instance: u32,
         request: &Request<A>,
         now: u64,
-    ) -> Result<Issued<A>, Fault>
+    ) -> Result<ClientIssued<A>, Fault>
         requires sound { IsSoundRequest request.now }
-        requires greatest { now ≤ 2 ^ 62 }
+        requires greatest { now ≤ MAX_MOMENT_MS }
         requires order { self.old.machine.moment ≤ now }
         ensures issued { IfOk result (λ issued. Issues now instance request.now self.old issued self.new) }
         ensures free { OnOk result (refusal now instance request.now self.old ≡ None) }
@@ -55,10 +56,12 @@ impl<A: Allocator + Copy> Client<A> {
         if binding.refused {
             return Err(Fault::NoRoute);
         }
-        let Plan { said, change, .. } = self.machine.plan_issue(request, &binding.bound, now)?;
+        let ClientPlan { said, change, .. } = self
+            .machine
+            .plan_issue(request, &binding.bound, now)?;
         let said = parcels_of(self.alloc, self.mac, now, said.as_slice())?;
         let invoke_id = self.machine.next_invoke_id();
         self.machine.commit(change, now)?;
-        Ok(Issued { invoke_id, said })
+        Ok(ClientIssued { invoke_id, said })
     }
 }

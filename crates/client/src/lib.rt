@@ -15,9 +15,9 @@
 mod client;
 mod hearing;
 mod issuing;
-pub mod laws;
+mod laws;
 mod saying;
 
-pub use client::{Client, Issued, Told};
-pub use client_rules::Binding;
+pub use bindings::Binding;
+pub use client::{Client, ClientIssued, ClientTold};
 pub use laws::{marked_alone, once, one_heard, put_is_held};

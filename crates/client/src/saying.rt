@@ -6,27 +6,27 @@ ghost use Rattle.client.specs.Saying.{npdu_of, parcel_of, parcel_to, parcels_of,
 ghost use Rattle.client_tsm.specs.Said.{said_way};
 ghost use Rattle.unitdata.specs.Saying as header;
 
-use client_tsm::Said;
+use apdu::{Apdu, Limits, PduType, UnconfirmedService, WhoIs, write_who_is};
+use client_tsm::ClientSaid;
 use npdu::{Mac, Parcel, Target};
-use services::{Apdu, Limits, PduType, UnconfirmedService, WhoIs, write_who_is};
 use std::alloc::Allocator;
 use tags::{Fault, Items, Octets};
 use unitdata::{begin, begin_global, is_spelled};
 
 /// Whether the sender of this waits for a reply to it.
-fn expects_reply<A: Allocator>(said: &Said<A>) -> bool
+fn expects_reply<A: Allocator>(said: &ClientSaid<A>) -> bool
     ensures { result ≡ spec.expects_reply said.now }
 {
     match said {
-        Said::Request { segment, .. } => {
-            station_rules::expects_reply(PduType::ConfirmedRequest, segment.is_some())
+        ClientSaid::Request { segment, .. } => {
+            unitdata::expects_reply(PduType::ConfirmedRequest, segment.is_some())
         }
-        Said::SegmentAck { .. } => station_rules::expects_reply(PduType::SegmentAck, false),
+        ClientSaid::SegmentAck { .. } => unitdata::expects_reply(PduType::SegmentAck, false),
     }
 }
 
 /// The octets of the NPDU of what is said, written into one buffer.
-fn npdu_of<A: Allocator + Copy>(alloc: A, said: &Said<A>) -> Result<Octets<A>, Fault>
+fn npdu_of<A: Allocator + Copy>(alloc: A, said: &ClientSaid<A>) -> Result<Octets<A>, Fault>
     requires { header.is_spelled (said_way said.now).destination ≡ true }
     ensures npdu { IfOk result (λ octets. octets ≡ npdu_of said.now) }
     ensures memory { IfErr result (λ fault. fault ≡ Fault.Memory) }
@@ -41,7 +41,7 @@ fn parcel_to<A: Allocator + Copy>(
     alloc: A,
     mac: Mac,
     now: u64,
-    said: &Said<A>,
+    said: &ClientSaid<A>,
 ) -> Result<Parcel<A>, Fault>
     requires { header.is_spelled (said_way said.now).destination ≡ true }
     ensures parcel { IfOk result (λ parcel. parcel ≡ parcel_to now mac said.now) }
@@ -60,7 +60,7 @@ fn say<A: Allocator + Copy>(
     alloc: A,
     mac: Mac,
     now: u64,
-    said: &Said<A>,
+    said: &ClientSaid<A>,
     parcels: &mut Items<Parcel<A>, A>,
 ) -> Result<(), Fault>
     ensures parcel { OnOk result (parcels.new ≡ parcels.old ++ parcel_of now mac said.now) }
@@ -79,7 +79,7 @@ pub(crate) fn parcels_of<A: Allocator + Copy>(
     alloc: A,
     mac: Mac,
     now: u64,
-    says: &[Said<A>],
+    says: &[ClientSaid<A>],
 ) -> Result<Items<Parcel<A>, A>, Fault>
     ensures parcels { IfOk result (λ parcels. parcels ≡ parcels_of now mac says.now) }
     ensures memory { IfErr result (λ fault. fault ≡ Fault.Memory) }

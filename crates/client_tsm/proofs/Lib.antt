@@ -1,6 +1,6 @@
-pub mod Names
-pub mod Meaning
-pub mod Wakes
+mod Names
+mod Meaning
+mod Wakes
 pub mod Telling
-pub mod Ending
-pub mod Places
+mod Ending
+mod Places

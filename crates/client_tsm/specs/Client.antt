@@ -1,14 +1,15 @@
 -- The client of transactions: what it knows, and what changes of it (5.4.1, 5.4.4).
-use Rattle.std.specs.Prelude.{ℕ, ◌+◌, ◌%◌, ◌==◌, ◌&&◌, nat_le, not, option_map, Bool, List, [], ◌∷◌, ◌++◌, remove, replicate, Option, Some, None, slice_get, slice_index, slice_set}
+use Rattle.std.specs.Prelude.{ℕ, ◌+◌, ◌%◌, ◌==◌, ◌&&◌, not, option_map, Bool, List, [], ◌∷◌, ◌++◌, remove, replicate, Option, Some, None, slice_get, slice_index, slice_set}
 use Rattle.std.specs.List.{list_any}
-use Rattle.segments.specs.Cutting.{Cutting}
-use Rattle.segments.specs.Numbers.{REUSE_MS}
-use Rattle.client_tsm.specs.Accepts.{PlainAccepts}
+use Rattle.segments.specs.Sender.{SenderState}
+use Rattle.profile.specs.Ages as age
+use Rattle.profile.specs.Times.{REUSE_MS}
+use Rattle.bindings.specs.Accepts.{PlainAccepts}
 use Rattle.client_tsm.specs.Open.{Open}
 use Rattle.client_tsm.specs.Waking.{all_left}
 use Rattle.client_tsm.specs.declared.gathering.Gathering.{Gathering}
-use Rattle.client_tsm.specs.declared.plan.Change.{Change}
-use Rattle.client_tsm.specs.declared.plan.Change.TheVariants.{Stays, Opens, Sends, Gathers, Renews, Ends, Wakes}
+use Rattle.client_tsm.specs.declared.plan.ClientChange.{ClientChange}
+use Rattle.client_tsm.specs.declared.plan.ClientChange.TheVariants.{Stays, Opens, Sends, Gathers, Renews, Ends, Wakes}
 
 -- accepts: what it takes of an answer; next: the next invoke ID; free_from: for each invoke ID the moment from which it
 -- may be given again; open_ones: the transactions that have no end, in order of issue; moment: that of the last change
@@ -34,7 +35,7 @@ is_open id os = list_any (λ o. o.invoke_id == id) os
 
 -- the next invoke ID may be given: it was last given long enough ago, and no transaction has it (5.4.1)
 abbrev pub may_issue : {A : Type 0} → ℕ → ClientTsmState A → Bool
-may_issue now st = nat_le (slice_index st.free_from st.next) now && not (is_open st.next st.open_ones)
+may_issue now st = age.is_free (slice_index st.free_from st.next) now && not (is_open st.next st.open_ones)
 
 -- the transactions with one more, under the next invoke ID; IDs are given 0, 1, .. 255, 0, .. in turn (5.4.1)
 abbrev pub opens : {A : Type 0} → ℕ → Open A → ClientTsmState A → ClientTsmState A
@@ -47,7 +48,7 @@ opens now o st =
     }
 
 -- more of the request came, and this goes on sending it (5.4.4.2)
-abbrev pub sends_on : {A : Type 0} → ℕ → Option Cutting → Open A → Open A
+abbrev pub sends_on : {A : Type 0} → ℕ → Option SenderState → Open A → Open A
 sends_on now sending o = record o { sent = now; sending = sending }
 
 -- a segment of the answer came: the request came whole (5.4.4.4)
@@ -76,7 +77,7 @@ abbrev pub with_open : {A : Type 0} → ℕ → List (Open A) → ClientTsmState
 with_open now os st = record st { open_ones = os; moment = now }
 
 -- what a change leaves
-abbrev pub committed : {A : Type 0} → ℕ → Change A → ClientTsmState A → ClientTsmState A
+abbrev pub committed : {A : Type 0} → ℕ → ClientChange A → ClientTsmState A → ClientTsmState A
 committed now Stays st = with_open now st.open_ones st
 committed now (Opens o) st = opens now o st
 committed now (Sends place sending) st = with_open now (changed_at place (sends_on now sending) st.open_ones) st

@@ -6,8 +6,8 @@ use Rattle.apdu.specs.declared.apdu.Apdu.TheVariants as apdu
 use Rattle.apdu.specs.declared.apdu.Segment.{Segment}
 use Rattle.npdu.specs.declared.mac.Station.{Station}
 use Rattle.primitives.specs.declared.plain_data.Reply.{Reply}
-use Rattle.segments.specs.Cutting.{Cutting, Turned, hears}
-use Rattle.segments.specs.Joining.{Joined, Joining, granted_window, joins, nothing_joined}
+use Rattle.segments.specs.Sender.{SenderState, Turned, hears}
+use Rattle.segments.specs.Receiver.{Joined, ReceiverState, granted_window, joins, nothing_joined}
 use Rattle.segments.specs.declared.step.Step.{Step}
 use Rattle.segments.specs.declared.step.Step.TheVariants.{Taken, Nak, Dropped, Full}
 use Rattle.segments.specs.declared.step.Turn.{Turn}
@@ -18,13 +18,13 @@ use Rattle.client_tsm.specs.Asking.{asked_by}
 use Rattle.client_tsm.specs.Client.{ClientTsmState}
 use Rattle.client_tsm.specs.Open.{Open, takes}
 use Rattle.client_tsm.specs.declared.gathering.Gathering.{Gathering}
-use Rattle.client_tsm.specs.declared.plan.Change.{Change}
-use Rattle.client_tsm.specs.declared.plan.Change.TheVariants.{Stays, Sends, Gathers, Renews, Ends}
+use Rattle.client_tsm.specs.declared.plan.ClientChange.{ClientChange}
+use Rattle.client_tsm.specs.declared.plan.ClientChange.TheVariants.{Stays, Sends, Gathers, Renews, Ends}
 use Rattle.client_tsm.specs.declared.plan.Outcome.{Outcome}
 use Rattle.client_tsm.specs.declared.plan.Outcome.TheVariants.{Answered, Aborted, Rejected, TimedOut}
-use Rattle.client_tsm.specs.declared.plan.Plan.{Plan}
-use Rattle.client_tsm.specs.declared.said.Said.{Said}
-use Rattle.client_tsm.specs.declared.said.Said.TheVariants as said
+use Rattle.client_tsm.specs.declared.plan.ClientPlan.{ClientPlan}
+use Rattle.client_tsm.specs.declared.said.ClientSaid.{ClientSaid}
+use Rattle.client_tsm.specs.declared.said.ClientSaid.TheVariants as said
 
 -- what an APDU says to a client: an answer whole, or a segment of one, to a request of a service; that segments of the
 -- request came; that the transaction ended so; or nothing (20.1)
@@ -78,11 +78,11 @@ abbrev pub heard_of : {A : Type 0} → Apdu → Heard A
 heard_of a = record { invoke_id = invoke_id_of a; message = message_of a }
 
 -- nothing is said or told, and this changes
-abbrev pub quiet : {A : Type 0} → Change A → Plan A
+abbrev pub quiet : {A : Type 0} → ClientChange A → ClientPlan A
 quiet change = record { said = []; told = []; change = change }
 
 -- the transaction at this place ends so
-abbrev pub closing : {A : Type 0} → List (Said A) → ℕ → Open A → Outcome A → Plan A
+abbrev pub closing : {A : Type 0} → List (ClientSaid A) → ℕ → Open A → Outcome A → ClientPlan A
 closing says place o outcome =
     record { said = says; told = record { invoke_id = o.invoke_id; outcome = outcome } ∷ []; change = Ends place }
 
@@ -92,40 +92,40 @@ pub record Whole (A : Type 0) : Type 0 where
   pub place : ℕ
   pub transaction : Open A
   pub contents : PlainAnswer
-  pub says : List (Said A)
-  pub otherwise : Change A
+  pub says : List (ClientSaid A)
+  pub otherwise : ClientChange A
 
 -- what an input comes to before any service data are read
 pub data Reached (A : Type 0) : Type 0 where
-  plans : Plan A → Reached A
+  plans : ClientPlan A → Reached A
   completes : Whole A → Reached A
 
 -- a SegmentACK of the answer (20.1.6)
-abbrev pub ack_said : {A : Type 0} → (negative : Bool) → ℕ → Joining → Open A → Said A
+abbrev pub ack_said : {A : Type 0} → (negative : Bool) → ℕ → ReceiverState → Open A → ClientSaid A
 ack_said negative number j o = said.SegmentAck o.way negative o.invoke_id number j.window
 
 -- a SegmentACK, where one is due (5.4.4.4)
-abbrev pub ack_if : {A : Type 0} → Option ℕ → Joining → Open A → List (Said A)
+abbrev pub ack_if : {A : Type 0} → Option ℕ → ReceiverState → Open A → List (ClientSaid A)
 ack_if None j o = []
 ack_if (Some number) j o = ack_said false number j o ∷ []
 
--- what joins the segments of the answer, where this window is proposed
-abbrev pub receiver_of : {A : Type 0} → Option (Gathering A) → ℕ → Joining
+-- what gathers the segments of the answer, where this window is proposed
+abbrev pub receiver_of : {A : Type 0} → Option (Gathering A) → ℕ → ReceiverState
 receiver_of None window = nothing_joined (granted_window window)
 receiver_of (Some g) window = g.receiver
 
 -- a segment that isn't taken renews the gathering, where there is one
-abbrev pub renewed_if : {A : Type 0} → Option (Gathering A) → ℕ → Change A
+abbrev pub renewed_if : {A : Type 0} → Option (Gathering A) → ℕ → ClientChange A
 renewed_if None place = Stays
 renewed_if (Some g) place = Renews place
 
 -- the answer came so far, and this is said (5.4.4.4)
-abbrev pub gathered : {A : Type 0} → ℕ → List (Said A) → ℕ → Joining → Plan A
+abbrev pub gathered : {A : Type 0} → ℕ → List (ClientSaid A) → ℕ → ReceiverState → ClientPlan A
 gathered now says place j =
     record { said = says; told = []; change = Gathers place (record { receiver = j; at = now }) }
 
 -- a segment was taken: more follow, or the answer is whole (5.4.4.4)
-abbrev pub taken_if : {A : Type 0} → (more : Bool) → ℕ → List (Said A) → ℕ → Open A → Joining → Reached A
+abbrev pub taken_if : {A : Type 0} → (more : Bool) → ℕ → List (ClientSaid A) → ℕ → Open A → ReceiverState → Reached A
 taken_if true now says place o j = plans (gathered now says place j)
 taken_if false now says place o j =
     completes (record {
@@ -136,34 +136,35 @@ taken_if false now says place o j =
       otherwise = Renews place;
     })
 
--- .. by what the receiver does with it; one that would pass a limit ends the transaction (5.4.4.4)
-abbrev pub joined_by : {A : Type 0} → Step → (more : Bool) → ℕ → ℕ → Open A → Joining → Reached A
-joined_by (Taken ack) more now place o j = taken_if more now (ack_if ack j o) place o j
-joined_by (Nak number) more now place o j = plans (gathered now (ack_said true number j o ∷ []) place j)
-joined_by Dropped more now place o j = plans (quiet (renewed_if o.gathering place))
-joined_by Full more now place o j = plans (closing [] place o TimedOut)
+-- a segment of the answer, by what the receiver does with it; one that would pass a limit ends the transaction
+-- (5.4.4.4)
+abbrev pub gathered_by : {A : Type 0} → Step → (more : Bool) → ℕ → ℕ → Open A → ReceiverState → Reached A
+gathered_by (Taken ack) more now place o j = taken_if more now (ack_if ack j o) place o j
+gathered_by (Nak number) more now place o j = plans (gathered now (ack_said true number j o ∷ []) place j)
+gathered_by Dropped more now place o j = plans (quiet (renewed_if o.gathering place))
+gathered_by Full more now place o j = plans (closing [] place o TimedOut)
 
--- what joins the segments of the answer, after this one, and what it does
-abbrev pub joined_at : {A : Type 0} → ℕ → Open A → Segment → List ℕ → Joined
-joined_at now o s octets = joins now s.sequence_number s.more_follows octets (receiver_of o.gathering s.window)
+-- what gathers the segments of the answer, after this one, and what it does
+abbrev pub gathered_at : {A : Type 0} → ℕ → Open A → Segment → List ℕ → Joined
+gathered_at now o s octets = joins now s.sequence_number s.more_follows octets (receiver_of o.gathering s.window)
 
 -- a segment of the answer (5.4.4.4)
 abbrev pub part_heard : {A : Type 0} → ℕ → ℕ → Open A → Segment → List ℕ → Reached A
 part_heard now place o s octets =
-    joined_by (joined_at now o s octets).step s.more_follows now place o (joined_at now o s octets).state
+    gathered_by (gathered_at now o s octets).step s.more_follows now place o (gathered_at now o s octets).state
 
 -- a SegmentACK of the request, by what the sender does on it (5.4.4.2)
-abbrev pub turned_by : {A : Type 0} → Turn → ℕ → Open A → Cutting → Plan A
+abbrev pub turned_by : {A : Type 0} → Turn → ℕ → Open A → SenderState → ClientPlan A
 turned_by turn.Waits place o c = quiet Stays
 turned_by turn.Sends place o c = record { said = asked_by (Some c) o; told = []; change = Sends place (Some c) }
 turned_by turn.Ends place o c = quiet (Sends place None)
 
--- .. with what it leaves of the sender
-abbrev pub turned : {A : Type 0} → Turned → ℕ → Open A → Plan A
+-- a SegmentACK of the request, by what the sender does on it and is then (5.4.4.2)
+abbrev pub turned : {A : Type 0} → Turned → ℕ → Open A → ClientPlan A
 turned t place o = turned_by t.turn place o t.state
 
 -- a SegmentACK of the request: the next window is said, or all has come (5.4.4.2)
-abbrev pub ack_heard : {A : Type 0} → Option Cutting → ℕ → ℕ → Open A → Bool → ℕ → ℕ → Plan A
+abbrev pub ack_heard : {A : Type 0} → Option SenderState → ℕ → ℕ → Open A → Bool → ℕ → ℕ → ClientPlan A
 ack_heard None now place o negative number window = quiet Stays
 ack_heard (Some c) now place o negative number window = turned (hears now number window negative c) place o
 
@@ -198,12 +199,12 @@ of_service false reached = plans (quiet Stays)
 abbrev pub told_open : {A : Type 0} → ℕ → ℕ → Open A → Message A → Reached A
 told_open now place o message = of_service (is_asked message o) (asked_told now place o message)
 
--- .. where there is one
+-- what a message comes to for the transaction at this place, if there is one
 abbrev pub told_at : {A : Type 0} → Option (Open A) → ℕ → ℕ → Message A → Reached A
 told_at None now place message = plans (quiet Stays)
 told_at (Some o) now place message = told_open now place o message
 
--- .. where a place was found
+-- what a message comes to for these transactions, where a place among them was found or not
 abbrev pub told_where : {A : Type 0} → Option ℕ → ℕ → Message A → List (Open A) → Reached A
 told_where None now message os = plans (quiet Stays)
 told_where (Some place) now message os = told_at (slice_get os place) now place message
@@ -217,11 +218,11 @@ abbrev pub reached : {A : Type 0} → ℕ → Station → Heard A → ClientTsmS
 reached now from h st = told_where (place_of now from h.invoke_id st.open_ones) now h.message st.open_ones
 
 -- an answer gives the reply that it means and ends the transaction; one that means none is dropped
-abbrev pub answered_by : {A : Type 0} → Option (Reply A) → Whole A → Plan A
+abbrev pub answered_by : {A : Type 0} → Option (Reply A) → Whole A → ClientPlan A
 answered_by None w = record { said = w.says; told = []; change = w.otherwise }
 answered_by (Some reply) w = closing w.says w.place w.transaction (Answered reply)
 
--- .. and the other half, where this is what a whole answer means
-abbrev pub finished : {A : Type 0} → Reached A → Option (Reply A) → Plan A
+-- the other half of the step: what is planned, where this is what a whole answer means
+abbrev pub finished : {A : Type 0} → Reached A → Option (Reply A) → ClientPlan A
 finished (plans plan) found = plan
 finished (completes w) found = answered_by found w

@@ -4,20 +4,20 @@ use Rattle.std.specs.List.{AllByRecursion, flat_map}
 use Rattle.apdu.specs.declared.apdu.Segment.{Segment}
 use Rattle.npdu.specs.declared.mac.Station.{Station}
 use Rattle.primitives.specs.declared.plain_data.Reply.{Reply}
-use Rattle.segments.specs.Numbers.{DEADLINE_MS}
+use Rattle.profile.specs.Times.{DEADLINE_MS}
 use Rattle.segments.specs.declared.step.Step.TheVariants.{Full, Taken}
 use Rattle.services.specs.Asked.{service_asked}
 use Rattle.services.specs.Contents.{PlainAnswer, complex, MeansReply}
 use Rattle.client_tsm.specs.Client.{ClientTsmState}
-use Rattle.client_tsm.specs.Hearing.{Message, answers, answers_in_part, acknowledges, closes, nothing, Heard, joined_at, place_of, quiet}
+use Rattle.client_tsm.specs.Hearing.{Message, answers, answers_in_part, acknowledges, closes, nothing, Heard, gathered_at, place_of, quiet}
 use Rattle.client_tsm.specs.Open.{Open, goes_on}
 use Rattle.client_tsm.specs.Steps.{IsPlan}
 use Rattle.client_tsm.specs.Waking.{left_of, told_of}
-use Rattle.client_tsm.specs.declared.plan.Change.TheVariants.{Stays, Ends}
+use Rattle.client_tsm.specs.declared.plan.ClientChange.TheVariants.{Stays, Ends}
 use Rattle.client_tsm.specs.declared.plan.Outcome.{Outcome}
 use Rattle.client_tsm.specs.declared.plan.Outcome.TheVariants.{Answered, TimedOut}
-use Rattle.client_tsm.specs.declared.plan.Plan.{Plan}
-use Rattle.client_tsm.specs.declared.plan.Told.{Told}
+use Rattle.client_tsm.specs.declared.plan.ClientPlan.{ClientPlan}
+use Rattle.client_tsm.specs.declared.plan.TransactionOutcome.{TransactionOutcome}
 
 -- where a message has a service, it is that of the request (20.1.4, 20.1.5, 20.1.7)
 abbrev pub HasService : {A : Type 0} → Message A → Open A → Type 0
@@ -44,13 +44,13 @@ abbrev pub IsOutcome : {A : Type 0} → ℕ → Message A → Open A → Outcome
 IsOutcome now (answers service contents) o (Answered reply) = MeansReply o.request contents reply
 IsOutcome now (answers_in_part service segment octets) o (Answered reply) =
     (segment.more_follows ≡ false)
-    × MeansReply o.request (complex (joined_at now o segment octets).state.octets) reply
-IsOutcome now (answers_in_part service segment octets) o TimedOut = (joined_at now o segment octets).step ≡ Full
+    × MeansReply o.request (complex (gathered_at now o segment octets).state.octets) reply
+IsOutcome now (answers_in_part service segment octets) o TimedOut = (gathered_at now o segment octets).step ≡ Full
 IsOutcome now (closes said) o outcome = outcome ≡ said
 IsOutcome now message o outcome = ⊥
 
 -- what is told is one outcome, that was heard of a transaction for which it counts, and which ends
-pub record IsTold {A : Type 0} (now : ℕ) (from : Station) (h : Heard A) (st : ClientTsmState A) (plan : Plan A) :
+pub record IsTold {A : Type 0} (now : ℕ) (from : Station) (h : Heard A) (st : ClientTsmState A) (plan : ClientPlan A) :
     Type 0 where
   pub place : ℕ
   pub transaction : Open A
@@ -62,42 +62,43 @@ pub record IsTold {A : Type 0} (now : ℕ) (from : Station) (h : Heard A) (st : 
 
 -- what is heard counts for a transaction, or nothing is said, told or changed
 abbrev pub CountsOrNothing : Type 0 → Type 0
-CountsOrNothing A = (now : ℕ) (from : Station) (h : Heard A) (st : ClientTsmState A) (plan : Plan A) →
+CountsOrNothing A = (now : ℕ) (from : Station) (h : Heard A) (st : ClientTsmState A) (plan : ClientPlan A) →
     IsPlan now from h st plan →
     (plan ≡ quiet Stays) ⊎ ((place : ℕ) × (o : Open A) × IsCounted now from h st place o)
 
 -- nothing is told, or one outcome of an open transaction that takes what is heard, which it closes
 abbrev pub ToldIsOpen : Type 0 → Type 0
-ToldIsOpen A = (now : ℕ) (from : Station) (h : Heard A) (st : ClientTsmState A) (plan : Plan A) →
+ToldIsOpen A = (now : ℕ) (from : Station) (h : Heard A) (st : ClientTsmState A) (plan : ClientPlan A) →
     IsPlan now from h st plan → (plan.told ≡ []) ⊎ IsTold now from h st plan
 
 -- a whole answer that counts, and means a reply, is given: nothing else is told, and the transaction ends
 abbrev pub WholeIsGiven : Type 0 → Type 0
 WholeIsGiven A = (now : ℕ) (from : Station) (id : ℕ) (contents : PlainAnswer) (reply : Reply A)
-    (st : ClientTsmState A) (plan : Plan A) (place : ℕ) (o : Open A) →
+    (st : ClientTsmState A) (plan : ClientPlan A) (place : ℕ) (o : Open A) →
     place_of now from id st.open_ones ≡ Some place → slice_get st.open_ones place ≡ Some o →
     MeansReply o.request contents reply →
     IsPlan now from (record { invoke_id = id; message = answers (service_asked o.request) contents }) st plan →
     (plan.told ≡ record { invoke_id = o.invoke_id; outcome = Answered reply } ∷ []) × (plan.change ≡ Ends place)
 
--- .. so is one whose last segment is taken, by what its segments are together
-abbrev pub JoinedIsGiven : Type 0 → Type 0
-JoinedIsGiven A = (now : ℕ) (from : Station) (id : ℕ) (segment : Segment) (octets : List ℕ) (reply : Reply A)
-    (st : ClientTsmState A) (plan : Plan A) (place : ℕ) (o : Open A) (ack : Option ℕ) →
+-- an answer whose last segment is taken, and means a reply by what its segments are together, is given: nothing else is
+-- told, and the transaction ends
+abbrev pub GatheredIsGiven : Type 0 → Type 0
+GatheredIsGiven A = (now : ℕ) (from : Station) (id : ℕ) (segment : Segment) (octets : List ℕ) (reply : Reply A)
+    (st : ClientTsmState A) (plan : ClientPlan A) (place : ℕ) (o : Open A) (ack : Option ℕ) →
     place_of now from id st.open_ones ≡ Some place → slice_get st.open_ones place ≡ Some o →
-    (joined_at now o segment octets).step ≡ Taken ack → segment.more_follows ≡ false →
-    MeansReply o.request (complex (joined_at now o segment octets).state.octets) reply →
+    (gathered_at now o segment octets).step ≡ Taken ack → segment.more_follows ≡ false →
+    MeansReply o.request (complex (gathered_at now o segment octets).state.octets) reply →
     IsPlan now from (record { invoke_id = id; message = answers_in_part (service_asked o.request) segment octets }) st
     plan →
     (plan.told ≡ record { invoke_id = o.invoke_id; outcome = Answered reply } ∷ []) × (plan.change ≡ Ends place)
 
 -- what is heard is planned in one way
 abbrev pub OnePlan : Type 0 → Type 0
-OnePlan A = (now : ℕ) (from : Station) (h : Heard A) (st : ClientTsmState A) (x y : Plan A) → IsPlan now from h st x →
-    IsPlan now from h st y → x ≡ y
+OnePlan A = (now : ℕ) (from : Station) (h : Heard A) (st : ClientTsmState A) (x y : ClientPlan A) →
+    IsPlan now from h st x → IsPlan now from h st y → x ≡ y
 
 -- what is told at a wake: a transaction that was open, and has its end, is timed out
-pub record IsEnded {A : Type 0} (now : ℕ) (os : List (Open A)) (t : Told A) : Type 0 where
+pub record IsEnded {A : Type 0} (now : ℕ) (os : List (Open A)) (t : TransactionOutcome A) : Type 0 where
   pub place : ℕ
   pub transaction : Open A
   pub there : slice_get os place ≡ Some transaction
@@ -108,6 +109,6 @@ pub record IsEnded {A : Type 0} (now : ℕ) (os : List (Open A)) (t : Told A) : 
 abbrev pub WokenAreEnded : Type 0 → Type 0
 WokenAreEnded A = (now : ℕ) (os : List (Open A)) → AllByRecursion (IsEnded now os) (flat_map (told_of now) os)
 
--- .. and each transaction is told or left, and not both
+-- at a wake each transaction is told or left, and not both
 abbrev pub ToldOrLeft : Type 0 → Type 0
 ToldOrLeft A = (now : ℕ) (o : Open A) → length (told_of now o) + length (left_of now o) ≡ 1

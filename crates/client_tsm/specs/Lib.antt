@@ -1,6 +1,4 @@
-pub mod Accepts
 pub mod Open
-pub mod Limits
 pub mod Said
 pub mod Asking
 pub mod Waking

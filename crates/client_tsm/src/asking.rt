@@ -4,12 +4,13 @@ ghost use Rattle.std.specs.Prelude.{◌≡◌, IfOk};
 ghost use Rattle.primitives.specs.Sound.{IsSoundRequest};
 ghost use Rattle.services.specs.Asked.{request_octets};
 
-use crate::said::Said;
+use crate::said::ClientSaid;
 use crate::transaction::Transaction;
-use objects::Request;
-use segments::numbers::WINDOW;
+use apdu::Segment;
+use primitives::Request;
+use profile::WINDOW_SIZE;
 use segments::{Piece, Sender};
-use services::{Segment, encode_request};
+use services::encode_request;
 use std::alloc::{AllocError, Allocator};
 use tags::{Items, Octets};
 
@@ -40,10 +41,10 @@ impl<A: Allocator + Copy> Transaction<A> {
         alloc: A,
         segment: Option<Segment>,
         octets: &[u8],
-    ) -> Result<Said<A>, AllocError>
+    ) -> Result<ClientSaid<A>, AllocError>
         ensures { IfOk result (λ said. said ≡ request_said segment octets.now self.now) }
     {
-        Ok(Said::Request {
+        Ok(ClientSaid::Request {
             way: self.way,
             accepts: self.accepts,
             segment,
@@ -54,13 +55,13 @@ impl<A: Allocator + Copy> Transaction<A> {
     }
 
     /// A piece of its request, in a segment.
-    fn piece_said(&self, alloc: A, piece: &Piece<'_>) -> Result<Said<A>, AllocError>
+    fn piece_said(&self, alloc: A, piece: &Piece<'_>) -> Result<ClientSaid<A>, AllocError>
         ensures { IfOk result (λ said. said ≡ piece_said self.now (piece_of piece.now)) }
     {
         let segment = Segment {
             more_follows: piece.has_more,
             sequence_number: piece.number,
-            window: WINDOW,
+            window: WINDOW_SIZE,
         };
         self.request_said(alloc, Some(segment), piece.octets)
     }
@@ -70,7 +71,7 @@ impl<A: Allocator + Copy> Transaction<A> {
         &self,
         alloc: A,
         sending: Option<Sender>,
-        said: &mut Items<Said<A>, A>,
+        said: &mut Items<ClientSaid<A>, A>,
     ) -> Result<(), AllocError>
         ensures { OnOk result (said.new ≡ said.old ++ asked_by sending self.now) }
     {

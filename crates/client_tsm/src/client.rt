@@ -1,19 +1,16 @@
 //! The client of transactions: what it knows, and what changes of it (5.4.1, 5.4.4).
 
-ghost use Rattle.std.specs.Prelude.{◌≡◌, ◌<◌, Some, remove};
-ghost use Rattle.apdu.specs.Sizes.{apdu_code};
-ghost use Rattle.client_tsm.specs.Accepts.{accepts_of};
+ghost use Rattle.std.specs.Prelude.{◌≡◌, Some, remove};
 ghost use Rattle.client_tsm.specs.Client.{changed_at, gathers_on, never_given, renews, sends_on};
 
 use crate::gathering::Gathering;
-use crate::plan::Change;
-use crate::said::Accepts;
+use crate::plan::ClientChange;
 use crate::transaction::Transaction;
 use crate::waking::wake_all;
-use client_rules::is_free;
+use apdu::MaxApdu;
+use bindings::{Accepts, accepts_of};
+use profile::{REUSE_MS, is_free};
 use segments::Sender;
-use segments::numbers::REUSE_MS;
-use services::{MaxApdu, MaxSegments};
 use std::alloc::{AllocError, Allocator};
 use std::marker::Model;
 
@@ -48,23 +45,6 @@ impl<A: Allocator> Model for ClientTsm<A> {
       open_ones = c.open_ones.items;
       moment = c.moment;
     } };
-}
-
-/// What a client takes of an answer: 64 segments, or none at all, of APDUs of at most this size.
-fn accepts_of(segmented: bool, max_apdu: MaxApdu) -> Accepts
-    requires { apdu_code max_apdu < 16 }
-    ensures { result ≡ accepts_of segmented max_apdu }
-{
-    let max_segments = if segmented {
-        MaxSegments::SixtyFour
-    } else {
-        MaxSegments::Unspecified
-    };
-    Accepts {
-        segmented,
-        max_segments,
-        max_apdu,
-    }
 }
 
 /// More of the request at this place came, and this goes on sending it.
@@ -115,8 +95,9 @@ fn end_at<A: Allocator>(open_ones: &mut Vec<Transaction<A>, A>, place: usize)
 impl<A: Allocator + Copy> ClientTsm<A> {
     ghost use Rattle.std.specs.Prelude.{◌≡◌, ◌<◌, ◌≤◌, ◌^◌, IfOk, OnOk, OnErr};
     ghost use Rattle.apdu.specs.Sizes.{apdu_code};
-    ghost use Rattle.client_tsm.specs.Accepts.{accepts_of};
+    ghost use Rattle.bindings.specs.Accepts.{accepts_of};
     ghost use Rattle.client_tsm.specs.Client.{committed, is_open, may_issue, new_client, opens};
+    ghost use Rattle.profile.specs.Times.{MAX_MOMENT_MS};
 
     /// A client that has asked nothing, whose memory will be that of `alloc`. It takes answers in segments or
     /// not, in APDUs of at most this size, whose code has four bits (20.1.2.5). It takes no memory.
@@ -193,20 +174,29 @@ impl<A: Allocator + Copy> ClientTsm<A> {
     ///
     /// # Errors
     /// Want of memory, where a transaction is to be opened. The client is then as it was.
-    pub fn commit(&mut self, change: Change<A>, now: u64) -> Result<(), AllocError>
-        requires greatest { now ≤ 2 ^ 62 }
+    pub fn commit(&mut self, change: ClientChange<A>, now: u64) -> Result<(), AllocError>
+        requires greatest { now ≤ MAX_MOMENT_MS }
         requires order { self.old.moment ≤ now }
         ensures done { OnOk result (self.new ≡ committed now change self.old) }
         ensures unchanged { OnErr result (self.new ≡ self.old) }
     {
         match change {
-            Change::Stays => {}
-            Change::Opens(transaction) => self.open(now, transaction)?,
-            Change::Sends(place, sending) => send_on_at(&mut self.open_ones, place, now, sending),
-            Change::Gathers(place, gathering) => gather_at(&mut self.open_ones, place, gathering),
-            Change::Renews(place) => renew_at(&mut self.open_ones, place, now),
-            Change::Ends(place) => end_at(&mut self.open_ones, place),
-            Change::Wakes => wake_all(&mut self.open_ones, now),
+            ClientChange::Stays => {}
+            ClientChange::Opens(transaction) => self.open(now, transaction)?,
+            ClientChange::Sends(place, sending) => send_on_at(
+                &mut self.open_ones,
+                place,
+                now,
+                sending,
+            ),
+            ClientChange::Gathers(place, gathering) => gather_at(
+                &mut self.open_ones,
+                place,
+                gathering,
+            ),
+            ClientChange::Renews(place) => renew_at(&mut self.open_ones, place, now),
+            ClientChange::Ends(place) => end_at(&mut self.open_ones, place),
+            ClientChange::Wakes => wake_all(&mut self.open_ones, now),
         }
         self.moment = now;
         Ok(())
@@ -214,7 +204,7 @@ impl<A: Allocator + Copy> ClientTsm<A> {
 
     /// Opens a transaction under the next invoke ID.
     fn open(&mut self, now: u64, transaction: Transaction<A>) -> Result<(), AllocError>
-        requires greatest { now ≤ 2 ^ 62 }
+        requires greatest { now ≤ MAX_MOMENT_MS }
         ensures opened { OnOk result (self.new ≡ opens now transaction self.old) }
         ensures unchanged { OnErr result (self.new ≡ self.old) }
     {

@@ -8,7 +8,7 @@ use std::alloc::{AllocError, Allocator};
 /// The segments of an answer, so far.
 #[derive(Drop)]
 pub struct Gathering<A: Allocator> {
-    /// What joins them.
+    /// What gathers them.
     pub receiver: Receiver<A>,
     /// The moment at which one of them was heard last, in milliseconds.
     pub at: u64,

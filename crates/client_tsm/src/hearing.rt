@@ -7,13 +7,13 @@ ghost use Rattle.client_tsm.specs.Steps.{IsFinished};
 
 use crate::client::ClientTsm;
 use crate::gathering::Gathering;
-use crate::plan::{Change, Effects, Outcome, Plan, Told};
-use crate::said::Said;
+use crate::plan::{ClientChange, ClientPlan, ClientTsmTold, Outcome, TransactionOutcome};
+use crate::said::ClientSaid;
 use crate::transaction::Transaction;
+use apdu::{Apdu, Segment};
 use npdu::Station;
-use objects::Reply;
 use segments::{Receiver, Sender, Step, Turn, granted_window};
-use services::{Answer, Apdu, Segment, decode_reply};
+use services::{Answer, decode_reply};
 use std::alloc::{AllocError, Allocator};
 use tags::Items;
 
@@ -34,24 +34,17 @@ fn invoke_id_of(apdu: &Apdu<'_>) -> u8
 }
 
 /// Nothing is said or told, and this changes.
-fn quiet<A: Allocator + Copy>(alloc: A, change: Change<A>) -> Plan<A>
+fn quiet<A: Allocator + Copy>(alloc: A, change: ClientChange<A>) -> ClientPlan<A>
     ensures { result ≡ spec.quiet change }
 {
-    Plan {
+    ClientPlan {
         said: Items::new(alloc),
         told: Items::new(alloc),
         change,
     }
 }
 
-/// A whole answer that means a reply ends its transaction with that.
-fn answered_with<A: Allocator>(reply: Reply<A>) -> Outcome<A>
-    ensures { result ≡ Outcome.Answered reply }
-{
-    Outcome::Answered(reply)
-}
-
-/// What joins the segments of an answer, where this window is proposed.
+/// What gathers the segments of an answer, where this window is proposed.
 fn receiver_of<A: Allocator + Copy>(
     alloc: A,
     gathering: &Option<Gathering<A>>,
@@ -76,29 +69,25 @@ struct Taker<'a, A: Allocator> {
 
 impl<A: Allocator + Copy> Taker<'_, A> {
     /// The transaction ends so, and this is said.
-    fn closing(&self, said: Items<Said<A>, A>, outcome: Outcome<A>) -> Result<Plan<A>, AllocError>
+    fn closing(
+        &self,
+        said: Items<ClientSaid<A>, A>,
+        outcome: Outcome<A>,
+    ) -> Result<ClientPlan<A>, AllocError>
         ensures { IfOk result (λ plan. plan ≡
             spec.closing said self.now.place self.now.transaction.now outcome) }
     {
         let transaction = self.transaction;
         let mut told = Items::new(self.alloc);
-        told.push(Told {
+        told.push(TransactionOutcome {
             invoke_id: transaction.invoke_id,
             outcome,
         })?;
-        Ok(Plan {
+        Ok(ClientPlan {
             said,
             told,
-            change: Change::Ends(self.place),
+            change: ClientChange::Ends(self.place),
         })
-    }
-
-    /// The transaction ends so, and nothing is said.
-    fn closed(&self, outcome: Outcome<A>) -> Result<Plan<A>, AllocError>
-        ensures { IfOk result (λ plan. plan ≡
-            spec.closing [] self.now.place self.now.transaction.now outcome) }
-    {
-        self.closing(Items::new(self.alloc), outcome)
     }
 
     /// A whole answer: of its last segment this is said, and where it means no reply this changes.
@@ -106,9 +95,9 @@ impl<A: Allocator + Copy> Taker<'_, A> {
     fn answered(
         &self,
         answer: &Answer<'_>,
-        said: Items<Said<A>, A>,
-        otherwise: Change<A>,
-    ) -> Result<Plan<A>, AllocError>
+        said: Items<ClientSaid<A>, A>,
+        otherwise: ClientChange<A>,
+    ) -> Result<ClientPlan<A>, AllocError>
         ensures { IfOk result (IsFinished (spec.completes (record {
           place = self.now.place;
           transaction = self.now.transaction.now;
@@ -119,30 +108,30 @@ impl<A: Allocator + Copy> Taker<'_, A> {
     {
         let transaction = self.transaction;
         match decode_reply(self.alloc, &transaction.request, answer)? {
-            None => Ok(Plan {
+            None => Ok(ClientPlan {
                 said,
                 told: Items::new(self.alloc),
                 change: otherwise,
             }),
-            Some(reply) => self.closing(said, answered_with(reply)),
+            Some(reply) => self.closing(said, Outcome::Answered(reply)),
         }
     }
 
     /// An answer that came in one APDU.
-    fn whole_heard(&self, answer: &Answer<'_>) -> Result<Plan<A>, AllocError>
+    fn whole_heard(&self, answer: &Answer<'_>) -> Result<ClientPlan<A>, AllocError>
         ensures { IfOk result (IsFinished
             (spec.whole_heard self.now.place self.now.transaction.now (answer_contents answer.now))) }
     {
-        self.answered(answer, Items::new(self.alloc), Change::Stays)
+        self.answered(answer, Items::new(self.alloc), ClientChange::Stays)
     }
 
     /// A SegmentACK of the answer.
-    fn ack_said(&self, negative: bool, sequence_number: u8, receiver: &Receiver<A>) -> Said<A>
+    fn ack_said(&self, negative: bool, sequence_number: u8, receiver: &Receiver<A>) -> ClientSaid<A>
         ensures { result ≡
             spec.ack_said negative sequence_number receiver.now self.now.transaction.now }
     {
         let transaction = self.transaction;
-        Said::SegmentAck {
+        ClientSaid::SegmentAck {
             way: transaction.way,
             negative,
             invoke_id: transaction.invoke_id,
@@ -156,7 +145,7 @@ impl<A: Allocator + Copy> Taker<'_, A> {
         &self,
         number: Option<u8>,
         receiver: &Receiver<A>,
-    ) -> Result<Items<Said<A>, A>, AllocError>
+    ) -> Result<Items<ClientSaid<A>, A>, AllocError>
         ensures { IfOk result (λ said. said ≡
             spec.ack_if number receiver.now self.now.transaction.now) }
     {
@@ -168,40 +157,40 @@ impl<A: Allocator + Copy> Taker<'_, A> {
     }
 
     /// A segment that isn't taken renews what is gathered, where something is.
-    fn renewed_if(&self) -> Change<A>
+    fn renewed_if(&self) -> ClientChange<A>
         ensures { result ≡ spec.renewed_if self.now.transaction.now.gathering self.now.place }
     {
         let transaction = self.transaction;
         if transaction.gathering.is_some() {
-            Change::Renews(self.place)
+            ClientChange::Renews(self.place)
         } else {
-            Change::Stays
+            ClientChange::Stays
         }
     }
 
     /// The answer came so far, and this is said.
-    fn gathered(&self, said: Items<Said<A>, A>, receiver: Receiver<A>) -> Plan<A>
+    fn gathered(&self, said: Items<ClientSaid<A>, A>, receiver: Receiver<A>) -> ClientPlan<A>
         ensures { result ≡ spec.gathered self.now.moment said self.now.place receiver }
     {
         let gathering = Gathering {
             receiver,
             at: self.moment,
         };
-        Plan {
+        ClientPlan {
             said,
             told: Items::new(self.alloc),
-            change: Change::Gathers(self.place, gathering),
+            change: ClientChange::Gathers(self.place, gathering),
         }
     }
 
     /// What comes of a segment of the answer.
-    fn joined_by(
+    fn gathered_by(
         &self,
         step: Step,
         more: bool,
         receiver: Receiver<A>,
-    ) -> Result<Plan<A>, AllocError>
-        ensures { IfOk result (IsFinished (spec.joined_by step more self.now.moment self.now.place
+    ) -> Result<ClientPlan<A>, AllocError>
+        ensures { IfOk result (IsFinished (spec.gathered_by step more self.now.moment self.now.place
             self.now.transaction.now receiver)) }
     {
         match step {
@@ -211,7 +200,7 @@ impl<A: Allocator + Copy> Taker<'_, A> {
                     return Ok(self.gathered(said, receiver));
                 }
                 let answer = Answer::Complex(receiver.octets());
-                self.answered(&answer, said, Change::Renews(self.place))
+                self.answered(&answer, said, ClientChange::Renews(self.place))
             }
             Step::Nak(number) => {
                 let mut said = Items::new(self.alloc);
@@ -219,12 +208,12 @@ impl<A: Allocator + Copy> Taker<'_, A> {
                 Ok(self.gathered(said, receiver))
             }
             Step::Dropped => Ok(quiet(self.alloc, self.renewed_if())),
-            Step::Full => self.closed(Outcome::TimedOut),
+            Step::Full => self.closing(Items::new(self.alloc), Outcome::TimedOut),
         }
     }
 
     /// A segment of the answer.
-    fn part_heard(&self, segment: &Segment, octets: &[u8]) -> Result<Plan<A>, AllocError>
+    fn part_heard(&self, segment: &Segment, octets: &[u8]) -> Result<ClientPlan<A>, AllocError>
         ensures { IfOk result (IsFinished (spec.part_heard self.now.moment self.now.place
             self.now.transaction.now segment.now octets.now)) }
     {
@@ -236,37 +225,37 @@ impl<A: Allocator + Copy> Taker<'_, A> {
         let transaction = self.transaction;
         let mut receiver = receiver_of(self.alloc, &transaction.gathering, window)?;
         let step = receiver.on_segment(sequence_number, more_follows, octets, self.moment)?;
-        self.joined_by(step, more_follows, receiver)
+        self.gathered_by(step, more_follows, receiver)
     }
 
     /// What comes of a SegmentACK of the request.
-    fn turned_by(&self, turn: Turn, sender: Sender) -> Result<Plan<A>, AllocError>
+    fn turned_by(&self, turn: Turn, sender: Sender) -> Result<ClientPlan<A>, AllocError>
         ensures { IfOk result (λ plan. plan ≡
             spec.turned_by turn self.now.place self.now.transaction.now sender) }
     {
         match turn {
-            Turn::Waits => Ok(quiet(self.alloc, Change::Stays)),
+            Turn::Waits => Ok(quiet(self.alloc, ClientChange::Stays)),
             Turn::Sends => {
                 let mut said = Items::new(self.alloc);
                 self.transaction.ask(self.alloc, Some(sender), &mut said)?;
-                Ok(Plan {
+                Ok(ClientPlan {
                     said,
                     told: Items::new(self.alloc),
-                    change: Change::Sends(self.place, Some(sender)),
+                    change: ClientChange::Sends(self.place, Some(sender)),
                 })
             }
-            Turn::Ends => Ok(quiet(self.alloc, Change::Sends(self.place, None))),
+            Turn::Ends => Ok(quiet(self.alloc, ClientChange::Sends(self.place, None))),
         }
     }
 
     /// A SegmentACK of the request.
-    fn ack_heard(&self, negative: bool, number: u8, window: u8) -> Result<Plan<A>, AllocError>
+    fn ack_heard(&self, negative: bool, number: u8, window: u8) -> Result<ClientPlan<A>, AllocError>
         ensures { IfOk result (λ plan. plan ≡ spec.ack_heard self.now.transaction.now.sending
             self.now.moment self.now.place self.now.transaction.now negative number window) }
     {
         let transaction = self.transaction;
         match transaction.sending {
-            None => Ok(quiet(self.alloc, Change::Stays)),
+            None => Ok(quiet(self.alloc, ClientChange::Stays)),
             Some(mut sender) => {
                 let turn = sender.on_ack(number, window, negative, self.moment);
                 self.turned_by(turn, sender)
@@ -282,12 +271,16 @@ impl<A: Allocator + Copy> Taker<'_, A> {
             Apdu::SimpleAck { service, .. }
             | Apdu::ComplexAck { service, .. }
             | Apdu::Error { service, .. } => *service == self.transaction.service(),
-            _ => true,
+            Apdu::ConfirmedRequest { .. }
+            | Apdu::UnconfirmedRequest { .. }
+            | Apdu::SegmentAck { .. }
+            | Apdu::Reject { .. }
+            | Apdu::Abort { .. } => true,
         }
     }
 
     /// What an APDU comes to, that has the service of the request where it has one.
-    fn asked_told(&self, apdu: &Apdu<'_>) -> Result<Plan<A>, AllocError>
+    fn asked_told(&self, apdu: &Apdu<'_>) -> Result<ClientPlan<A>, AllocError>
         ensures { IfOk result (IsFinished (spec.asked_told self.now.moment self.now.place
             self.now.transaction.now (spec.message_of apdu.now))) }
     {
@@ -311,29 +304,31 @@ impl<A: Allocator + Copy> Taker<'_, A> {
                 window,
                 ..
             } => self.ack_heard(*negative, *sequence_number, *window),
-            Apdu::Reject { reason, .. } => self.closed(Outcome::Rejected(*reason)),
+            Apdu::Reject { reason, .. } => {
+                self.closing(Items::new(self.alloc), Outcome::Rejected(*reason))
+            }
             Apdu::Abort {
                 server: true,
                 reason,
                 ..
-            } => self.closed(Outcome::Aborted(*reason)),
+            } => self.closing(Items::new(self.alloc), Outcome::Aborted(*reason)),
             // What no server says is not for a client. An arm for each: where they join, no proof is found.
-            Apdu::SegmentAck { server: false, .. } => Ok(quiet(self.alloc, Change::Stays)),
-            Apdu::Abort { server: false, .. } => Ok(quiet(self.alloc, Change::Stays)),
-            Apdu::ConfirmedRequest { .. } => Ok(quiet(self.alloc, Change::Stays)),
-            Apdu::UnconfirmedRequest { .. } => Ok(quiet(self.alloc, Change::Stays)),
+            Apdu::SegmentAck { server: false, .. } => Ok(quiet(self.alloc, ClientChange::Stays)),
+            Apdu::Abort { server: false, .. } => Ok(quiet(self.alloc, ClientChange::Stays)),
+            Apdu::ConfirmedRequest { .. } => Ok(quiet(self.alloc, ClientChange::Stays)),
+            Apdu::UnconfirmedRequest { .. } => Ok(quiet(self.alloc, ClientChange::Stays)),
         }
     }
 
     /// What an APDU comes to.
-    fn told_open(&self, apdu: &Apdu<'_>) -> Result<Plan<A>, AllocError>
+    fn told_open(&self, apdu: &Apdu<'_>) -> Result<ClientPlan<A>, AllocError>
         ensures { IfOk result (IsFinished (spec.told_open self.now.moment self.now.place
             self.now.transaction.now (spec.message_of apdu.now))) }
     {
         if self.is_asked(apdu) {
             self.asked_told(apdu)
         } else {
-            Ok(quiet(self.alloc, Change::Stays))
+            Ok(quiet(self.alloc, ClientChange::Stays))
         }
     }
 }
@@ -342,6 +337,7 @@ impl<A: Allocator + Copy> ClientTsm<A> {
     ghost use Rattle.std.specs.Prelude.{◌≡◌, ◌≤◌, ◌^◌, IfOk, OnErr};
     ghost use Rattle.client_tsm.specs.Hearing.{heard_of, place_of};
     ghost use Rattle.client_tsm.specs.Steps.{IsPlan, IsStep};
+    ghost use Rattle.profile.specs.Times.{MAX_MOMENT_MS};
 
     /// The place of the first transaction that takes what this station says under this invoke ID.
     fn place_of(&self, now: u64, from: Station, invoke_id: u8) -> Option<usize>
@@ -362,14 +358,19 @@ impl<A: Allocator + Copy> ClientTsm<A> {
     ///
     /// # Errors
     /// Want of memory.
-    pub fn plan(&self, from: Station, apdu: &Apdu<'_>, now: u64) -> Result<Plan<A>, AllocError>
+    pub fn plan(
+        &self,
+        from: Station,
+        apdu: &Apdu<'_>,
+        now: u64,
+    ) -> Result<ClientPlan<A>, AllocError>
         ensures { IfOk result (IsPlan now from (heard_of apdu.now) self.now) }
     {
         let Some(place) = self.place_of(now, from, invoke_id_of(apdu)) else {
-            return Ok(quiet(self.alloc, Change::Stays));
+            return Ok(quiet(self.alloc, ClientChange::Stays));
         };
         let Some(transaction) = self.open_ones.get(place) else {
-            return Ok(quiet(self.alloc, Change::Stays));
+            return Ok(quiet(self.alloc, ClientChange::Stays));
         };
         let taker = Taker {
             alloc: self.alloc,
@@ -389,14 +390,14 @@ impl<A: Allocator + Copy> ClientTsm<A> {
         from: Station,
         apdu: &Apdu<'_>,
         now: u64,
-    ) -> Result<Effects<A>, AllocError>
-        requires greatest { now ≤ 2 ^ 62 }
+    ) -> Result<ClientTsmTold<A>, AllocError>
+        requires greatest { now ≤ MAX_MOMENT_MS }
         requires order { self.old.moment ≤ now }
-        ensures step { IfOk result (λ effects. IsStep now from (heard_of apdu.now) self.old effects self.new) }
+        ensures step { IfOk result (λ told. IsStep now from (heard_of apdu.now) self.old told self.new) }
         ensures unchanged { OnErr result (self.new ≡ self.old) }
     {
-        let Plan { said, told, change } = self.plan(from, apdu, now)?;
+        let ClientPlan { said, told, change } = self.plan(from, apdu, now)?;
         self.commit(change, now)?;
-        Ok(Effects { said, told })
+        Ok(ClientTsmTold { said, told })
     }
 }

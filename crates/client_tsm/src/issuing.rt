@@ -5,11 +5,10 @@ ghost use Rattle.client_tsm.specs.Issuing.{opening};
 
 use crate::asking::octets_of;
 use crate::client::ClientTsm;
-use crate::limits::{apdu_limit, begun, is_too_long};
-use crate::plan::{Change, Issued, Plan};
+use crate::plan::{ClientChange, ClientPlan, ClientTsmIssued};
 use crate::transaction::Transaction;
-use client_rules::Bound;
-use objects::Request;
+use bindings::{Bound, apdu_limit, begun, is_too_long};
+use primitives::Request;
 use std::alloc::{AllocError, Allocator};
 use tags::{Fault, Items, Octets};
 
@@ -17,15 +16,15 @@ use tags::{Fault, Items, Octets};
 fn opening<A: Allocator + Copy>(
     alloc: A,
     transaction: Transaction<A>,
-) -> Result<Plan<A>, AllocError>
+) -> Result<ClientPlan<A>, AllocError>
     ensures { IfOk result (λ plan. plan ≡ opening transaction) }
 {
     let mut said = Items::new(alloc);
     transaction.ask(alloc, transaction.sending, &mut said)?;
-    Ok(Plan {
+    Ok(ClientPlan {
         said,
         told: Items::new(alloc),
-        change: Change::Opens(transaction),
+        change: ClientChange::Opens(transaction),
     })
 }
 
@@ -35,7 +34,8 @@ impl<A: Allocator + Copy> ClientTsm<A> {
     ghost use Rattle.services.specs.Asked.{request_octets};
     ghost use Rattle.client_tsm.specs.Client.{committed};
     ghost use Rattle.client_tsm.specs.Issuing.{issued, opened, refusal};
-    ghost use Rattle.client_tsm.specs.Limits.{apdu_limit};
+    ghost use Rattle.bindings.specs.Limits.{apdu_limit};
+    ghost use Rattle.profile.specs.Times.{MAX_MOMENT_MS};
 
     /// What is said and left where this request is issued to this device at the moment `now`, in milliseconds.
     ///
@@ -43,7 +43,12 @@ impl<A: Allocator + Copy> ClientTsm<A> {
     /// The first that holds: `TooLong` for a request of more than 16384 octets or 64 segments, or in segments
     /// where the client has none; `NoInvokeId` where the next invoke ID was given less than 27001 ms ago or its
     /// transaction has no end yet. `Memory` also in their place.
-    pub fn plan_issue(&self, request: &Request<A>, to: &Bound, now: u64) -> Result<Plan<A>, Fault>
+    pub fn plan_issue(
+        &self,
+        request: &Request<A>,
+        to: &Bound,
+        now: u64,
+    ) -> Result<ClientPlan<A>, Fault>
         requires sound { IsSoundRequest request.now }
         ensures planned { IfOk result (λ plan. plan ≡ issued now request.now to.now self.now) }
         ensures free { OnOk result (refusal now request.now to.now self.now ≡ None) }
@@ -96,9 +101,14 @@ impl<A: Allocator + Copy> ClientTsm<A> {
     ///
     /// # Errors
     /// Those of `plan_issue`. The client is then as it was.
-    pub fn issue(&mut self, request: &Request<A>, to: &Bound, now: u64) -> Result<Issued<A>, Fault>
+    pub fn issue(
+        &mut self,
+        request: &Request<A>,
+        to: &Bound,
+        now: u64,
+    ) -> Result<ClientTsmIssued<A>, Fault>
         requires sound { IsSoundRequest request.now }
-        requires greatest { now ≤ 2 ^ 62 }
+        requires greatest { now ≤ MAX_MOMENT_MS }
         requires order { self.old.moment ≤ now }
         ensures issued { IfOk result (λ x. x ≡ record {
           invoke_id = self.old.next;
@@ -110,9 +120,9 @@ impl<A: Allocator + Copy> ClientTsm<A> {
             (refusal now request.now to.now self.old ≡ Some fault)) }
         ensures unchanged { OnErr result (self.new ≡ self.old) }
     {
-        let Plan { said, change, .. } = self.plan_issue(request, to, now)?;
+        let ClientPlan { said, change, .. } = self.plan_issue(request, to, now)?;
         let invoke_id = self.next;
         self.commit(change, now)?;
-        Ok(Issued { invoke_id, said })
+        Ok(ClientTsmIssued { invoke_id, said })
     }
 }

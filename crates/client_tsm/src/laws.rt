@@ -15,7 +15,7 @@ pub fn told_is_open<A: Allocator>()
 /// An answer that counts and means a reply is given: a whole one, and one whose last segment is taken.
 pub fn whole_is_given<A: Allocator>()
     ensures whole { spec.WholeIsGiven A }
-    ensures joined { spec.JoinedIsGiven A }
+    ensures gathered { spec.GatheredIsGiven A }
 {}
 
 /// What is heard is planned in one way.

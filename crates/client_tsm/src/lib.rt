@@ -6,10 +6,32 @@
 //! the request, before the transaction's end; a whole one that counts gives the reply that it means. The client
 //! knows no clock and no network: a moment is an argument, and what is said is told with its way.
 //!
+//! The states of a transaction (5.4.4), and what leads from one to another:
+//!
+//! ```text
+//!              issue, in segments                issue, whole
+//!     +------------------------------ IDLE -----------------------------+
+//!     |                                ^                                |
+//!     |            from each other state: the answer is whole,          |
+//!     |      an Error, Reject or Abort is heard, or it is too late      |
+//!     v                  all segments are acknowledged                  v
+//! SEGMENTED_REQUEST -----------------------------------------> AWAIT_CONFIRMATION
+//!   |  ^     |      <-----------------------------------------     |     |  ^
+//!   +--+     |          no answer: said again in segments          |     +--+
+//! a window   |                                                     |   no answer:
+//! is said    |          a segment of the answer is heard           |   said again,
+//!            +----------------> SEGMENTED_CONF <-------------------+   whole
+//!                                   |  ^
+//!                                   +--+ another segment of it
+//! ```
+//!
+//! Here a transaction is IDLE where none is open under its invoke ID. An open one is in SEGMENTED_REQUEST while its
+//! `sending` is `Some`, in SEGMENTED_CONF while its `gathering` is `Some`, and in AWAIT_CONFIRMATION while neither is.
+//!
 //! - `client`: the client, and what changes of it.
 //! - `issuing`, `hearing`, `waking`: an issue, an APDU that is heard, a wake: what is planned, and the whole step.
 //! - `transaction`, `gathering`: a request that has no end yet, and the segments of its answer.
-//! - `asking`, `limits`: what is said of a request, how long one may be, and how it is cut.
+//! - `asking`: what is said of a request.
 //! - `said`, `plan`: what is said, told and changed.
 //! - `laws`: what holds of any client, for the proofs of the layers above.
 #![tactic(auto)]
@@ -19,17 +41,18 @@ mod client;
 mod gathering;
 mod hearing;
 mod issuing;
-pub mod laws;
-mod limits;
+mod laws;
 mod plan;
 mod said;
 mod transaction;
 mod waking;
 
+pub use bindings::{Accepts, Bound};
 pub use client::ClientTsm;
-pub use client_rules::Bound;
 pub use gathering::Gathering;
 pub use laws::{one_plan, told_is_open, whole_is_given, woken_are_ended};
-pub use plan::{Change, Effects, Issued, Outcome, Plan, Told};
-pub use said::{Accepts, Said};
+pub use plan::{
+    ClientChange, ClientPlan, ClientTsmIssued, ClientTsmTold, Outcome, TransactionOutcome,
+};
+pub use said::ClientSaid;
 pub use transaction::Transaction;

@@ -1,11 +1,11 @@
 //! What is planned for an input, before anything changes.
 
 use crate::gathering::Gathering;
-use crate::said::Said;
+use crate::said::ClientSaid;
 use crate::transaction::Transaction;
-use objects::Reply;
+use apdu::{AbortReason, RejectReason};
+use primitives::Reply;
 use segments::Sender;
-use services::{AbortReason, RejectReason};
 use std::alloc::Allocator;
 use tags::Items;
 
@@ -26,55 +26,55 @@ pub enum Outcome<A: Allocator> {
 /// What a client tells its user: what came of the transaction under this invoke ID.
 #[derive(Drop)]
 #[derive_where(PartialEq, Eq, Debug)]
-pub struct Told<A: Allocator> {
+pub struct TransactionOutcome<A: Allocator> {
     pub invoke_id: u8,
     pub outcome: Outcome<A>,
 }
 
 /// What is to change of a client. Places count its open transactions, in order of issue.
 #[derive(Drop)]
-pub enum Change<A: Allocator> {
+pub enum ClientChange<A: Allocator> {
     /// Nothing.
     Stays,
     /// A transaction is opened, under the next invoke ID.
     Opens(Transaction<A>),
-    /// Of the transaction at this place, more of the request came: what goes on sending it, or none.
+    /// More of the request of the transaction at this place came: what goes on sending it, or none.
     Sends(usize, Option<Sender>),
-    /// .. the answer came so far; the request came whole.
+    /// The answer to the transaction at this place came so far; its request came whole.
     Gathers(usize, Gathering<A>),
-    /// .. a segment of the answer was heard and not taken; the request came whole.
+    /// A segment of the answer to the transaction at this place was heard and not taken; its request came whole.
     Renews(usize),
-    /// .. it ends.
+    /// The transaction at this place ends.
     Ends(usize),
-    /// All go on or end as at a wake.
+    /// All transactions go on or end as at a wake.
     Wakes,
 }
 
 /// What is said of an input, what is told of it, and what it changes.
 #[derive(Drop)]
-pub struct Plan<A: Allocator> {
+pub struct ClientPlan<A: Allocator> {
     /// What is said, in order.
-    pub said: Items<Said<A>, A>,
+    pub said: Items<ClientSaid<A>, A>,
     /// What is told, in order.
-    pub told: Items<Told<A>, A>,
+    pub told: Items<TransactionOutcome<A>, A>,
     /// What changes.
-    pub change: Change<A>,
+    pub change: ClientChange<A>,
 }
 
 /// What comes of an issue.
 #[derive(Drop)]
-pub struct Issued<A: Allocator> {
+pub struct ClientTsmIssued<A: Allocator> {
     /// The invoke ID that was given.
     pub invoke_id: u8,
     /// What is said, in order.
-    pub said: Items<Said<A>, A>,
+    pub said: Items<ClientSaid<A>, A>,
 }
 
 /// What comes of any other input.
 #[derive(Drop)]
-pub struct Effects<A: Allocator> {
+pub struct ClientTsmTold<A: Allocator> {
     /// What is said, in order.
-    pub said: Items<Said<A>, A>,
+    pub said: Items<ClientSaid<A>, A>,
     /// What is told, in order.
-    pub told: Items<Told<A>, A>,
+    pub told: Items<TransactionOutcome<A>, A>,
 }

@@ -1,12 +1,10 @@
 //! A transaction of a client: a request that has neither an answer nor an end (5.4.4).
 
 use crate::gathering::Gathering;
-use crate::limits::begun;
-use crate::said::Accepts;
-use client_rules::{is_in_time, is_same_station};
+use bindings::{Accepts, begun, is_same_station};
 use npdu::{Station, Way};
-use objects::Request;
-use segments::numbers::{APDU_TIMEOUT_MS, ASSEMBLY_TIMEOUT_MS, NUMBER_OF_APDU_RETRIES};
+use primitives::Request;
+use profile::{APDU_TIMEOUT_MS, NUMBER_OF_APDU_RETRIES, gathers_still, is_in_time};
 use segments::{Sender, Turn};
 use services::service_of;
 use std::alloc::{AllocError, Allocator};
@@ -82,7 +80,7 @@ impl<A: Allocator> Transaction<A> {
     {
         match &self.gathering {
             None => true,
-            Some(gathering) => now.saturating_sub(gathering.at) < ASSEMBLY_TIMEOUT_MS,
+            Some(gathering) => gathers_still(gathering.at, now),
         }
     }
 
@@ -191,9 +189,6 @@ impl<A: Allocator + Copy> Transaction<A> {
     ghost use Rattle.std.specs.Prelude.{◌≡◌, IfOk};
 
     /// An equal transaction, in memory of `alloc`.
-    ///
-    /// # Errors
-    /// Want of memory.
     pub(crate) fn copy(&self, alloc: A) -> Result<Self, AllocError>
         ensures { IfOk result (λ copy. copy ≡ self.now) }
     {

@@ -4,8 +4,8 @@ ghost use Rattle.std.specs.Prelude.{◌≡◌, ◌++◌, OnOk};
 ghost use Rattle.client_tsm.specs.Waking.{all_left, said_of, told_of};
 
 use crate::client::ClientTsm;
-use crate::plan::{Change, Effects, Outcome, Plan, Told};
-use crate::said::Said;
+use crate::plan::{ClientChange, ClientPlan, ClientTsmTold, Outcome, TransactionOutcome};
+use crate::said::ClientSaid;
 use crate::transaction::Transaction;
 use segments::Turn;
 use std::alloc::{AllocError, Allocator};
@@ -16,8 +16,8 @@ fn wake_one<A: Allocator + Copy>(
     alloc: A,
     now: u64,
     transaction: &Transaction<A>,
-    said: &mut Items<Said<A>, A>,
-    told: &mut Items<Told<A>, A>,
+    said: &mut Items<ClientSaid<A>, A>,
+    told: &mut Items<TransactionOutcome<A>, A>,
 ) -> Result<(), AllocError>
     ensures said { OnOk result (said.new ≡ said.old ++ said_of now transaction.now) }
     ensures told { OnOk result (told.new ≡ told.old ++ told_of now transaction.now) }
@@ -25,7 +25,7 @@ fn wake_one<A: Allocator + Copy>(
     match transaction.turn(now) {
         Turn::Waits => Ok(()),
         Turn::Sends => transaction.ask(alloc, transaction.sending_again(now), said),
-        Turn::Ends => told.push(Told {
+        Turn::Ends => told.push(TransactionOutcome {
             invoke_id: transaction.invoke_id,
             outcome: Outcome::TimedOut,
         }),
@@ -55,15 +55,16 @@ pub(crate) fn wake_all<A: Allocator>(open_ones: &mut Vec<Transaction<A>, A>, now
 impl<A: Allocator + Copy> ClientTsm<A> {
     ghost use Rattle.std.specs.Prelude.{◌≡◌, ◌≤◌, ◌^◌, IfOk, OnOk, OnErr};
     ghost use Rattle.client_tsm.specs.Client.{committed};
-    ghost use Rattle.client_tsm.specs.Steps.{effects_of};
+    ghost use Rattle.client_tsm.specs.Steps.{told_of_plan};
     ghost use Rattle.client_tsm.specs.Waking.{woken};
+    ghost use Rattle.profile.specs.Times.{MAX_MOMENT_MS};
 
     /// What is said, told and left where the client wakes at the moment `now`, in milliseconds: one sending of a
     /// transaction, and the ends that are due, in order of issue.
     ///
     /// # Errors
     /// Want of memory.
-    pub fn plan_tick(&self, now: u64) -> Result<Plan<A>, AllocError>
+    pub fn plan_tick(&self, now: u64) -> Result<ClientPlan<A>, AllocError>
         ensures { IfOk result (λ plan. plan ≡ woken now self.now.open_ones) }
     {
         let mut said = Items::new(self.alloc);
@@ -71,10 +72,10 @@ impl<A: Allocator + Copy> ClientTsm<A> {
         for transaction in &self.open_ones {
             wake_one(self.alloc, now, transaction, &mut said, &mut told)?;
         }
-        Ok(Plan {
+        Ok(ClientPlan {
             said,
             told,
-            change: Change::Wakes,
+            change: ClientChange::Wakes,
         })
     }
 
@@ -82,15 +83,15 @@ impl<A: Allocator + Copy> ClientTsm<A> {
     ///
     /// # Errors
     /// Want of memory. The client is then as it was.
-    pub fn on_tick(&mut self, now: u64) -> Result<Effects<A>, AllocError>
-        requires greatest { now ≤ 2 ^ 62 }
+    pub fn on_tick(&mut self, now: u64) -> Result<ClientTsmTold<A>, AllocError>
+        requires greatest { now ≤ MAX_MOMENT_MS }
         requires order { self.old.moment ≤ now }
-        ensures effects { IfOk result (λ effects. effects ≡ effects_of (woken now self.old.open_ones)) }
+        ensures told { IfOk result (λ told. told ≡ told_of_plan (woken now self.old.open_ones)) }
         ensures left { OnOk result (self.new ≡ committed now (woken now self.old.open_ones).change self.old) }
         ensures unchanged { OnErr result (self.new ≡ self.old) }
     {
-        let Plan { said, told, change } = self.plan_tick(now)?;
+        let ClientPlan { said, told, change } = self.plan_tick(now)?;
         self.commit(change, now)?;
-        Ok(Effects { said, told })
+        Ok(ClientTsmTold { said, told })
     }
 }

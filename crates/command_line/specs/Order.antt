@@ -20,9 +20,11 @@ hex_rule = record (new_rule (codes "hex")) {
 abbrev pub tool : Text → App
 tool name = with_rule (new_app name) hex_rule
 
--- the program without its subcommands, one of which has to be there
+-- the program without its subcommands, one of which has to be there; it has a version
 abbrev pub bare : App
-bare = let app = new_app (codes "bacsite") in record app { top = record app.top { subcommand_required = true } }
+bare =
+    let app = new_app (codes "bacsite") in
+    record app { top = record app.top { subcommand_required = true; has_version = true } }
 
 -- the program: answer HEX.., explain HEX..
 abbrev pub program : App

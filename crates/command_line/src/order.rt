@@ -8,6 +8,9 @@ ghost use Rattle.command_line.specs.Order.{program, bare, tool, hex_rule, hex_of
 use clap::{Arg, ArgAction, ArgMatches, Command, Error};
 use std::alloc::{AllocError, Global};
 
+/// The version of the program, as `--version` prints it.
+const VERSION: &str = "0.1.0";
+
 /// What the command line asks for.
 #[derive(Drop)]
 pub enum Order {
@@ -84,6 +87,7 @@ fn bare<'a>(alloc: Global) -> Command<'a>
 {
     Command::new(alloc, "bacsite")
         .about("BACnet devices that answer by proof")
+        .version(VERSION)
         .subcommand_required(true)
 }
 

@@ -27,7 +27,8 @@ pub no_tags : (octets : List ℕ) (k : Known) → octets ≡ [] → PrintsTags o
 no_tags octets k e = record { tags = []; taken = e; printed = appends_nothing k }
 
 -- a tag before others
-pub tag_before : (octets rest : List ℕ) (t : PlainTag) (old mid new : Known) → TakesTag octets t rest → Appends old mid (tag_line t) → PrintsTags rest mid new → PrintsTags octets old new
+pub tag_before : (octets rest : List ℕ) (t : PlainTag) (old mid new : Known) → TakesTag octets t rest → Appends old mid (tag_line t) →
+    PrintsTags rest mid new → PrintsTags octets old new
 tag_before octets rest t old mid new taken line all = record {
   tags = t ∷ all.tags;
   taken = (rest, taken, all.taken);
@@ -37,7 +38,10 @@ tag_before octets rest t old mid new taken line all = record {
 pub ruleset line_rules = (appends_nothing, appends_more)
 
 -- a vendor's message is its type, and its identifier before its octets
-pub vendor_printed : {T E : Type 0} (r : Result T E) (old mid new : Known) (m : Message) (kind vendor : ℕ) (front body : List ℕ) → m ≡ Proprietary kind vendor → front ≡ big_bytes 2 vendor → Appends old mid (number (codes "message ") kind) → OnOk r (Appends mid new (octets_text front body)) → OnOk r (Appends old new (message_text m body))
+pub vendor_printed : {T E : Type 0} (r : Result T E) (old mid new : Known) (m : Message) (kind vendor : ℕ) (front body : List ℕ) →
+    m ≡ Proprietary kind vendor → front ≡ big_bytes 2 vendor → Appends old mid (number (codes "message ") kind) →
+    OnOk r (Appends mid new (octets_text front body)) → OnOk r (Appends old new (message_text m body))
 vendor_printed (Ok x) old mid new m kind vendor front body is bytes type rest =
-    rw (is) (appends_more old mid new (number (codes "message ") kind) (octets_text (big_bytes 2 vendor) body) type (subst (λ (f : List ℕ). Appends mid new (octets_text f body)) bytes rest))
+    rw (is) (appends_more old mid new (number (codes "message ") kind) (octets_text (big_bytes 2 vendor) body) type
+    (subst (λ (f : List ℕ). Appends mid new (octets_text f body)) bytes rest))
 vendor_printed (Err e) old mid new m kind vendor front body is bytes type rest = tt

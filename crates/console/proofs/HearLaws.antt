@@ -10,12 +10,14 @@ some_same x y e = cc
 none_some : {X : Type 0} (x : X) → None ≡ Some x → ⊥
 none_some x e = cc
 
-pub only_up : (own from : Mac) (datagram : List ℕ) (d : link.Datagram) (s : Sent) → link.OnlyDatagram datagram d → handed_up own from d ≡ Some s → OnlyHandsUp own from datagram s
+pub only_up : (own from : Mac) (datagram : List ℕ) (d : link.Datagram) (s : Sent) → link.OnlyDatagram datagram d → handed_up own from d ≡ Some s →
+    OnlyHandsUp own from datagram s
 only_up own from datagram d s one up = record {
   only = λ x other. some_same s x (sym up ∙ ap (handed_up own from) (one.only other.carried other.spelled) ∙ other.up);
 }
 
-pub nothing_up : (own from : Mac) (datagram : List ℕ) (d : link.Datagram) → link.OnlyDatagram datagram d → handed_up own from d ≡ None → HandsUpNothing own from datagram
+pub nothing_up : (own from : Mac) (datagram : List ℕ) (d : link.Datagram) → link.OnlyDatagram datagram d → handed_up own from d ≡ None →
+    HandsUpNothing own from datagram
 nothing_up own from datagram d one up = record {
   none = λ x other. none_some x (sym up ∙ ap (handed_up own from) (one.only other.carried other.spelled) ∙ other.up);
 }

@@ -1,5 +1,6 @@
 -- Spaces and pairs of digits, one after another.
-use Rattle.std.proofs.Common.{true, ◌≡◌, ℕ, ◌<◌, zero, suc, List, [], ◌∷◌, ◌++◌, replicate, length, take, drop, slice_index, Ok, Err, refl, sym, subst, ap, ◌∙◌, arith}
+use Rattle.std.proofs.Common.{true, ◌≡◌, ℕ, ◌<◌, zero, suc, List, [], ◌∷◌, ◌++◌, replicate, length, take, drop, slice_index, Ok, Err, refl, sym, subst, ap, ◌∙◌}
+use Rattle.std.proofs.Common.{arith}
 use Rattle.std.proofs.lemmas.List.{length-append, append-nil, append_assoc}
 use Rattle.std.proofs.lemmas.List.Elements.{All-head}
 use Rattle.std.specs.List.{AllPass}
@@ -13,7 +14,11 @@ one_more zero after = refl
 one_more (suc n) after = ap (λ (x : List ℕ). 32 ∷ x) (one_more n after)
 
 pub another_space : (text rest after : List ℕ) → HasSpacesBefore text rest → rest ≡ 32 ∷ after → HasSpacesBefore text after
-another_space text rest after h e = record { spaces = suc h.spaces; parts = h.parts ∙ ap (λ (x : List ℕ). replicate h.spaces 32 ++ x) e ∙ one_more h.spaces after }
+another_space text rest after h e = record {
+  spaces = suc h.spaces;
+  parts =
+      h.parts ∙ ap (λ (x : List ℕ). replicate h.spaces 32 ++ x) e ∙ one_more h.spaces after;
+}
 
 pub ruleset space_laws = (another_space)
 
@@ -42,7 +47,10 @@ one_pair text p q a b m n hp hq ep eq =
     (ap (λ (x : List ℕ). slice_index x 0) octets, sym s.1 ∙ t.1)
 
 pub short_no_pair : (text : List ℕ) → length text < 2 → TakesNoPair text
-short_no_pair text lt = record { none = λ o after h. let e : length text ≡ length (h.pair ++ after) = ap length h.parts in omega (arith, lt, e, h.two, length-append h.pair after) }
+short_no_pair text lt = record {
+  none = λ o after h. let e : length text ≡ length (h.pair ++ after) = ap length h.parts in
+      omega (arith, lt, e, h.two, length-append h.pair after);
+}
 
 pub undecoded : (text pair after : List ℕ) (e : FromHexError) → text ≡ pair ++ after → length pair ≡ 2 → decode_sized pair 1 ≡ Err e → TakesNoPair text
 undecoded text pair after e parts two refused = record { none = λ o rest h. no o rest h }
@@ -95,29 +103,43 @@ pub all_left : (text : List ℕ) → Left text [] text
 all_left text = record { left = λ all h. (all, refl, h) }
 
 -- the others behind a pair
-others_behind : (rest : List ℕ) (o : ℕ) (after next others : List ℕ) → TakesPair rest o after → (after ≡ [] → ⊥) → HasSpacesBefore after next → BeginsWithoutSpace next → SpellsHex rest others → (more : List ℕ) × (others ≡ o ∷ more) × SpellsHex next more
+others_behind : (rest : List ℕ) (o : ℕ) (after next others : List ℕ) → TakesPair rest o after → (after ≡ [] → ⊥) → HasSpacesBefore after next →
+    BeginsWithoutSpace next → SpellsHex rest others → (more : List ℕ) × (others ≡ o ∷ more) × SpellsHex next more
 others_behind rest o after next [] t some spaces begins h = absurd h
 others_behind rest o after next (p ∷ []) t some spaces begins h =
     let same = one_pair rest t.pair rest after [] o p t.spelled h t.parts (sym (append-nil rest)) in
     absurd (some same.1)
 others_behind rest o after next (p ∷ q ∷ more) t some spaces begins h =
     let same = one_pair rest t.pair h.pair after (replicate h.spaces 32 ++ h.rest) o p t.spelled h.first t.parts h.parts in
-    let behind : next ≡ h.rest = same_behind_spaces spaces.spaces h.spaces next h.rest (sym spaces.parts ∙ same.1) begins (spelled_begins h.rest q more h.others) in
+    let behind : next ≡ h.rest = same_behind_spaces spaces.spaces h.spaces next h.rest (sym spaces.parts ∙ same.1) begins
+    (spelled_begins h.rest q more h.others) in
     (q ∷ more, ap (λ (x : ℕ). x ∷ q ∷ more) (sym same.0), subst (λ (x : List ℕ). SpellsHex x (q ∷ more)) (sym behind) h.others)
 
-pub one_less : (text read rest : List ℕ) (o : ℕ) (after next : List ℕ) → Left text read rest → TakesPair rest o after → (after ≡ [] → ⊥) → HasSpacesBefore after next → BeginsWithoutSpace next → Left text (read ++ o ∷ []) next
+pub one_less : (text read rest : List ℕ) (o : ℕ) (after next : List ℕ) → Left text read rest → TakesPair rest o after → (after ≡ [] → ⊥) →
+    HasSpacesBefore after next → BeginsWithoutSpace next → Left text (read ++ o ∷ []) next
 one_less text read rest o after next l t some spaces begins = record { left = λ all h. less all (l.left all h) }
   where
-    less : (all : List ℕ) → (others : List ℕ) × (all ≡ read ++ others) × SpellsHex rest others → (more : List ℕ) × (all ≡ (read ++ o ∷ []) ++ more) × SpellsHex next more
+    less : (all : List ℕ) → (others : List ℕ) × (all ≡ read ++ others) × SpellsHex rest others → (more : List ℕ) × (all ≡ (read ++ o ∷ []) ++ more) ×
+        SpellsHex next more
     less all f =
         let g = others_behind rest o after next f.0 t some spaces begins f.2 in
         (g.0, f.1 ∙ ap (λ (x : List ℕ). read ++ x) g.1 ∙ sym (append_assoc read (o ∷ []) g.0), g.2)
 
 -- what spells the rest spells the text behind what was read
-pub spelled_by_one : (text read rest : List ℕ) (o : ℕ) (after next : List ℕ) → ((os : List ℕ) → SpellsHex rest os → SpellsHex text (read ++ os)) → TakesPair rest o after → HasSpacesBefore after next → (os : List ℕ) → SpellsHex next os → SpellsHex text ((read ++ o ∷ []) ++ os)
+pub spelled_by_one : (text read rest : List ℕ) (o : ℕ) (after next : List ℕ) → ((os : List ℕ) → SpellsHex rest os → SpellsHex text (read ++ os)) →
+    TakesPair rest o after → HasSpacesBefore after next → (os : List ℕ) → SpellsHex next os → SpellsHex text ((read ++ o ∷ []) ++ os)
 spelled_by_one text read rest o after next so_far t spaces [] h = absurd h
 spelled_by_one text read rest o after next so_far t spaces (p ∷ os) h =
-    let pairs : SpellsHex rest (o ∷ p ∷ os) = record { pair = t.pair; spaces = spaces.spaces; rest = next; first = t.spelled; parts = t.parts ∙ ap (λ (x : List ℕ). t.pair ++ x) spaces.parts; others = h } in
+    let pairs : SpellsHex rest (o ∷ p ∷ os) =
+    record {
+      pair = t.pair;
+      spaces = spaces.spaces;
+      rest = next;
+      first = t.spelled;
+      parts =
+          t.parts ∙ ap (λ (x : List ℕ). t.pair ++ x) spaces.parts;
+      others = h;
+    } in
     subst (λ (x : List ℕ). SpellsHex text x) (sym (append_assoc read (o ∷ []) (p ∷ os))) (so_far (o ∷ p ∷ os) pairs)
 
 pub last_pair : (text read rest : List ℕ) (o : ℕ) (after : List ℕ) → Left text read rest → TakesPair rest o after → after ≡ [] → OnlyHex text (read ++ o ∷ [])
@@ -146,7 +168,8 @@ nothing_left text read rest l unpaired = record { none = λ all h. refused (l.le
     none_spelled : (others : List ℕ) → SpellsHex rest others → ⊥
     none_spelled [] h = h
     none_spelled (p ∷ []) h = unpaired.none p [] (record { pair = rest; spelled = h; two = pair_length rest p h; parts = sym (append-nil rest) })
-    none_spelled (p ∷ q ∷ more) h = unpaired.none p (replicate h.spaces 32 ++ h.rest) (record { pair = h.pair; spelled = h.first; two = pair_length h.pair p h.first; parts = h.parts })
+    none_spelled (p ∷ q ∷ more) h = unpaired.none p (replicate h.spaces 32 ++ h.rest)
+        (record { pair = h.pair; spelled = h.first; two = pair_length h.pair p h.first; parts = h.parts })
 
     refused : {all : List ℕ} → (others : List ℕ) × (all ≡ read ++ others) × SpellsHex rest others → ⊥
     refused f = none_spelled f.0 f.2

@@ -4,13 +4,13 @@ use Rattle.apdu.specs.Apdu as application
 use Rattle.npdu.specs.declared.mac.Mac.{Mac}
 use Rattle.npdu.specs.declared.mac.Target.{Target}
 use Rattle.server_tsm.specs.Server.{ServerTsmState, committed}
-use Rattle.server_tsm.specs.declared.asked.Origin.{Origin}
-use Rattle.server_tsm.specs.declared.plan.Change.{Change}
-use Rattle.server_tsm.specs.declared.plan.Change.TheVariants.{Stays, Says, Gathers, GivesUp, Executes, Wakes}
+use Rattle.server_answers.specs.declared.asked.Origin.{Origin}
+use Rattle.server_answers.specs.declared.plan.ServerChange.{ServerChange}
+use Rattle.server_answers.specs.declared.plan.ServerChange.TheVariants.{Stays, Says, Gathers, GivesUp, Executes, Wakes}
 use Rattle.unitdata.specs.Hearing.{Content, refuses, says}
 use Rattle.device.specs.Device.{DeviceState}
 use Rattle.device.specs.Hearing.{DeviceHears, Does, Serves}
-use Rattle.device.specs.declared.device.Told.{Told}
+use Rattle.device.specs.declared.device.DeviceTold.{DeviceTold}
 use Rattle.console.specs.Hearing.{HandsUp, HandsUpNothing, OnlyHandsUp, Sent}
 use Rattle.console.specs.Respond.{Responds, Said, SaysTo}
 
@@ -19,7 +19,7 @@ module _ {A : Type 0} where
     moment : old.server.moment ≡ now → new.server.moment ≡ now
     mac : new.mac ≡ old.mac
 
-  committed_at : (now : ℕ) (change : Change A) (st : ServerTsmState A) → (committed now change st).moment ≡ now
+  committed_at : (now : ℕ) (change : ServerChange A) (st : ServerTsmState A) → (committed now change st).moment ≡ now
   committed_at now Stays st = refl
   committed_at now (Says saying) st = refl
   committed_at now (Gathers a) st = refl
@@ -33,13 +33,16 @@ module _ {A : Type 0} where
     mac = ap (λ (d : DeviceState A). d.mac) e;
   }
 
-  serves_there : (now : ℕ) (from : Origin) (a : application.PlainApdu) (old : DeviceState A) (told : Told A) (new : DeviceState A) → Serves now from a old told new → Stays_there now old new
+  serves_there : (now : ℕ) (from : Origin) (a : application.PlainApdu) (old : DeviceState A) (told : DeviceTold A) (new : DeviceState A) →
+      Serves now from a old told new → Stays_there now old new
   serves_there now from a old told new s = record {
-    moment = λ at. ap (λ (d : DeviceState A). d.server.moment) s.new_is ∙ ap (λ (st : ServerTsmState A). st.moment) s.step.left_is ∙ committed_at now s.step.plan.change old.server;
+    moment = λ at. ap (λ (d : DeviceState A). d.server.moment) s.new_is ∙ ap (λ (st : ServerTsmState A). st.moment) s.step.left_is
+        ∙ committed_at now s.step.plan.change old.server;
     mac = ap (λ (d : DeviceState A). d.mac) s.new_is;
   }
 
-  does_there : (now : ℕ) (from : Origin) (c : Content) (old : DeviceState A) (told : Told A) (new : DeviceState A) → Does now from c old told new → Stays_there now old new
+  does_there : (now : ℕ) (from : Origin) (c : Content) (old : DeviceState A) (told : DeviceTold A) (new : DeviceState A) → Does now from c old told new →
+      Stays_there now old new
   does_there now from (refuses rejected) old told new d = same_there now old new d.1
   does_there now from (says (application.unconfirmed service octets)) old told new d = same_there now old new d.1
   does_there now from (says (application.confirmed s a m p i k x)) old told new d = serves_there now from _ old told new d
@@ -50,7 +53,8 @@ module _ {A : Type 0} where
   does_there now from (says (application.reject_pdu i r)) old told new d = serves_there now from _ old told new d
   does_there now from (says (application.abort_pdu s i r)) old told new d = serves_there now from _ old told new d
 
-  hears_there : (now : ℕ) (from : Mac) (to : Target) (npdu : List ℕ) (old : DeviceState A) (told : Told A) (new : DeviceState A) → DeviceHears now from to npdu old told new → Stays_there now old new
+  hears_there : (now : ℕ) (from : Mac) (to : Target) (npdu : List ℕ) (old : DeviceState A) (told : DeviceTold A) (new : DeviceState A) →
+      DeviceHears now from to npdu old told new → Stays_there now old new
   hears_there now from to npdu old told new (inl h) = does_there now _ h.heard.content old told new h.does
   hears_there now from to npdu old told new (inr d) = same_there now old new d.same
 
@@ -62,7 +66,8 @@ module _ {A : Type 0} where
       (h.moment (ap (λ (d : DeviceState A). d.server.moment) same ∙ at), h.mac ∙ ap (λ (d : DeviceState A). d.mac) same ∙ there)
 
   -- what it says to what is handed up is what it says to the datagram
-  pub answers : (own from : Mac) (datagram : List ℕ) (sent : Sent) (device old new : DeviceState A) (said : Said) → HandsUp own from datagram sent → OnlyHandsUp own from datagram sent →
+  pub answers : (own from : Mac) (datagram : List ℕ) (sent : Sent) (device old new : DeviceState A) (said : Said) → HandsUp own from datagram sent →
+      OnlyHandsUp own from datagram sent →
       SaysTo sent.from sent.to sent.npdu old new said → old ≡ device → device.mac ≡ own → Responds from datagram device new said
   answers own from datagram sent device old new said up only spoken same there = inl (record {
     sent = sent;
@@ -72,7 +77,8 @@ module _ {A : Type 0} where
   })
 
   -- where nothing is handed up, nothing is said
-  pub ignores : (own from : Mac) (datagram : List ℕ) (device : DeviceState A) (said : Said) → HandsUpNothing own from datagram → said ≡ [] → device.mac ≡ own → Responds from datagram device device said
+  pub ignores : (own from : Mac) (datagram : List ℕ) (device : DeviceState A) (said : Said) → HandsUpNothing own from datagram → said ≡ [] →
+      device.mac ≡ own → Responds from datagram device device said
   ignores own from datagram device said nothing silent there = inr (record {
     nothing = subst (λ (m : Mac). HandsUpNothing m from datagram) (sym there) nothing;
     silent = silent;

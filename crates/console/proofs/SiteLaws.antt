@@ -23,7 +23,20 @@ builtin_is_site = record {
   few = omega arith;
   objects = (
     record { instance = omega arith; name = device_text; vendor = omega arith; description = empty_text },
-    (record { kind = tt; instance = omega arith; name = value_text; sixteen = refl; slots = (tt, (tt, (tt, (tt, (tt, (tt, (tt, (tt, (tt, (tt, (tt, (tt, (tt, (tt, (tt, (tt, tt)))))))))))))))); default = record { taken = refl; sound = omega arith }; description = empty_text }, tt),
+    (
+      record {
+        kind = tt;
+        instance = omega arith;
+        name = value_text;
+        sixteen = refl;
+        slots =
+            (tt, (tt, (tt, (tt, (tt, (tt, (tt, (tt, (tt, (tt, (tt, (tt, (tt, (tt, (tt, (tt, tt))))))))))))))));
+        default =
+            record { taken = refl; sound = omega arith };
+        description = empty_text;
+      },
+      tt,
+    ),
   );
   apart = ((record { identifiers = λ e. omega (arith, ap (λ (id : ObjectId). id.object_type) e); names = λ e. omega (arith, ap length e) }, tt), (tt, tt));
 }

@@ -2,7 +2,7 @@
 use Rattle.std.specs.Prelude.{ℕ, [], ◌∷◌, codes}
 use Rattle.tags.specs.declared.value.Value.TheVariants as value
 use Rattle.object_model.specs.declared.object.ValueKind.TheVariants as kind
-use Rattle.object_model.specs.declared.site.DataLink.TheVariants.{BacnetIp}
+use Rattle.profile.specs.declared.link_kind.LinkKind.TheVariants.{BacnetIp}
 use Rattle.object_model.specs.declared.site.SiteObject.{SiteObject}
 use Rattle.object_model.specs.declared.site.SiteObjects.{SiteObjects}
 use Rattle.npdu.specs.declared.mac.Mac.TheVariants.{Six}

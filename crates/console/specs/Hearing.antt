@@ -32,7 +32,7 @@ pub record HandsUp (own from : Mac) (datagram : List ℕ) (s : Sent) : Type 0 wh
   pub spelled : link.Spells datagram carried
   pub up : handed_up own from carried ≡ Some s
 
--- .. and nothing else
+-- a datagram hands this up and nothing else
 pub record OnlyHandsUp (own from : Mac) (datagram : List ℕ) (s : Sent) : Type 0 where
   pub only : (x : Sent) → HandsUp own from datagram x → s ≡ x
 

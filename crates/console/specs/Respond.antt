@@ -8,35 +8,33 @@ use Rattle.npdu.specs.declared.mac.Target.TheVariants.{One, All}
 use Rattle.npdu.specs.declared.parcel.Parcel.{Parcel}
 use Rattle.device.specs.Device.{DeviceState}
 use Rattle.device.specs.Hearing.{DeviceHears}
-use Rattle.device.specs.declared.device.Told.{Told}
+use Rattle.device.specs.declared.device.DeviceTold.{DeviceTold}
+use Rattle.profile.specs.LinkKind.{max_npdu}
+use Rattle.profile.specs.declared.link_kind.LinkKind.TheVariants.{BacnetIp}
 use Rattle.console.specs.Hearing.{HandsUp, HandsUpNothing, OnlyHandsUp, Sent}
 
 -- what is said: datagrams in order
 abbrev pub Said : Type 0
 Said = List (List ℕ)
 
--- the longest NPDU on the link, in octets (J.1)
-abbrev pub longest_npdu : ℕ
-longest_npdu = 1497
-
 -- the datagram of an NPDU: to one station, or to all of the network (J.2.11, J.2.12)
 abbrev pub datagram_to : Target → List ℕ → List ℕ
 datagram_to (One mac) npdu = link.canonical (link.unicast npdu)
 datagram_to All npdu = link.canonical (link.broadcast npdu)
 
--- .. where the link carries it
+-- the datagram of a parcel where the link carries it, else none
 abbrev pub datagram_if : (fits : Bool) → {A : Type 0} → Parcel A → Said
 datagram_if true p = datagram_to p.to p.npdu ∷ []
 datagram_if false p = []
 
 -- the datagram of a parcel; none where its NPDU is too long for the link
 abbrev pub datagram_of : {A : Type 0} → Parcel A → Said
-datagram_of p = datagram_if (nat_le (length p.npdu) longest_npdu) p
+datagram_of p = datagram_if (nat_le (length p.npdu) (max_npdu BacnetIp)) p
 
 -- the device hears an NPDU from an address to a target, at the moment 0, and says these datagrams
 pub record SaysTo {A : Type 0} (from : Mac) (to : Target) (npdu : List ℕ) (old new : DeviceState A) (said : Said) :
     Type 0 where
-  pub told : Told A
+  pub told : DeviceTold A
   pub hears : DeviceHears 0 from to npdu old told new
   pub is : said ≡ flat_map datagram_of told.said
 

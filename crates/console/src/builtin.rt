@@ -3,13 +3,15 @@
 ghost use Rattle.std.specs.Prelude.{◌≡◌, ◌≤◌, IfOk, IfErr, OnErr, length};
 ghost use Rattle.std.specs.List.{flat_map};
 ghost use Rattle.console.specs.Builtin.{builtin_site};
+ghost use Rattle.profile.specs.LinkKind.{max_npdu};
 ghost use Rattle.console.specs.Respond.{Responds, SaysTo, datagram_of, datagram_to};
 
 use crate::hearing::{Sent, handed_up};
 use bvll::Bvll;
-use device::Device;
+use endpoint::Device;
 use npdu::{Mac, Parcel, Station, Target};
-use objects::{DataLink, SiteObject, SiteObjects, ValueKind};
+use objects::{SiteObject, SiteObjects, ValueKind};
+use profile::LinkKind;
 use std::alloc::{AllocError, Allocator};
 use std::marker::Model;
 use tags::{Fault, Items, Octets, Value};
@@ -36,9 +38,6 @@ impl<A: Allocator + Copy> Model for Builtin<A> {
 
 /// The address of the built-in device: 127.0.0.1:47808.
 const ADDRESS: Mac = Mac::Six([127, 0, 0, 1, 0xBA, 0xC0]);
-
-/// The longest NPDU on the link, in octets.
-const LONGEST_NPDU: usize = 1497;
 
 impl<A: Allocator + Copy> Builtin<A> {
     ghost use Rattle.std.specs.Prelude.{◌≡◌, IfOk, IfErr};
@@ -91,7 +90,7 @@ fn builtin_site<A: Allocator + Copy>(alloc: A) -> Result<SiteObjects<A>, AllocEr
         name: Octets::from_slice(alloc, b"device")?,
         instance: 99,
         vendor: 0,
-        data_link: DataLink::BacnetIp,
+        data_link: LinkKind::BacnetIp,
         objects,
     })
 }
@@ -163,7 +162,7 @@ fn datagrams<A: Allocator + Copy>(
 {
     let mut said = Items::new(alloc);
     for parcel in parcels {
-        if parcel.npdu.len() <= LONGEST_NPDU {
+        if parcel.npdu.len() <= usize::from(LinkKind::BacnetIp.max_npdu()) {
             said.push(datagram_to(alloc, parcel.to, parcel.npdu.as_slice())?)?;
         }
     }
@@ -172,7 +171,7 @@ fn datagrams<A: Allocator + Copy>(
 
 /// The datagram of an NPDU to a target.
 fn datagram_to<A: Allocator + Copy>(alloc: A, to: Target, npdu: &[u8]) -> Result<Octets<A>, Fault>
-    requires { length npdu.now ≤ 1497 }
+    requires { length npdu.now ≤ max_npdu LinkKind.BacnetIp }
     ensures datagram { IfOk result (λ octets. octets ≡ datagram_to to npdu.now) }
     ensures memory { IfErr result (λ fault. fault ≡ Fault.Memory) }
 {

@@ -16,9 +16,9 @@ use crate::lines::{
     print_tag, print_transaction,
 };
 use crate::refusal::say_failed;
+use apdu::{Apdu, Segment};
 use bvll::Bvll;
 use npdu::View;
-use services::{Apdu, Segment};
 use std::alloc::Allocator;
 use std::io;
 use std::io::Write;
@@ -107,7 +107,14 @@ fn print_carried<W: Write>(bvll: Bvll<'_>, octets: &[u8], out: &mut W) -> Result
         Bvll::DistributeBroadcastToNetwork(npdu)
         | Bvll::OriginalUnicastNpdu(npdu)
         | Bvll::OriginalBroadcastNpdu(npdu) => print_npdu(npdu, out),
-        _ => Ok(print_contents(octets, out)?),
+        Bvll::Result(_)
+        | Bvll::WriteBroadcastDistributionTable(_)
+        | Bvll::ReadBroadcastDistributionTable
+        | Bvll::ReadBroadcastDistributionTableAck(_)
+        | Bvll::RegisterForeignDevice { .. }
+        | Bvll::ReadForeignDeviceTable
+        | Bvll::ReadForeignDeviceTableAck(_)
+        | Bvll::DeleteForeignDeviceTableEntry(_) => Ok(print_contents(octets, out)?),
     }
 }
 

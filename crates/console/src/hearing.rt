@@ -41,6 +41,14 @@ pub(crate) fn handed_up(own: Mac, from: Mac, datagram: &[u8]) -> Option<Sent<'_>
             to: Target::All,
             npdu,
         }),
-        _ => None,
+        Bvll::Result(_)
+        | Bvll::WriteBroadcastDistributionTable(_)
+        | Bvll::ReadBroadcastDistributionTable
+        | Bvll::ReadBroadcastDistributionTableAck(_)
+        | Bvll::RegisterForeignDevice { .. }
+        | Bvll::ReadForeignDeviceTable
+        | Bvll::ReadForeignDeviceTableAck(_)
+        | Bvll::DeleteForeignDeviceTableEntry(_)
+        | Bvll::DistributeBroadcastToNetwork(_) => None,
     }
 }

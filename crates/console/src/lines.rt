@@ -11,8 +11,8 @@ ghost use Rattle.console.specs.Text.{pairs, dashed, contents_text, control_text,
 ghost use Rattle.console.specs.Text.{octets_text, message_text, has_flags, has_sizes, flags_text, transaction_text};
 ghost use Rattle.console.specs.Text.{segment_ack_text, reason_text, class_word, tag_line};
 
+use apdu::{Apdu, PduType, Segment};
 use npdu::{Destination, Message, Source};
-use services::{Apdu, PduType, Segment};
 use std::fmt::{Display, Formatter};
 use std::io::Write;
 use std::{fmt, io};

@@ -3,3 +3,4 @@ pub mod HeardLaws
 pub mod ServerLaws
 pub mod ServeLaws
 pub mod SayLaws
+pub mod SupportedLaws

@@ -1,10 +1,10 @@
 -- What a server's link carries stays as it is.
 use Rattle.std.proofs.Common.{◌≡◌, refl, ℕ}
 use Rattle.server_tsm.specs.Server.{ServerTsmState, committed}
-use Rattle.server_tsm.specs.declared.plan.Change.{Change}
-use Rattle.server_tsm.specs.declared.plan.Change.TheVariants.{Stays, Says, Gathers, GivesUp, Executes, Wakes}
+use Rattle.server_answers.specs.declared.plan.ServerChange.{ServerChange}
+use Rattle.server_answers.specs.declared.plan.ServerChange.TheVariants.{Stays, Says, Gathers, GivesUp, Executes, Wakes}
 
-pub same_size : {A : Type 0} (now : ℕ) (change : Change A) (st : ServerTsmState A) → (committed now change st).max_apdu ≡ st.max_apdu
+pub same_size : {A : Type 0} (now : ℕ) (change : ServerChange A) (st : ServerTsmState A) → (committed now change st).max_apdu ≡ st.max_apdu
 same_size now Stays st = refl
 same_size now (Says saying) st = refl
 same_size now (Gathers a) st = refl

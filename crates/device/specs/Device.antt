@@ -9,8 +9,8 @@ use Rattle.npdu.specs.declared.mac.Mac.{Mac}
 use Rattle.npdu.specs.declared.mac.Station.{Station}
 use Rattle.object_model.specs.Objects.{PlainTable}
 use Rattle.object_model.specs.Site.{opening_table}
-use Rattle.object_model.specs.declared.site.DataLink.{DataLink}
-use Rattle.object_model.specs.declared.site.DataLink.TheVariants.{BacnetIp, MsTp}
+use Rattle.profile.specs.declared.link_kind.LinkKind.{LinkKind}
+use Rattle.profile.specs.declared.link_kind.LinkKind.TheVariants.{BacnetIp, MsTp}
 use Rattle.object_model.specs.declared.site.SiteObjects.{SiteObjects}
 use Rattle.server_tsm.specs.Server.{ServerTsmState, new_server, restarted}
 
@@ -24,7 +24,7 @@ pub record DeviceState (A : Type 0) : Type 0 where
   pub mac : Mac
 
 -- the longest APDU that a data link carries (9, J.1)
-abbrev pub size_of : DataLink → MaxApdu
+abbrev pub size_of : LinkKind → MaxApdu
 size_of BacnetIp = UpTo1476
 size_of MsTp = UpTo480
 

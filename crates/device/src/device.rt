@@ -4,17 +4,19 @@ ghost use Rattle.std.specs.Prelude.{◌≡◌};
 ghost use Rattle.device.specs.Device.{i_am_of, size_of};
 
 use crate::saying::said_parcels;
+use apdu::{IAm, MaxApdu, Segmentation};
 use npdu::{Mac, Parcel, Station};
-use objects::{DataLink, SiteObjects, Table};
+use objects::{SiteObjects, Table};
+use profile::LinkKind;
 use server_tsm::{Executed, ServerTsm};
-use services::{IAm, MaxApdu, ObjectExecutor, Segmentation};
+use services::ObjectExecutor;
 use std::alloc::{AllocError, Allocator};
 use std::marker::Model;
 use tags::{Fault, Items};
 
 /// What comes of an input.
 #[derive(Drop)]
-pub struct Told<A: Allocator> {
+pub struct DeviceTold<A: Allocator> {
     /// What is said, in order.
     pub said: Items<Parcel<A>, A>,
     /// The request that was executed, if one was: its asker, and what the objects replied.
@@ -51,12 +53,12 @@ impl<A: Allocator + Copy> Model for Device<A> {
 }
 
 /// The longest APDU that a data link carries.
-fn size_of(data_link: DataLink) -> MaxApdu
+fn size_of(data_link: LinkKind) -> MaxApdu
     ensures { result ≡ size_of data_link }
 {
     match data_link {
-        DataLink::BacnetIp => MaxApdu::UpTo1476,
-        DataLink::MsTp => MaxApdu::UpTo480,
+        LinkKind::BacnetIp => MaxApdu::UpTo1476,
+        LinkKind::MsTp => MaxApdu::UpTo480,
     }
 }
 
@@ -64,10 +66,11 @@ impl<A: Allocator + Copy> Device<A> {
     ghost use Rattle.std.specs.Prelude.{◌≡◌, ◌⊎◌, ◌≤◌, ◌^◌, IfOk, IfErr, OnOk, OnErr};
     ghost use Rattle.object_model.specs.Site.{IsFaultySite};
     ghost use Rattle.server_tsm.specs.Server.{committed};
-    ghost use Rattle.server_tsm.specs.Steps.{effects_of};
+    ghost use Rattle.server_tsm.specs.Steps.{told_of_plan};
     ghost use Rattle.server_tsm.specs.Waking.{woken};
     ghost use Rattle.device.specs.Device.{i_am_of, new_device, restarts};
     ghost use Rattle.device.specs.Saying.{told_of};
+    ghost use Rattle.profile.specs.Times.{MAX_MOMENT_MS};
 
     /// A device at this address as it opens with the objects of its site, whose memory will be that of `alloc`.
     ///
@@ -151,11 +154,11 @@ impl<A: Allocator + Copy> Device<A> {
     /// # Errors
     /// `Memory` alone. The device is then as it was.
     #[tactic(auto, using(crate::proofs::ServerLaws::size_rules))]
-    pub fn on_tick(&mut self, now: u64) -> Result<Told<A>, Fault>
-        requires greatest { now ≤ 2 ^ 62 }
+    pub fn on_tick(&mut self, now: u64) -> Result<DeviceTold<A>, Fault>
+        requires greatest { now ≤ MAX_MOMENT_MS }
         requires order { self.old.server.moment ≤ now }
         ensures told { IfOk result (λ told. told ≡
-            told_of now self.old.mac (effects_of (woken now self.old.server.records))) }
+            told_of now self.old.mac (told_of_plan (woken now self.old.server.records))) }
         ensures left { OnOk result (self.new ≡ record self.old {
           server = committed now (woken now self.old.server.records).change self.old.server;
         }) }
@@ -165,13 +168,13 @@ impl<A: Allocator + Copy> Device<A> {
         let plan = self.server.plan_tick(now)?;
         let said = said_parcels(self.alloc, self.mac, now, &plan)?;
         let executed = self.server.commit(plan, now)?;
-        Ok(Told { said, executed })
+        Ok(DeviceTold { said, executed })
     }
 
     /// Restarts at the moment `now`, in milliseconds, with these objects: it forgets all that it remembers and
-    /// assembles, and takes no request for 13000. It takes no memory, and says nothing.
+    /// gathers, and takes no request for 13000. It takes no memory, and says nothing.
     pub fn restart(&mut self, opening: Table<A>, now: u64)
-        requires greatest { now ≤ 2 ^ 62 }
+        requires greatest { now ≤ MAX_MOMENT_MS }
         requires order { self.old.server.moment ≤ now }
         ensures { self.new ≡ restarts now opening self.old }
     {

@@ -4,21 +4,20 @@ ghost use Rattle.std.specs.Prelude.{◌≡◌};
 ghost use Rattle.device.specs.Hearing.{origin_of, silence};
 ghost use Rattle.unitdata.specs.Heard.{heard_of};
 
-use crate::device::{Device, Told};
+use crate::device::{Device, DeviceTold};
 use crate::saying::{i_am_parcel, said_parcels};
+use apdu::Apdu;
 use npdu::Parcel;
 use server_tsm::Origin;
-use services::Apdu;
-use station_rules::asks_who;
 use std::alloc::Allocator;
 use tags::{Fault, Items};
-use unitdata::{Content, Heard, hear};
+use unitdata::{Content, Heard, asks_who, hear};
 
 /// Nothing is said, and nothing executed.
-fn silence<A: Allocator + Copy>(alloc: A) -> Told<A>
+fn silence<A: Allocator + Copy>(alloc: A) -> DeviceTold<A>
     ensures { result ≡ silence }
 {
-    Told {
+    DeviceTold {
         said: Items::new(alloc),
         executed: None,
     }
@@ -40,6 +39,7 @@ impl<A: Allocator + Copy> Device<A> {
     ghost use Rattle.apdu.specs.Apdu.{HasNamedNumbers, apdu_of};
     ghost use Rattle.device.specs.Hearing.{AnswersWho, DeviceHears, Does, Serves};
     ghost use Rattle.unitdata.specs.Hearing.{BringsSomething, says};
+    ghost use Rattle.profile.specs.Times.{MAX_MOMENT_MS};
 
     /// Hears a parcel at the moment `now`, in milliseconds, and answers what is said and executed (5.4.5, 6.5,
     /// 16.10.2). A parcel that brings nothing to the device, for its header or its destination, is never refused.
@@ -47,8 +47,8 @@ impl<A: Allocator + Copy> Device<A> {
     /// # Errors
     /// `Memory` alone. The device is then as it was.
     #[tactic(auto, using(crate::proofs::ServeLaws::heard_rules))]
-    pub fn on_parcel(&mut self, parcel: &Parcel<A>, now: u64) -> Result<Told<A>, Fault>
-        requires greatest { now ≤ 2 ^ 62 }
+    pub fn on_parcel(&mut self, parcel: &Parcel<A>, now: u64) -> Result<DeviceTold<A>, Fault>
+        requires greatest { now ≤ MAX_MOMENT_MS }
         requires order { self.old.server.moment ≤ now }
         ensures step { IfOk result (λ told.
             DeviceHears now parcel.now.from parcel.now.to parcel.now.npdu self.old told self.new) }
@@ -67,8 +67,13 @@ impl<A: Allocator + Copy> Device<A> {
     }
 
     /// What it does on an APDU from there.
-    fn on_apdu(&mut self, origin: &Origin, apdu: &Apdu<'_>, now: u64) -> Result<Told<A>, Fault>
-        requires greatest { now ≤ 2 ^ 62 }
+    fn on_apdu(
+        &mut self,
+        origin: &Origin,
+        apdu: &Apdu<'_>,
+        now: u64,
+    ) -> Result<DeviceTold<A>, Fault>
+        requires greatest { now ≤ MAX_MOMENT_MS }
         requires order { self.old.server.moment ≤ now }
         requires named { HasNamedNumbers apdu.now }
         ensures does { IfOk result (λ told. Does now origin.now (says (apdu_of apdu.now)) self.old told self.new) }
@@ -82,7 +87,7 @@ impl<A: Allocator + Copy> Device<A> {
     }
 
     /// What it says to an unconfirmed request.
-    fn answer_who(&self, service: u8, data: &[u8], now: u64) -> Result<Told<A>, Fault>
+    fn answer_who(&self, service: u8, data: &[u8], now: u64) -> Result<DeviceTold<A>, Fault>
         ensures answers { IfOk result (AnswersWho now self.now service data.now) }
         ensures cause { IfErr result (λ fault. fault ≡ Fault.Memory) }
     {
@@ -91,7 +96,7 @@ impl<A: Allocator + Copy> Device<A> {
         }
         let mut said = Items::new(self.alloc);
         said.push(i_am_parcel(self.alloc, self.mac, now, &self.i_am())?)?;
-        Ok(Told {
+        Ok(DeviceTold {
             said,
             executed: None,
         })
@@ -99,8 +104,8 @@ impl<A: Allocator + Copy> Device<A> {
 
     /// What its server does on an APDU. Nothing takes memory once the server has changed.
     #[tactic(auto, using(crate::proofs::ServerLaws::size_rules))]
-    fn serve(&mut self, origin: &Origin, apdu: &Apdu<'_>, now: u64) -> Result<Told<A>, Fault>
-        requires greatest { now ≤ 2 ^ 62 }
+    fn serve(&mut self, origin: &Origin, apdu: &Apdu<'_>, now: u64) -> Result<DeviceTold<A>, Fault>
+        requires greatest { now ≤ MAX_MOMENT_MS }
         requires order { self.old.server.moment ≤ now }
         requires named { HasNamedNumbers apdu.now }
         ensures serves { IfOk result (λ told. Serves now origin.now (apdu_of apdu.now) self.old told self.new) }
@@ -110,6 +115,6 @@ impl<A: Allocator + Copy> Device<A> {
         let plan = self.server.plan(origin, apdu, now)?;
         let said = said_parcels(self.alloc, self.mac, now, &plan)?;
         let executed = self.server.commit(plan, now)?;
-        Ok(Told { said, executed })
+        Ok(DeviceTold { said, executed })
     }
 }

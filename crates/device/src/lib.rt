@@ -13,8 +13,8 @@
 
 mod device;
 mod hearing;
-pub mod laws;
+mod laws;
 mod saying;
 
-pub use device::{Device, Told};
-pub use laws::one_heard;
+pub use device::{Device, DeviceTold};
+pub use laws::{one_heard, services_are_supported, size_is_of_link};

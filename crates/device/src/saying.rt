@@ -3,33 +3,33 @@
 ghost use Rattle.std.specs.Prelude.{◌≡◌, ◌<◌, ◌^◌, ◌++◌, true, IfOk, IfErr, OnOk};
 ghost use Rattle.device.specs.Saying as spec;
 ghost use Rattle.device.specs.Saying.{i_am_npdu, i_am_parcel, npdu_of, parcel_of, parcel_to, parcels_of};
-ghost use Rattle.server_tsm.specs.Answering.{whole_said};
-ghost use Rattle.server_tsm.specs.Said.{said_way};
+ghost use Rattle.server_answers.specs.Answering.{whole_answer};
+ghost use Rattle.server_answers.specs.Said.{said_way};
 ghost use Rattle.unitdata.specs.Saying as header;
 
+use apdu::{Apdu, IAm, PduType, UnconfirmedService, write_i_am};
 use npdu::{Mac, Parcel, Target};
 use remembered::Record;
-use server_tsm::{Plan, Said, write_whole};
-use services::{Apdu, IAm, PduType, UnconfirmedService, write_i_am};
+use server_tsm::{ServerPlan, ServerSaid, write_whole};
 use std::alloc::Allocator;
 use tags::{Fault, Items, Octets};
 use unitdata::{begin, begin_global, is_spelled};
 
 /// Whether the sender of this waits for a reply to it.
-fn expects_reply<A: Allocator>(said: &Said<A>) -> bool
+fn expects_reply<A: Allocator>(said: &ServerSaid<A>) -> bool
     ensures { result ≡ spec.expects_reply said.now }
 {
     match said {
-        Said::Answer { .. } => station_rules::expects_reply(PduType::ComplexAck, false),
-        Said::Segment { .. } => station_rules::expects_reply(PduType::ComplexAck, true),
-        Said::SegmentAck { .. } => station_rules::expects_reply(PduType::SegmentAck, false),
-        Said::Reject { .. } => station_rules::expects_reply(PduType::Reject, false),
-        Said::Abort { .. } => station_rules::expects_reply(PduType::Abort, false),
+        ServerSaid::Answer { .. } => unitdata::expects_reply(PduType::ComplexAck, false),
+        ServerSaid::Segment { .. } => unitdata::expects_reply(PduType::ComplexAck, true),
+        ServerSaid::SegmentAck { .. } => unitdata::expects_reply(PduType::SegmentAck, false),
+        ServerSaid::Reject { .. } => unitdata::expects_reply(PduType::Reject, false),
+        ServerSaid::Abort { .. } => unitdata::expects_reply(PduType::Abort, false),
     }
 }
 
 /// The octets of the NPDU of what is said, written into one buffer.
-fn npdu_of<A: Allocator + Copy>(alloc: A, said: &Said<A>) -> Result<Octets<A>, Fault>
+fn npdu_of<A: Allocator + Copy>(alloc: A, said: &ServerSaid<A>) -> Result<Octets<A>, Fault>
     requires { header.is_spelled (said_way said.now).destination ≡ true }
     ensures npdu { IfOk result (λ octets. octets ≡ npdu_of said.now) }
     ensures memory { IfErr result (λ fault. fault ≡ Fault.Memory) }
@@ -44,7 +44,7 @@ fn parcel_to<A: Allocator + Copy>(
     alloc: A,
     mac: Mac,
     now: u64,
-    said: &Said<A>,
+    said: &ServerSaid<A>,
 ) -> Result<Parcel<A>, Fault>
     requires { header.is_spelled (said_way said.now).destination ≡ true }
     ensures parcel { IfOk result (λ parcel. parcel ≡ parcel_to now mac said.now) }
@@ -63,7 +63,7 @@ fn parcels_of<A: Allocator + Copy>(
     alloc: A,
     mac: Mac,
     now: u64,
-    says: &[Said<A>],
+    says: &[ServerSaid<A>],
 ) -> Result<Items<Parcel<A>, A>, Fault>
     ensures parcels { IfOk result (λ parcels. parcels ≡ parcels_of now mac says.now) }
     ensures memory { IfErr result (λ fault. fault ≡ Fault.Memory) }
@@ -86,10 +86,10 @@ fn answer_parcel<A: Allocator + Copy>(
     entry: &Record<A>,
 ) -> Result<Parcel<A>, Fault>
     requires { header.is_spelled entry.now.way.destination ≡ true }
-    ensures parcel { IfOk result (λ parcel. parcel ≡ parcel_to now mac (whole_said entry.now)) }
+    ensures parcel { IfOk result (λ parcel. parcel ≡ parcel_to now mac (whole_answer entry.now)) }
     ensures memory { IfErr result (λ fault. fault ≡ Fault.Memory) }
 {
-    let expects_reply = station_rules::expects_reply(PduType::ComplexAck, false);
+    let expects_reply = unitdata::expects_reply(PduType::ComplexAck, false);
     let mut npdu = begin(alloc, expects_reply, entry.way.destination)?;
     write_whole(entry, &mut npdu)?;
     Ok(Parcel {
@@ -108,7 +108,7 @@ fn push_answer<A: Allocator + Copy>(
     entry: &Record<A>,
     parcels: &mut Items<Parcel<A>, A>,
 ) -> Result<(), Fault>
-    ensures pushed { OnOk result (parcels.new ≡ parcels.old ++ parcel_of now mac (whole_said entry.now)) }
+    ensures pushed { OnOk result (parcels.new ≡ parcels.old ++ parcel_of now mac (whole_answer entry.now)) }
     ensures memory { IfErr result (λ fault. fault ≡ Fault.Memory) }
 {
     if is_spelled(entry.way.destination) {
@@ -123,14 +123,14 @@ pub(crate) fn said_parcels<A: Allocator + Copy>(
     alloc: A,
     mac: Mac,
     now: u64,
-    plan: &Plan<A>,
+    plan: &ServerPlan<A>,
 ) -> Result<Items<Parcel<A>, A>, Fault>
     ensures parcels { IfOk result (λ parcels. parcels ≡ parcels_of now mac plan.now.said) }
     ensures memory { IfErr result (λ fault. fault ≡ Fault.Memory) }
 {
-    let spoken = plan.spoken();
-    let mut parcels = parcels_of(alloc, mac, now, spoken.listed)?;
-    if let Some(entry) = spoken.whole {
+    let said = plan.said();
+    let mut parcels = parcels_of(alloc, mac, now, said.listed)?;
+    if let Some(entry) = said.whole {
         push_answer(alloc, mac, now, entry, &mut parcels)?;
     }
     Ok(parcels)

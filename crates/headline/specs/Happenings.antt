@@ -5,7 +5,7 @@ use Rattle.history.specs.declared.Entry.{Entry}
 use Rattle.history.specs.declared.Entry.TheVariants.{Issue, Executed, Answered, Ended, Restarted}
 use Rattle.history.specs.Pieces.{piece, has_more}
 use Rattle.history.specs.Book.{Issued, Head, Answer, Simple, Complex, Failed, Body, Asks, Asks_piece, Tells, Tells_piece, Refuses, I_am, Other, Destination, Unicast, Broadcast, Message, Book, last_issue}
-use Rattle.headline.specs.Profile.{Profile, Site}
+use Rattle.headline.specs.Protocol.{Protocol, Site}
 use Rattle.headline.specs.Stations.{Transaction, Client, Record, Device, new_client, new_device, issued, restarted}
 
 -- the book, and what each station knows: as a client, and as a device
@@ -30,7 +30,7 @@ with_entry e b = record b { history = b.history ++ e ∷ [] }
 abbrev pub issue_of : {S Q R : Type 0} → ℕ → Issued S Q → Entry S Q R
 issue_of i x = Issue i x.client x.instance x.request x.moment
 
--- .. and the book with it
+-- the book behind which this is issued
 abbrev pub with_issue : {S Q R : Type 0} → Issued S Q → Book S Q R → Book S Q R
 with_issue x b =
     record b { issues = b.issues ++ x ∷ []; history = b.history ++ issue_of (length b.issues) x ∷ [] }
@@ -40,7 +40,7 @@ abbrev pub told : {S Q R : Type 0} → (ℕ → Entry S Q R) → Option ℕ → 
 told entry None h = h
 told entry (Some i) h = h ++ entry i ∷ []
 
--- .. and the book with it
+-- the book behind which this is told of an issue, if of any
 abbrev pub tell : {S Q R : Type 0} → (ℕ → Entry S Q R) → Option ℕ → Book S Q R → Book S Q R
 tell entry i b = record b { history = told entry i b.history }
 
@@ -60,11 +60,11 @@ closing (Gives r) now i = Answered i r now
 closing (Fails why) now i = Ended i why now
 
 -- the head of a transaction's request
-abbrev pub head : {S Q R T : Type 0} → Profile S Q R T → Transaction S Q → Head
+abbrev pub head : {S Q R T : Type 0} → Protocol S Q R T → Transaction S Q → Head
 head p o = record { service = p.service o.request; room = o.room }
 
 -- by what a client asks: the request of the transaction, or a piece of it
-abbrev pub asking : {S Q R T : Type 0} → Profile S Q R T → Part → Transaction S Q → Body
+abbrev pub asking : {S Q R T : Type 0} → Protocol S Q R T → Part → Transaction S Q → Body
 asking p Whole o = Asks o.invoke_id (head p o) (p.request_octets o.request)
 asking p (Piece n) o = Asks_piece o.invoke_id (head p o) n
     (has_more o.chunk n (p.request_octets o.request)) (piece o.chunk n (p.request_octets o.request))
@@ -102,7 +102,7 @@ issue_by now c st d n q chunk room =
     }
 
 -- a client issues a request, to the station that it takes the instance to be
-abbrev pub issues : {S Q R T : Type 0} → Profile S Q R T → S → S → ℕ → Q → ℕ → ℕ → Core S Q R T → Core S Q R T
+abbrev pub issues : {S Q R T : Type 0} → Protocol S Q R T → S → S → ℕ → Q → ℕ → ℕ → Core S Q R T → Core S Q R T
 issues p c d n q chunk room w =
     record w {
       book = with_issue (issue_by w.book.moment c (w.clients c) d n q chunk room) w.book;
@@ -110,7 +110,7 @@ issues p c d n q chunk room w =
     }
 
 -- a client closes a transaction, and tells how
-abbrev pub closes : {S Q R T : Type 0} → Profile S Q R T → S → ℕ → List (Transaction S Q) → Outcome R →
+abbrev pub closes : {S Q R T : Type 0} → Protocol S Q R T → S → ℕ → List (Transaction S Q) → Outcome R →
     Core S Q R T → Core S Q R T
 closes p c id left how w =
     record w {
@@ -119,7 +119,8 @@ closes p c id left how w =
     }
 
 -- a device executes a request for the client and invoke ID of a record, and tells its reply
-abbrev pub executes : {S Q R T : Type 0} → Profile S Q R T → S → Q → Record S → Device S T → Core S Q R T → Core S Q R T
+abbrev pub executes : {S Q R T : Type 0} → Protocol S Q R T → S → Q → Record S → Device S T → Core S Q R T →
+    Core S Q R T
 executes p d q k st w =
     let r = p.reply (w.devices d).table q in
     record w {
@@ -128,7 +129,7 @@ executes p d q k st w =
     }
 
 -- a device restarts
-abbrev pub restarts : {S Q R T : Type 0} → Profile S Q R T → T → S → ℕ → Core S Q R T → Core S Q R T
+abbrev pub restarts : {S Q R T : Type 0} → Protocol S Q R T → T → S → ℕ → Core S Q R T → Core S Q R T
 restarts p opening d n w =
     record w {
       book = with_entry (Restarted n w.book.moment) w.book;
@@ -152,7 +153,7 @@ pub data Happening (S Q R T : Type 0) : Type 0 where
   Says_other : (s : S) (to : Destination S) → Happening S Q R T
 
 -- what comes of it. Where the state of a station changes freely, the happening names the new one
-abbrev pub happens : {S Q R T : Type 0} → Profile S Q R T → Site S T → Core S Q R T → Happening S Q R T →
+abbrev pub happens : {S Q R T : Type 0} → Protocol S Q R T → Site S T → Core S Q R T → Happening S Q R T →
     Core S Q R T
 happens p s w (Ticks n) = record w { book = record w.book { moment = w.book.moment + n } }
 happens p s w (Issues c d n q chunk room) = issues p c d n q chunk room w
@@ -168,13 +169,13 @@ happens p s w (Says_no d to id why) = says d to (Refuses id why ∷ []) w
 happens p s w (Says_other d to) = says d to (Other ∷ []) w
 
 -- one after another
-abbrev pub run : {S Q R T : Type 0} → Profile S Q R T → Site S T → List (Happening S Q R T) → Core S Q R T →
+abbrev pub run : {S Q R T : Type 0} → Protocol S Q R T → Site S T → List (Happening S Q R T) → Core S Q R T →
     Core S Q R T
 run p s [] w = w
 run p s (h ∷ hs) w = run p s hs (happens p s w h)
 
 -- nothing has happened, and each device has its opening table
-abbrev pub start : {S Q R T : Type 0} → Profile S Q R T → Site S T → Core S Q R T
+abbrev pub start : {S Q R T : Type 0} → Protocol S Q R T → Site S T → Core S Q R T
 start p s =
     record {
       book = record { moment = 0; issues = []; said = []; history = [] };
@@ -183,5 +184,5 @@ start p s =
     }
 
 -- all stations after these happenings, from the start
-abbrev pub after_all : {S Q R T : Type 0} → Profile S Q R T → Site S T → List (Happening S Q R T) → Core S Q R T
+abbrev pub after_all : {S Q R T : Type 0} → Protocol S Q R T → Site S T → List (Happening S Q R T) → Core S Q R T
 after_all p s hs = run p s hs (start p s)

@@ -1,4 +1,4 @@
-pub mod Profile
+pub mod Protocol
 pub mod Stations
 pub mod Happenings
 pub mod Honest

@@ -1,18 +1,18 @@
 -- Words for the records of a device that are kept in order of execution, for those who keep them so.
 use Rattle.std.specs.Prelude.{ℕ, ◌+◌, ◌≤◌, ◌==◌, nat_le, ◌&&◌, Bool, cond, List, [], ◌∷◌, Option, Some, None}
-use Rattle.history.specs.Numbers.{KEEP}
+use Rattle.profile.specs.Times.{KEEP_MS}
 use Rattle.history.specs.Lists.{last_of_those}
 use Rattle.headline.specs.Stations.{Record}
 
 -- the record lives
 abbrev pub lives : {S : Type 0} → ℕ → Record S → Bool
-lives now k = nat_le now (k.moment + KEEP)
+lives now k = nat_le now (k.moment + KEEP_MS)
 
 -- the record is for this client and invoke ID
 abbrev pub is_of : {S : Type 0} → (S → S → Bool) → S → ℕ → Record S → Bool
 is_of same c id k = same k.client c && (k.invoke_id == id)
 
--- .. and lives
+-- the record is of this request, and lives
 abbrev pub is_remembered : {S : Type 0} → (S → S → Bool) → ℕ → S → ℕ → Record S → Bool
 is_remembered same now c id k = is_of same c id k && lives now k
 

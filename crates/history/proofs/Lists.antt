@@ -1,5 +1,6 @@
 -- Lemmas on what stands in a list, by place and by count.
-use Rattle.std.proofs.Common.{◌≡◌, ◌⊎◌, ℕ, zero, suc, ◌+◌, ◌<◌, ◌≤◌, Bool, true, false, cond, List, [], ◌∷◌, ◌++◌, length, take, Some, None, refl, sym, ap, ◌∙◌, subst, inl, inr, ⊎_elim, arith}
+use Rattle.std.proofs.Common.{◌≡◌, ◌⊎◌, ℕ, zero, suc, ◌+◌, ◌<◌, ◌≤◌, Bool, true, false, cond, List, [], ◌∷◌, ◌++◌, length, take, Some, None, refl, sym, ap, ◌∙◌}
+use Rattle.std.proofs.Common.{subst, inl, inr, ⊎_elim, arith}
 use Rattle.std.specs.Prelude.{Option, slice_get, filter, ◌==◌}
 use Rattle.std.proofs.lemmas.List.{take-append-le}
 use Rattle.std.proofs.lemmas.Bool.{false_from_ne_true, eqb-true, eqb-false}
@@ -27,7 +28,8 @@ get_last [] y = refl
 get_last (x ∷ xs) y = get_last xs y
 
 -- what stands in a list with one more stood there, or is the new one
-pub get_split : {X : Type 0} (xs : List X) (y : X) (k : ℕ) (p : X) → slice_get (xs ++ y ∷ []) k ≡ Some p → (slice_get xs k ≡ Some p) ⊎ ((k ≡ length xs) × (y ≡ p))
+pub get_split : {X : Type 0} (xs : List X) (y : X) (k : ℕ) (p : X) → slice_get (xs ++ y ∷ []) k ≡ Some p → (slice_get xs k ≡ Some p) ⊎
+    ((k ≡ length xs) × (y ≡ p))
 get_split [] y zero p e = inr (refl, (cc))
 get_split [] y (suc k) p e = absurd (cc)
 get_split (x ∷ xs) y zero p e = inl e
@@ -83,7 +85,8 @@ count_other f h e t =
     omega arith
 
 -- what is counted stands there
-has_counted_by : {X : Type 0} (p : X → Bool) (x : X) (xs : List X) → (0 < count p xs → (y : X) × Has xs y × (p y ≡ true)) → (b : Bool) → p x ≡ b → 0 < cond b 1 0 + count p xs → (y : X) × Has (x ∷ xs) y × (p y ≡ true)
+has_counted_by : {X : Type 0} (p : X → Bool) (x : X) (xs : List X) → (0 < count p xs → (y : X) × Has xs y × (p y ≡ true)) → (b : Bool) → p x ≡ b →
+    0 < cond b 1 0 + count p xs → (y : X) × Has (x ∷ xs) y × (p y ≡ true)
 has_counted_by p x xs ih true e h = (x, has 0 refl, e)
 has_counted_by p x xs ih false e h =
     let found = ih (omega arith) in
@@ -99,7 +102,8 @@ one_counted f [] k y b u = absurd (cc)
 one_counted f (z ∷ xs) zero y b u = let same : z ≡ y = cc in let now : f z ≡ true = subst (λ w. f w ≡ true) (sym same) u in rw now (omega arith)
 one_counted f (z ∷ xs) (suc k) y b u = let rest = one_counted f xs k y b u in omega arith
 
-pub two_counted : {X : Type 0} (f : X → Bool) (xs : List X) (j k : ℕ) (x y : X) → j < k → slice_get xs j ≡ Some x → slice_get xs k ≡ Some y → f x ≡ true → f y ≡ true → 2 ≤ count f xs
+pub two_counted : {X : Type 0} (f : X → Bool) (xs : List X) (j k : ℕ) (x y : X) → j < k → slice_get xs j ≡ Some x → slice_get xs k ≡ Some y → f x ≡ true →
+    f y ≡ true → 2 ≤ count f xs
 two_counted f [] j k x y l a b t u = absurd (cc)
 two_counted f (z ∷ xs) j zero x y l a b t u = absurd (omega arith)
 two_counted f (z ∷ xs) zero (suc k) x y l a b t u =
@@ -114,7 +118,8 @@ last_has_here : {X : Type 0} (p : X → Bool) (x : X) (rs : List X) (r : X) (b :
 last_has_here {X} p x rs r true t e = let same : x ≡ r = cc in (has 0 e, subst (λ (y : X). p y ≡ true) same t)
 last_has_here p x rs r false t e = absurd (cc)
 
-last_has_by : {X : Type 0} (p : X → Bool) (x : X) (rs : List X) (r : X) → (last_of_those p rs ≡ Some r → Has rs r × (p r ≡ true)) → (o : Option X) → last_of_those p rs ≡ o → first_of o (cond (p x) (Some x) None) ≡ Some r → Has (x ∷ rs) r × (p r ≡ true)
+last_has_by : {X : Type 0} (p : X → Bool) (x : X) (rs : List X) (r : X) → (last_of_those p rs ≡ Some r → Has rs r × (p r ≡ true)) → (o : Option X) →
+    last_of_those p rs ≡ o → first_of o (cond (p x) (Some x) None) ≡ Some r → Has (x ∷ rs) r × (p r ≡ true)
 last_has_by p x rs r ih (Some y) q e = let found = ih (q ∙ e) in (has_next x rs found.0, found.1)
 last_has_by p x rs r ih None q e = last_has_here p x rs r (p x) refl e
 
@@ -123,7 +128,8 @@ pub last_has : {X : Type 0} (p : X → Bool) (rs : List X) (r : X) → last_of_t
 last_has p [] r e = absurd (cc)
 last_has p (x ∷ rs) r e = last_has_by p x rs r (last_has p rs r) (last_of_those p rs) refl e
 
-last_none_by : {X : Type 0} (p : X → Bool) (x : X) (rs : List X) (r : X) → p r ≡ true → ((j : ℕ) → last_of_those p rs ≡ None → slice_get rs j ≡ Some r → ⊥) → (o : Option X) → last_of_those p rs ≡ o → (b : Bool) → p x ≡ b → first_of o (cond b (Some x) None) ≡ None → (j : ℕ) → slice_get (x ∷ rs) j ≡ Some r → ⊥
+last_none_by : {X : Type 0} (p : X → Bool) (x : X) (rs : List X) (r : X) → p r ≡ true → ((j : ℕ) → last_of_those p rs ≡ None → slice_get rs j ≡ Some r → ⊥) →
+    (o : Option X) → last_of_those p rs ≡ o → (b : Bool) → p x ≡ b → first_of o (cond b (Some x) None) ≡ None → (j : ℕ) → slice_get (x ∷ rs) j ≡ Some r → ⊥
 last_none_by p x rs r t ih (Some y) q b u z j g = (cc)
 last_none_by p x rs r t ih None q true u z j g = (cc)
 last_none_by {X} p x rs r t ih None q false u z zero g = let same : x ≡ r = cc in let now : p x ≡ true = subst (λ (y : X). p y ≡ true) (sym same) t in (cc)
@@ -142,9 +148,11 @@ pub last_filtered : {X : Type 0} (f g : X → Bool) (xs : List X) → ((x : X) �
 last_filtered f g [] h = refl
 last_filtered {X} f g (x ∷ xs) h = by_test (last_filtered f g xs h) (g x) refl
   where
-    by_test : last_of_those f (filter g xs) ≡ last_of_those f xs → (b : Bool) → g x ≡ b → last_of_those f (cond b (x ∷ filter g xs) (filter g xs)) ≡ first_of (last_of_those f xs) (cond (f x) (Some x) None)
+    by_test : last_of_those f (filter g xs) ≡ last_of_those f xs → (b : Bool) → g x ≡ b →
+        last_of_those f (cond b (x ∷ filter g xs) (filter g xs)) ≡ first_of (last_of_those f xs) (cond (f x) (Some x) None)
     by_test ih true t = ap (λ o. first_of o (cond (f x) (Some x) None)) ih
-    by_test ih false t = ih ∙ sym (ap (λ b. first_of (last_of_those f xs) (cond b (Some x) None)) (false_from_ne_true _ (λ u. let v = h x u in (cc))) ∙ none_later (last_of_those f xs))
+    by_test ih false t = ih ∙ sym (ap (λ b. first_of (last_of_those f xs) (cond b (Some x) None)) (false_from_ne_true _ (λ u. let v = h x u in (cc)))
+        ∙ none_later (last_of_those f xs))
       where
         none_later : (o : Option X) → first_of o None ≡ o
         none_later None = refl
@@ -156,7 +164,8 @@ last_added f [] y t = ap (λ b. cond b (Some y) None) t
 last_added f (x ∷ xs) y t = ap (λ o. first_of o (cond (f x) (Some x) None)) (last_added f xs y t)
 
 -- what is left of a list stood there and passes the test ..
-filter_has_by : {X : Type 0} (p : X → Bool) (x : X) (xs : List X) (y : X) → ((j : ℕ) → slice_get (filter p xs) j ≡ Some y → Has xs y × (p y ≡ true)) → (b : Bool) → p x ≡ b → (k : ℕ) → slice_get (cond b (x ∷ filter p xs) (filter p xs)) k ≡ Some y → Has (x ∷ xs) y × (p y ≡ true)
+filter_has_by : {X : Type 0} (p : X → Bool) (x : X) (xs : List X) (y : X) → ((j : ℕ) → slice_get (filter p xs) j ≡ Some y → Has xs y × (p y ≡ true)) →
+    (b : Bool) → p x ≡ b → (k : ℕ) → slice_get (cond b (x ∷ filter p xs) (filter p xs)) k ≡ Some y → Has (x ∷ xs) y × (p y ≡ true)
 filter_has_by p x xs y ih true t zero e = let same : x ≡ y = cc in (has 0 e, subst (λ z. p z ≡ true) same t)
 filter_has_by p x xs y ih true t (suc k) e = let found = ih k e in (has_next x xs found.0, found.1)
 filter_has_by p x xs y ih false t k e = let found = ih k e in (has_next x xs found.0, found.1)
@@ -169,7 +178,8 @@ pub filter_has : {X : Type 0} (p : X → Bool) (xs : List X) (x : X) → Has (fi
 filter_has p xs x h = filter_has_at p xs x h.place h.at_place
 
 -- .. and what passes is left
-has_filter_by : {X : Type 0} (p : X → Bool) (x : X) (xs : List X) (y : X) → p y ≡ true → ((j : ℕ) → slice_get xs j ≡ Some y → Has (filter p xs) y) → (b : Bool) → p x ≡ b → (k : ℕ) → slice_get (x ∷ xs) k ≡ Some y → Has (cond b (x ∷ filter p xs) (filter p xs)) y
+has_filter_by : {X : Type 0} (p : X → Bool) (x : X) (xs : List X) (y : X) → p y ≡ true → ((j : ℕ) → slice_get xs j ≡ Some y → Has (filter p xs) y) →
+    (b : Bool) → p x ≡ b → (k : ℕ) → slice_get (x ∷ xs) k ≡ Some y → Has (cond b (x ∷ filter p xs) (filter p xs)) y
 has_filter_by p x xs y t ih true q zero e = has 0 e
 has_filter_by p x xs y t ih true q (suc k) e = has_next x (filter p xs) (ih k e)
 has_filter_by p x xs y t ih false q zero e = let same : x ≡ y = cc in let no : p y ≡ false = subst (λ z. p z ≡ false) same q in absurd (cc)
@@ -201,7 +211,8 @@ get_within (x ∷ xs) zero l = (x, refl)
 get_within (x ∷ xs) (suc k) l = get_within xs k (omega arith)
 
 -- what stands at a place of a list with one more
-get_added_by : {X : Type 0} (xs : List X) (y : X) (k : ℕ) → (t : Bool) → (length xs == k) ≡ t → (o : Option X) → slice_get xs k ≡ o → slice_get (xs ++ y ∷ []) k ≡ first_of o (cond t (Some y) None)
+get_added_by : {X : Type 0} (xs : List X) (y : X) (k : ℕ) → (t : Bool) → (length xs == k) ≡ t → (o : Option X) → slice_get xs k ≡ o →
+    slice_get (xs ++ y ∷ []) k ≡ first_of o (cond t (Some y) None)
 get_added_by xs y k true t (Some x) e = let l = slice_get_within xs k x e in let n = eqb-true _ _ t in absurd (omega arith)
 get_added_by xs y k true t None e = let n = eqb-true _ _ t in ap (slice_get (xs ++ y ∷ [])) (sym n) ∙ get_last xs y
 get_added_by xs y k false t (Some x) e = get_front xs (y ∷ []) k x e

@@ -26,4 +26,6 @@ gathers_more chunk body got n front = ap (λ l. l ++ piece chunk n body) front �
 
 -- and with the last one all
 pub gathers_all : (chunk : ℕ) (body got : List ℕ) (n : ℕ) → got ≡ take (n * chunk) body → has_more chunk n body ≡ false → got ++ piece chunk n body ≡ body
-gathers_all chunk body got n front none = ap (λ l. l ++ piece chunk n body) front ∙ take_then (n * chunk) chunk body ∙ take_all (n * chunk + chunk) body (ltb-false (n * chunk + chunk) (length body) none)
+gathers_all chunk body got n front none =
+    ap (λ l. l ++ piece chunk n body) front ∙ take_then (n * chunk) chunk body
+    ∙ take_all (n * chunk + chunk) body (ltb-false (n * chunk + chunk) (length body) none)

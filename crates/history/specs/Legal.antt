@@ -50,7 +50,7 @@ pub record IsIssuedBefore {S Q R : Type 0} (h : List (Entry S Q R)) (k i : ℕ) 
   pub there : Has h (Issue i client instance request moment)
   pub before : there.place < k
 
--- .. and each other entry of i stands after the issue i
+-- each entry of i that is no issue stands after the issue i
 abbrev pub StandAfterIssue : {S Q R : Type 0} → List (Entry S Q R) → Type 0
 StandAfterIssue {S} {Q} {R} h = (k i : ℕ) (e : Entry S Q R) → slice_get h k ≡ Some e → told_of e ≡ Some i →
     IsIssuedBefore h k i

@@ -1,4 +1,3 @@
-pub mod Numbers
 pub mod Lists
 pub mod Tests
 pub mod Pieces

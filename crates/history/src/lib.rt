@@ -3,7 +3,6 @@
 //!
 //! It has no code. To the layers above it gives an entry of a history as a type, and in `specs/` what they cite:
 //!
-//! - `Numbers`: the profile's times.
 //! - `Book`: issues, messages, and which issue an invoke ID stands for.
 //! - `Legal`: when a history is legal, each part by itself.
 //! - `Pieces`, `Lists`, `Tests`: parts of a body, what stands in a list, whether two are one.

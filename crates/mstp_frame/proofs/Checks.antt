@@ -1,5 +1,6 @@
 -- With its check octets what is left of a header is 55, and of data F0B8; and with no others.
-use Rattle.std.proofs.Common.{◌≡◌, ℕ, suc, ◌+◌, ◌*◌, ◌-◌, ◌/◌, ◌%◌, ◌==◌, ◌<◌, ◌≤◌, ◌^◌, Bool, true, false, List, [], ◌∷◌, ◌++◌, length, replicate, refl, ap, sym, subst, arith, ◌∙◌}
+use Rattle.std.proofs.Common.{◌≡◌, ℕ, suc, ◌+◌, ◌*◌, ◌-◌, ◌/◌, ◌%◌, ◌==◌, ◌<◌, ◌≤◌, ◌^◌, Bool, true, false, List, [], ◌∷◌, ◌++◌, length, replicate, refl, ap}
+use Rattle.std.proofs.Common.{sym, subst, arith, ◌∙◌}
 use Rattle.std.specs.Int.Bits.{bit_xor, xor_zero_l}
 use Rattle.std.proofs.lemmas.Nat.{xor_lt, xor_shr, xor_mod, xor_comm}
 use Rattle.std.proofs.Math.Nat.{pow-succ'}
@@ -38,7 +39,8 @@ register-lt d [] left lt = lt
 register-lt d (octet ∷ octets) left lt =
     let less : left / 256 ≤ left = omega arith in
     let next = bit_xor (left / 256) (octet_remainder d (bit_xor left octet)) in
-    register-lt d octets next (xor_lt (length d) (left / 256) (octet_remainder d (bit_xor left octet)) (omega (arith, lt, less)) (octet_remainder-lt d (bit_xor left octet)))
+    register-lt d octets next (xor_lt (length d) (left / 256) (octet_remainder d (bit_xor left octet)) (omega (arith, lt, less))
+    (octet_remainder-lt d (bit_xor left octet)))
 
 register-append : (d : List Bool) (xs ys : List ℕ) (left : ℕ) → register d left (xs ++ ys) ≡ register d (register d left xs) ys
 unfolding register
@@ -64,11 +66,14 @@ low_part d left octet x fits e =
 
 header_left : (octets : List ℕ) (check : ℕ) → header_remainder (octets ++ check ∷ []) ≡ next header_divisor (header_remainder octets) check
 unfolding register next
-header_left octets check = header_is (octets ++ check ∷ []) ∙ register-append header_divisor octets (check ∷ []) 255 ∙ ap (λ n. next header_divisor n check) (sym (header_is octets))
+header_left octets check = header_is (octets ++ check ∷ []) ∙ register-append header_divisor octets (check ∷ []) 255
+    ∙ ap (λ n. next header_divisor n check) (sym (header_is octets))
 
-data_left : (octets : List ℕ) (low high : ℕ) → data_remainder (octets ++ low ∷ high ∷ []) ≡ next data_divisor (next data_divisor (data_remainder octets) low) high
+data_left : (octets : List ℕ) (low high : ℕ) →
+    data_remainder (octets ++ low ∷ high ∷ []) ≡ next data_divisor (next data_divisor (data_remainder octets) low) high
 unfolding register next
-data_left octets low high = data_is (octets ++ low ∷ high ∷ []) ∙ register-append data_divisor octets (low ∷ high ∷ []) 65535 ∙ ap (λ n. next data_divisor (next data_divisor n low) high) (sym (data_is octets))
+data_left octets low high = data_is (octets ++ low ∷ high ∷ []) ∙ register-append data_divisor octets (low ∷ high ∷ []) 65535
+    ∙ ap (λ n. next data_divisor (next data_divisor n low) high) (sym (data_is octets))
 
 -- what the checker computes for each of the 256 octets
 complement : (x : ℕ) → x < 256 → bit_xor x (255 - x) ≡ 255
@@ -148,7 +153,8 @@ data_checks octets =
     let first : next data_divisor left low ≡ bit_xor (left / 256) 0x0F78 =
     low_part data_divisor left low 255 (omega arith) (complement (left % 256) (omega arith)) ∙ ap (bit_xor (left / 256)) first_entry in
     let last : next data_divisor (bit_xor (left / 256) 0x0F78) high ≡ 0xF0B8 =
-    low_part data_divisor (bit_xor (left / 256) 0x0F78) high 0x87 (omega arith) (ap (λ n. bit_xor n high) half.1 ∙ high_complement (left / 256) (omega (arith, lt)))
+    low_part data_divisor (bit_xor (left / 256) 0x0F78) high 0x87 (omega arith)
+    (ap (λ n. bit_xor n high) half.1 ∙ high_complement (left / 256) (omega (arith, lt)))
     ∙ ap (λ n. bit_xor n (octet_remainder data_divisor 0x87)) half.0 ∙ ap (bit_xor 0x0F) last_entry in
     ap (λ n. data_remainder (octets ++ n ∷ (65535 - left) / 256 % 256 ∷ [])) low_is ∙ ap (λ n. data_remainder (octets ++ low ∷ n ∷ [])) high_is
     ∙ data_left octets low high ∙ ap (λ n. next data_divisor n high) first ∙ last
@@ -158,19 +164,25 @@ high_part : (left octet : ℕ) → left < 65536 → octet < 256 → next data_di
 high_part left octet lt fits =
     let entry = octet_remainder data_divisor (bit_xor (left % 256) octet) in
     let none : left / 256 / 256 ≡ 0 = omega (arith, lt) in
-    ap (λ n. n / 256) (low_part data_divisor left octet (bit_xor (left % 256) octet) fits refl) ∙ xor_shr (left / 256) entry 8 ∙ ap (λ n. bit_xor n (entry / 256)) none ∙ xor_zero_l (entry / 256)
+    ap (λ n. n / 256) (low_part data_divisor left octet (bit_xor (left % 256) octet) fits refl) ∙ xor_shr (left / 256) entry 8
+    ∙ ap (λ n. bit_xor n (entry / 256)) none ∙ xor_zero_l (entry / 256)
 
-data_check_from : (left low high : ℕ) → left < 65536 → low < 256 → high < 256 → next data_divisor (next data_divisor left low) high ≡ 0xF0B8 → (low ≡ 255 - left % 256) × (high ≡ 255 - left / 256)
+data_check_from : (left low high : ℕ) → left < 65536 → low < 256 → high < 256 → next data_divisor (next data_divisor left low) high ≡ 0xF0B8 →
+    (low ≡ 255 - left % 256) × (high ≡ 255 - left / 256)
 unfolding next
 data_check_from left low high lt fits_low fits_high e =
     let first = next data_divisor left low in
-    let first-lt : first < 65536 = xor_lt 16 (left / 256) (octet_remainder data_divisor (bit_xor left low)) (omega (arith, lt)) (octet_remainder-lt data_divisor (bit_xor left low)) in
+    let first-lt : first < 65536 = xor_lt 16 (left / 256) (octet_remainder data_divisor (bit_xor left low)) (omega (arith, lt))
+    (octet_remainder-lt data_divisor (bit_xor left low)) in
     let x = bit_xor (first % 256) high in
-    let x_is : x ≡ 0x87 = eqb-true _ _ (sym (last_agrees x (xor_lt 8 (first % 256) high (omega arith) fits_high)) ∙ eq-eqb _ _ (sym (high_part first high first-lt fits_high) ∙ ap (λ n. n / 256) e)) in
-    let sum_is : bit_xor (first / 256) 0xF0B7 ≡ 0xF0B8 = ap (bit_xor (first / 256)) (sym last_entry) ∙ sym (low_part data_divisor first high 0x87 fits_high x_is) ∙ e in
+    let x_is : x ≡ 0x87 = eqb-true _ _ (sym (last_agrees x (xor_lt 8 (first % 256) high (omega arith) fits_high))
+    ∙ eq-eqb _ _ (sym (high_part first high first-lt fits_high) ∙ ap (λ n. n / 256) e)) in
+    let sum_is : bit_xor (first / 256) 0xF0B7 ≡ 0xF0B8 =
+    ap (bit_xor (first / 256)) (sym last_entry) ∙ sym (low_part data_divisor first high 0x87 fits_high x_is) ∙ e in
     let half_is : first / 256 ≡ 0x0F = xor_from 0xF0B7 (first / 256) 0xF0B8 0x0F (xor_comm 0xF0B7 (first / 256) ∙ sum_is) refl in
     let y = bit_xor (left % 256) low in
-    let y_is : y ≡ 255 = eqb-true _ _ (sym (first_agrees y (xor_lt 8 (left % 256) low (omega arith) fits_low)) ∙ eq-eqb _ _ (sym (high_part left low lt fits_low) ∙ half_is)) in
+    let y_is : y ≡ 255 = eqb-true _ _ (sym (first_agrees y (xor_lt 8 (left % 256) low (omega arith) fits_low))
+    ∙ eq-eqb _ _ (sym (high_part left low lt fits_low) ∙ half_is)) in
     let first_is : first ≡ bit_xor (left / 256) 0x0F78 = low_part data_divisor left low 255 fits_low y_is ∙ ap (bit_xor (left / 256)) first_entry in
     let half = first_half (left / 256) (omega (arith, lt)) in
     let z_is : bit_xor (bit_xor (left / 256) 0x78) high ≡ 0x87 = ap (λ n. bit_xor n high) (sym half.1 ∙ ap (λ n. n % 256) (sym first_is)) ∙ x_is in (
@@ -178,7 +190,8 @@ data_check_from left low high lt fits_low fits_high e =
       xor_from (bit_xor (left / 256) 0x78) high 0x87 (255 - left / 256) z_is (high_complement (left / 256) (omega (arith, lt))),
     )
 
-pub data_check_is : (octets : List ℕ) (low high : ℕ) → low < 256 → high < 256 → data_remainder (octets ++ low ∷ high ∷ []) ≡ 0xF0B8 → low ∷ high ∷ [] ≡ little_bytes 2 (65535 - data_remainder octets)
+pub data_check_is : (octets : List ℕ) (low high : ℕ) → low < 256 → high < 256 → data_remainder (octets ++ low ∷ high ∷ []) ≡ 0xF0B8 →
+    low ∷ high ∷ [] ≡ little_bytes 2 (65535 - data_remainder octets)
 data_check_is octets low high fits_low fits_high e =
     let left = data_remainder octets in
     let lt = data_remainder-lt octets in

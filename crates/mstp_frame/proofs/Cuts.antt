@@ -24,7 +24,8 @@ stream_is octets [] = ap (λ o. o ∷ []) (sym (append-nil octets))
 stream_is octets (piece next ∷ inputs) = stream_is (octets ++ next) inputs ∙ ap (λ o. o ∷ later_of inputs) (append_assoc octets next (rest_of inputs))
 stream_is octets (silence ∷ inputs) = ap (λ o. o ∷ stream_of [] inputs) (sym (append-nil octets))
 
-led : (octets left : List ℕ) (frame : Option PlainFrame) (inputs : List Input) (frames : List PlainFrame) → LeadsTo octets frame left → Heard (stream_of left inputs) frames → Heard (stream_of octets inputs) (option_to_list frame ++ frames)
+led : (octets left : List ℕ) (frame : Option PlainFrame) (inputs : List Input) (frames : List PlainFrame) → LeadsTo octets frame left →
+    Heard (stream_of left inputs) frames → Heard (stream_of octets inputs) (option_to_list frame ++ frames)
 led octets left frame inputs frames leads h =
     subst (λ s. Heard s (option_to_list frame ++ frames)) (sym (stream_is octets inputs))
     (leads.heard (rest_of inputs) (later_of inputs) frames (subst (λ s. Heard s frames) (stream_is left inputs) h))
@@ -39,6 +40,7 @@ heard_from _ _ _ (gives kept next after unused f inputs frames leads given) =
 pub given_is_heard : (inputs : List Input) (frames : List PlainFrame) → Gives [] inputs frames → Heard (stream_of [] inputs) frames
 given_is_heard inputs frames given = heard_from [] inputs frames given
 
-pub cuts_are_one : (inputs others : List Input) (frames more : List PlainFrame) → Gives [] inputs frames → Gives [] others more → stream_of [] inputs ≡ stream_of [] others → frames ≡ more
+pub cuts_are_one : (inputs others : List Input) (frames more : List PlainFrame) → Gives [] inputs frames → Gives [] others more →
+    stream_of [] inputs ≡ stream_of [] others → frames ≡ more
 cuts_are_one inputs others frames more given also same =
     one_stream (stream_of [] others) frames more (subst (λ s. Heard s frames) same (given_is_heard inputs frames given)) (given_is_heard others more also)

@@ -1,6 +1,7 @@
 -- Long division octet by octet: what is left of octets and one more depends on what is left of the octets, and on
 -- that one, alone.
-use Rattle.std.proofs.Common.{◌≡◌, ℕ, zero, suc, ◌+◌, ◌*◌, ◌/◌, ◌%◌, ◌==◌, ◌≤◌, ◌<◌, ◌^◌, Bool, true, false, not, if◌then◌else◌, List, [], ◌∷◌, ◌++◌, length, take, drop, flat_map, replicate, refl, ap, sym, arith, ◌∙◌, append_assoc, length-append}
+use Rattle.std.proofs.Common.{◌≡◌, ℕ, zero, suc, ◌+◌, ◌*◌, ◌/◌, ◌%◌, ◌==◌, ◌≤◌, ◌<◌, ◌^◌, Bool, true, false, not, if◌then◌else◌, List, [], ◌∷◌, ◌++◌, length}
+use Rattle.std.proofs.Common.{take, drop, flat_map, replicate, refl, ap, sym, arith, ◌∙◌, append_assoc, length-append}
 use Rattle.std.proofs.lemmas.List.{length-replicate, length-drop, length-take, take-append-drop}
 use Rattle.std.specs.Int.Bits.{bit_xor, xor_zero_l}
 use Rattle.std.proofs.lemmas.Nat.{xor_block, xor_mod, xor_shr, shr-shr}
@@ -9,7 +10,8 @@ use Rattle.tags.specs.Number.{bit}
 use Rattle.mstp_frame.specs.Remainder.{sum, divided, bits_of, number_of, dividend, remainder, octet_remainder}
 
 -- sums are taken in either order
-plus_either : (a b c : Bool) → (if a then not (if b then not c else c) else (if b then not c else c)) ≡ (if b then not (if a then not c else c) else (if a then not c else c))
+plus_either : (a b c : Bool) → (if a then not (if b then not c else c) else (if b then not c else c))
+    ≡ (if b then not (if a then not c else c) else (if a then not c else c))
 plus_either true true c = refl
 plus_either true false c = refl
 plus_either false true c = refl
@@ -106,10 +108,12 @@ length-next : (d left : List Bool) (octet : ℕ) → length left ≡ length d �
 length-next d left octet e eight =
     let front = sum (take 8 left) (bits_of 8 octet) in
     let z = front ++ replicate (length d) false in
-    let long : length z ≡ 8 + length d = simp length-append (omega (arith, length-sum (take 8 left) (bits_of 8 octet), length-bits_of 8 octet, length-replicate (length d) false)) in
+    let long : length z ≡ 8 + length d = simp length-append
+    (omega (arith, length-sum (take 8 left) (bits_of 8 octet), length-bits_of 8 octet, length-replicate (length d) false)) in
     length-sum (drop 8 left) (divided d 8 z) ∙ length-divided d 8 (length d) z long
 
-one_octet : (d left more : List Bool) (octet : ℕ) → length left ≡ length d → 8 ≤ length d → divided d 8 (sum left (bits_of 8 octet ++ more)) ≡ sum (next_left d left octet) more
+one_octet : (d left more : List Bool) (octet : ℕ) → length left ≡ length d → 8 ≤ length d →
+    divided d 8 (sum left (bits_of 8 octet ++ more)) ≡ sum (next_left d left octet) more
 one_octet d left more octet e eight =
     let bits = bits_of 8 octet in
     let front = sum (take 8 left) bits in
@@ -120,7 +124,8 @@ one_octet d left more octet e eight =
     let few : length (take 8 left) ≡ 8 = length-take 8 left ∙ omega (arith, e, eight) in
     let eight_in_front : length front ≡ 8 = length-sum (take 8 left) bits ∙ eight_bits in
     let long : length z ≡ 8 + length d = simp length-append (omega (arith, eight_in_front, length-replicate (length d) false)) in
-    let start : sum left (bits ++ more) ≡ front ++ rest = ap (λ p. sum p (bits ++ more)) (sym (take-append-drop 8 left)) ∙ sum_parts (take 8 left) (drop 8 left) bits more (few ∙ sym eight_bits) in
+    let start : sum left (bits ++ more) ≡ front ++ rest =
+    ap (λ p. sum p (bits ++ more)) (sym (take-append-drop 8 left)) ∙ sum_parts (take 8 left) (drop 8 left) bits more (few ∙ sym eight_bits) in
     let same : sum z (replicate 8 false ++ rest) ≡ front ++ rest =
     sum_parts front nothing (replicate 8 false) rest (eight_in_front ∙ sym (length-replicate 8 false))
     ∙ ap (λ p. p ++ sum nothing rest) (sum_to_nothing 8 front eight_in_front) ∙ ap (λ p. front ++ p) (sum_nothing (length d) rest) in
@@ -133,7 +138,8 @@ all_left : List Bool → List Bool → List ℕ → List Bool
 all_left d left [] = left
 all_left d left (octet ∷ octets) = all_left d (next_left d left octet) octets
 
-all_octets : (d left : List Bool) (octets : List ℕ) → length left ≡ length d → 8 ≤ length d → divided d (8 * length octets) (sum left (flat_map (bits_of 8) octets ++ replicate (length d) false)) ≡ all_left d left octets
+all_octets : (d left : List Bool) (octets : List ℕ) → length left ≡ length d → 8 ≤ length d →
+    divided d (8 * length octets) (sum left (flat_map (bits_of 8) octets ++ replicate (length d) false)) ≡ all_left d left octets
 unfolding divided all_left
 all_octets d left [] e eight = sum_to_nothing (length d) left e
 all_octets d left (octet ∷ octets) e eight =
@@ -181,7 +187,8 @@ number_of_drop zero r = omega arith
 number_of_drop (suc k) [] = sym (zero-div (2 ^ suc k))
 number_of_drop (suc k) (b ∷ r) =
     let e : 1 + k ≡ suc k = omega arith in
-    number_of_drop k r ∙ ap (λ n. n / 2 ^ k) (sym (number_parts b (number_of r)).1) ∙ shr-shr (bit b + 2 * number_of r) 1 k ∙ ap (λ j. (bit b + 2 * number_of r) / 2 ^ j) e
+    number_of_drop k r ∙ ap (λ n. n / 2 ^ k) (sym (number_parts b (number_of r)).1) ∙ shr-shr (bit b + 2 * number_of r) 1 k
+    ∙ ap (λ j. (bit b + 2 * number_of r) / 2 ^ j) e
 
 bits_of_number : (k : ℕ) (r : List Bool) → k ≤ length r → bits_of k (number_of r) ≡ take k r
 unfolding bits_of number_of
@@ -201,7 +208,8 @@ bits_of_xor : (k a b : ℕ) → bits_of k (bit_xor a b) ≡ sum (bits_of k a) (b
 unfolding bits_of sum
 bits_of_xor zero a b = refl
 bits_of_xor (suc k) a b =
-    let first : (bit_xor a b % 2 == 1) ≡ (if a % 2 == 1 then not (b % 2 == 1) else (b % 2 == 1)) = ap (λ n. n == 1) (xor_mod a b 1) ∙ two_bits (a % 2) (b % 2) (omega arith) (omega arith) in
+    let first : (bit_xor a b % 2 == 1) ≡ (if a % 2 == 1 then not (b % 2 == 1) else (b % 2 == 1)) =
+    ap (λ n. n == 1) (xor_mod a b 1) ∙ two_bits (a % 2) (b % 2) (omega arith) (omega arith) in
     rw (first, xor_shr a b 1, bits_of_xor k (a / 2) (b / 2)) refl
 
 -- what is left, as a number, where this was left and more octets come
@@ -209,7 +217,8 @@ unfoldable pub register : List Bool → ℕ → List ℕ → ℕ
 register d left [] = left
 register d left (octet ∷ octets) = register d (bit_xor (left / 256) (octet_remainder d (bit_xor left octet))) octets
 
-number_of_next : (d left : List Bool) (octet : ℕ) → length left ≡ length d → 8 ≤ length d → number_of (next_left d left octet) ≡ bit_xor (number_of left / 256) (octet_remainder d (bit_xor (number_of left) octet))
+number_of_next : (d left : List Bool) (octet : ℕ) → length left ≡ length d → 8 ≤ length d →
+    number_of (next_left d left octet) ≡ bit_xor (number_of left / 256) (octet_remainder d (bit_xor (number_of left) octet))
 unfolding octet_remainder
 number_of_next d left octet e eight =
     let bits = bits_of 8 octet in
@@ -217,17 +226,20 @@ number_of_next d left octet e eight =
     let front : sum (take 8 left) bits ≡ bits_of 8 (bit_xor (number_of left) octet) =
     ap (λ p. sum p bits) (sym (bits_of_number 8 left (omega (arith, e, eight)))) ∙ sym (bits_of_xor 8 (number_of left) octet) in
     let z = sum (take 8 left) bits ++ nothing in
-    let long : length z ≡ 8 + length d = simp length-append (omega (arith, length-sum (take 8 left) bits, length-bits_of 8 octet, length-replicate (length d) false)) in
+    let long : length z ≡ 8 + length d = simp length-append
+    (omega (arith, length-sum (take 8 left) bits, length-bits_of 8 octet, length-replicate (length d) false)) in
     let shorter : length (drop 8 left) ≤ length (divided d 8 z) = omega (arith, length-drop 8 left, length-divided d 8 (length d) z long, e) in
     number_of_sum (drop 8 left) (divided d 8 z) shorter
     ∙ ap (λ n. bit_xor n (number_of (divided d 8 z))) (number_of_drop 8 left)
     ∙ ap (λ p. bit_xor (number_of left / 256) (number_of (divided d 8 (p ++ nothing)))) front
 
-number_of_all : (d left : List Bool) (octets : List ℕ) → length left ≡ length d → 8 ≤ length d → number_of (all_left d left octets) ≡ register d (number_of left) octets
+number_of_all : (d left : List Bool) (octets : List ℕ) → length left ≡ length d → 8 ≤ length d →
+    number_of (all_left d left octets) ≡ register d (number_of left) octets
 unfolding all_left register
 number_of_all d left [] e eight = refl
 number_of_all d left (octet ∷ octets) e eight =
-    number_of_all d (next_left d left octet) octets (length-next d left octet e eight) eight ∙ ap (λ n. register d n octets) (number_of_next d left octet e eight)
+    number_of_all d (next_left d left octet) octets (length-next d left octet e eight) eight
+    ∙ ap (λ n. register d n octets) (number_of_next d left octet e eight)
 
 -- the remainder of octets, one after the other
 pub remainder_is : (d : List Bool) (octets : List ℕ) → 8 ≤ length d → remainder d octets ≡ register d (number_of (replicate (length d) true)) octets

@@ -1,5 +1,6 @@
 -- What octets from 55 FF on are.
-use Rattle.std.proofs.Common.{◌≡◌, ℕ, zero, suc, ◌+◌, ◌-◌, ◌/◌, ◌%◌, ◌==◌, ◌<◌, ◌≤◌, nat_lt, Bool, true, false, List, [], ◌∷◌, ◌++◌, length, take, drop, slice_index, refl, ap, sym, subst, arith, ◌∙◌, length-append}
+use Rattle.std.proofs.Common.{◌≡◌, ℕ, zero, suc, ◌+◌, ◌-◌, ◌/◌, ◌%◌, ◌==◌, ◌<◌, ◌≤◌, nat_lt, Bool, true, false, List, [], ◌∷◌, ◌++◌, length, take, drop}
+use Rattle.std.proofs.Common.{slice_index, refl, ap, sym, subst, arith, ◌∙◌, length-append}
 use Rattle.std.proofs.lemmas.Bool.{eqb-true, eqb-false, ltb-true, ltb-false}
 use Rattle.std.proofs.lemmas.List.{length-drop, length-take, take-append-drop, take-append-le, drop-append-le, get_or_append_left, take_at, drop_at}
 use Rattle.byteorder.specs.Endian.{big_bytes}
@@ -23,19 +24,22 @@ positive : (n : ℕ) → (n ≡ 0 → ⊥) → 0 < n
 positive zero ne = absurd (ne refl)
 positive (suc n) ne = omega arith
 
-span_by : (octets : List ℕ) (good fits none : Bool) → (left_at octets == 0x55) ≡ good → nat_lt (size_at octets) 502 ≡ fits → (size_at octets == 0) ≡ none → Span octets
+span_by : (octets : List ℕ) (good fits none : Bool) → (left_at octets == 0x55) ≡ good → nat_lt (size_at octets) 502 ≡ fits → (size_at octets == 0) ≡ none →
+    Span octets
 unfolding span
 span_by octets false fits none e f g = is_bad (λ left few. absurd (eqb-false _ _ e left)) (rw e refl)
 span_by octets true false none e f g = is_bad (λ left few. absurd (omega (arith, few, ltb-false (size_at octets) 502 f))) (rw (e, f) refl)
 span_by octets true true true e f g = is_bare (eqb-true _ _ e) (eqb-true _ _ g) (rw (e, f, g) refl)
-span_by octets true true false e f g = is_long (eqb-true _ _ e) (positive (size_at octets) (eqb-false _ _ g)) (omega (arith, ltb-true (size_at octets) 502 f)) (rw (e, f, g) refl)
+span_by octets true true false e f g = is_long (eqb-true _ _ e) (positive (size_at octets) (eqb-false _ _ g)) (omega (arith, ltb-true (size_at octets) 502 f))
+    (rw (e, f, g) refl)
 
 pub span_is : (octets : List ℕ) → Span octets
 span_is octets = span_by octets _ _ _ refl refl refl
 
 -- eight octets at least are taken together
 pub eight_taken : (octets : List ℕ) → 8 ≤ span octets
-eight_taken octets = elim (span_is octets) [ is_bad wrong e ↦ omega (arith, e) | is_bare left none e ↦ omega (arith, e) | is_long left some few e ↦ omega (arith, e) ]
+eight_taken octets = elim (span_is octets)
+    [ is_bad wrong e ↦ omega (arith, e) | is_bare left none e ↦ omega (arith, e) | is_long left some few e ↦ omega (arith, e) ]
 
 -- the header that octets spell a frame with
 pub record HasHeader (octets : List ℕ) (f : PlainFrame) : Type 0 where
@@ -58,7 +62,8 @@ no_data : (octets contents : List ℕ) → SpellsData octets contents → length
 no_data octets [] e none = e
 no_data octets (octet ∷ more) s none = absurd (omega (arith, none))
 
-some_data : (octets contents : List ℕ) → SpellsData octets contents → 0 < length contents → (length octets ≡ 2 + length contents) × (data_remainder octets ≡ 0xF0B8)
+some_data : (octets contents : List ℕ) → SpellsData octets contents → 0 < length contents → (length octets ≡ 2 + length contents) ×
+    (data_remainder octets ≡ 0xF0B8)
 some_data octets [] e some = absurd (omega (arith, some))
 some_data octets (octet ∷ more) s some = (omega (arith, ap length s.parts, length-append (octet ∷ more) (s.low ∷ s.high ∷ [])), s.check)
 
@@ -67,10 +72,14 @@ pub lost_header : (octets : List ℕ) → (left_at octets ≡ 0x55 → size_at o
 lost_header octets wrong = record { none = λ f s. let h = spelled_header octets f s in wrong h.left (omega (arith, h.size, h.few)) }
 
 pub lost_data : (octets : List ℕ) → 0 < size_at octets → (data_remainder (drop 8 octets) ≡ 0xF0B8 → ⊥) → NoFrame octets
-lost_data octets some wrong = record { none = λ f s. let h = spelled_header octets f s in wrong (some_data (drop 8 octets) f.contents h.behind (omega (arith, h.size, some))).1 }
+lost_data octets some wrong = record {
+  none = λ f s. let h = spelled_header octets f s in
+      wrong (some_data (drop 8 octets) f.contents h.behind (omega (arith, h.size, some))).1;
+}
 
 -- octets by their places
-eight_parts : (octets : List ℕ) → 8 ≤ length octets → octets ≡ slice_index octets 0 ∷ slice_index octets 1 ∷ slice_index octets 2 ∷ slice_index octets 3 ∷ slice_index octets 4
+eight_parts : (octets : List ℕ) → 8 ≤ length octets →
+    octets ≡ slice_index octets 0 ∷ slice_index octets 1 ∷ slice_index octets 2 ∷ slice_index octets 3 ∷ slice_index octets 4
     ∷ slice_index octets 5 ∷ slice_index octets 6 ∷ slice_index octets 7 ∷ drop 8 octets
 eight_parts (a ∷ b ∷ c ∷ d ∷ e ∷ f ∷ g ∷ h ∷ rest) le = refl
 eight_parts [] le = absurd (omega arith)
@@ -117,14 +126,17 @@ spelled_by octets contents begins eight fits left size few behind =
       are_octets = fits;
     }
 
-pub whole_bare : (octets : List ℕ) → take 2 octets ≡ 0x55 ∷ 0xFF ∷ [] → length octets ≡ 8 → AreOctets octets → left_at octets ≡ 0x55 → size_at octets ≡ 0 → Spells octets (frame_at octets)
+pub whole_bare : (octets : List ℕ) → take 2 octets ≡ 0x55 ∷ 0xFF ∷ [] → length octets ≡ 8 → AreOctets octets → left_at octets ≡ 0x55 → size_at octets ≡ 0 →
+    Spells octets (frame_at octets)
 whole_bare octets begins eight fits left none =
     let nothing : take (length octets - 10) (drop 8 octets) ≡ [] = ap (λ n. take (n - 10) (drop 8 octets)) eight in
     let behind : SpellsData (drop 8 octets) [] = none_left (drop 8 octets) (omega (arith, length-drop 8 octets, eight)) in
-    subst (λ c. Spells octets (record { frame_type = slice_index octets 2; destination = slice_index octets 3; source = slice_index octets 4; contents = c })) (sym nothing)
+    subst (λ c. Spells octets (record { frame_type = slice_index octets 2; destination = slice_index octets 3; source = slice_index octets 4; contents = c }))
+    (sym nothing)
     (spelled_by octets [] begins (omega (arith, eight)) fits left (sym none) (omega arith) behind)
 
-data_spelled : (octets contents : List ℕ) (low high : ℕ) → octets ≡ contents ++ low ∷ high ∷ [] → 0 < length contents → data_remainder octets ≡ 0xF0B8 → SpellsData octets contents
+data_spelled : (octets contents : List ℕ) (low high : ℕ) → octets ≡ contents ++ low ∷ high ∷ [] → 0 < length contents → data_remainder octets ≡ 0xF0B8 →
+    SpellsData octets contents
 data_spelled octets [] low high e some left = absurd (omega (arith, some))
 data_spelled octets (octet ∷ more) low high e some left = record { low = low; high = high; parts = e; check = left }
 
@@ -175,15 +187,29 @@ spelled_span octets f s =
     let eight : 8 ≤ length octets = omega (arith, ap length s.parts) in
     elim (span_is octets) [
       | is_bad wrong e ↦ absurd (wrong h.left (omega (arith, h.size, h.few)))
-      | is_bare left none e ↦ omega (arith, e, eight, length-drop 8 octets, ap length (no_data (drop 8 octets) f.contents h.behind (omega (arith, h.size, none))))
-      | is_long left some few e ↦ omega (arith, e, eight, length-drop 8 octets, h.size, (some_data (drop 8 octets) f.contents h.behind (omega (arith, h.size, some))).0)
+      | is_bare left none e ↦ omega (
+        arith,
+        e,
+        eight,
+        length-drop 8 octets,
+        ap length (no_data (drop 8 octets) f.contents h.behind (omega (arith, h.size, none))),
+      )
+      | is_long left some few e ↦ omega (
+        arith,
+        e,
+        eight,
+        length-drop 8 octets,
+        h.size,
+        (some_data (drop 8 octets) f.contents h.behind (omega (arith, h.size, some))).0,
+      )
     ]
 
 pub spelled_begins : (octets : List ℕ) (f : PlainFrame) → Spells octets f → take 2 octets ≡ 0x55 ∷ 0xFF ∷ []
 spelled_begins octets f s = (spelled_header octets f s).begins
 
 -- what is taken together, and others behind it
-pub front_parts : (front rest : List ℕ) → IsFront front → HasFront (front ++ rest) × (take (span (front ++ rest)) (front ++ rest) ≡ front) × (drop (span (front ++ rest)) (front ++ rest) ≡ rest)
+pub front_parts : (front rest : List ℕ) → IsFront front → HasFront (front ++ rest) × (take (span (front ++ rest)) (front ++ rest) ≡ front) ×
+    (drop (span (front ++ rest)) (front ++ rest) ≡ rest)
 front_parts front rest is =
     let eight : 8 ≤ length front = omega (arith, is.whole, eight_taken front) in
     let all : length front ≡ span (front ++ rest) = is.whole ∙ sym (span_more front rest eight) in (

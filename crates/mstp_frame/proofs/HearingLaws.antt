@@ -9,7 +9,8 @@ use Rattle.mstp_frame.specs.Remainder.{data_remainder}
 use Rattle.mstp_frame.specs.Frame.{PlainFrame, Spells}
 use Rattle.mstp_frame.specs.Heard.{IsNoise, HasFront, IsCut, NoFrame, Hears, ends, skips, loses, hears, Heard, over, between, span}
 use Rattle.mstp_frame.specs.Front.{frame_at}
-use Rattle.mstp_frame.proofs.Fronts.{span_is, is_bad, is_bare, is_long, eight_taken, lost_header, lost_data, whole_bare, whole_data, span_take, front_parts, spelled_span, spelled_begins}
+use Rattle.mstp_frame.proofs.Fronts.{span_is, is_bad, is_bare, is_long, eight_taken, lost_header, lost_data, whole_bare, whole_data, span_take, front_parts}
+use Rattle.mstp_frame.proofs.Fronts.{spelled_span, spelled_begins}
 use Rattle.mstp_frame.proofs.Spellings.{one_frame}
 
 noise_or_cut : (octets : List ℕ) → IsNoise octets → IsCut octets → ⊥
@@ -76,7 +77,8 @@ front_is : (octets : List ℕ) → HasFront octets → AreOctets octets → Take
 front_is octets front fits =
     let n = span octets in
     let eight = eight_taken octets in
-    taken_is (take n octets) (take-take 2 n octets (omega (arith, eight)) ∙ front.begins) (length-take n octets ∙ omega (arith, front.whole) ∙ sym (span_take n octets eight front.whole)) (AreOctets-take n octets fits)
+    taken_is (take n octets) (take-take 2 n octets (omega (arith, eight)) ∙ front.begins) (length-take n octets ∙ omega (arith, front.whole)
+    ∙ sym (span_take n octets eight front.whole)) (AreOctets-take n octets fits)
 
 -- octets are heard as some frames
 pub some_heard : (n : ℕ) (octets : List ℕ) → length octets ≤ n → AreOctets octets → (frames : List PlainFrame) × Hears octets frames
@@ -86,7 +88,8 @@ some_heard (suc n) (octet ∷ octets) le fits =
     let all = octet ∷ octets in
     elim (next_is all) [
       | is_cut cut ↦ ([], ends all cut)
-      | is_noise noise ↦ let rest = some_heard n octets (omega (arith, le)) (AreOctets-rest octet octets fits) in (rest.0, skips octet octets rest.0 noise rest.1)
+      | is_noise noise ↦ let rest = some_heard n octets (omega (arith, le)) (AreOctets-rest octet octets fits) in
+          (rest.0, skips octet octets rest.0 noise rest.1)
       | is_front front ↦
           let rest = some_heard n (drop (span all) all) (omega (arith, le, length-drop (span all) all, eight_taken all)) (AreOctets-drop (span all) all fits) in
           elim (front_is all front fits) [
@@ -113,7 +116,8 @@ one_heard _ _ _ (hears octets f frames front s rest) (ends _ cut) = absurd (cut_
 one_heard _ _ _ (hears _ f frames front s rest) (skips octet octets others noise more) = absurd (noise_or_front (octet ∷ octets) noise front)
 one_heard _ _ _ (hears octets f frames front s rest) (loses _ others _ none more) = absurd (none.none f s)
 one_heard _ _ _ (hears octets f frames front s rest) (hears _ g others _ t more) =
-    ap (λ first. first ∷ frames) (one_frame (take (span octets) octets) f g s t) ∙ ap (λ later. g ∷ later) (one_heard (drop (span octets) octets) frames others rest more)
+    ap (λ first. first ∷ frames) (one_frame (take (span octets) octets) f g s t)
+    ∙ ap (λ later. g ∷ later) (one_heard (drop (span octets) octets) frames others rest more)
 
 pub each_stream : (stream : List (List ℕ)) → AllByRecursion AreOctets stream → (frames : List PlainFrame) × Heard stream frames
 each_stream [] fits = ([], over)
@@ -134,17 +138,20 @@ front_heard _ f _ front s (skips octet octets frames noise rest) = absurd (noise
 front_heard _ f _ front s (loses octets frames _ none rest) = absurd (none.none f s)
 front_heard _ f _ front s (hears octets g frames _ t rest) = (frames, ap (λ h. h ∷ frames) (one_frame (take (span octets) octets) g f t s), rest)
 
-heard_then : (octets rest : List ℕ) (f : PlainFrame) (frames : List PlainFrame) → Spells octets f → Hears (octets ++ rest) frames → (later : List PlainFrame) × (frames ≡ f ∷ later) × Hears rest later
+heard_then : (octets rest : List ℕ) (f : PlainFrame) (frames : List PlainFrame) → Spells octets f → Hears (octets ++ rest) frames →
+    (later : List PlainFrame) × (frames ≡ f ∷ later) × Hears rest later
 heard_then octets rest f frames s h =
     let front = front_parts octets rest (record { begins = spelled_begins octets f s; whole = spelled_span octets f s }) in
     let found = front_heard (octets ++ rest) f frames front.0 (subst (λ o. Spells o f) (sym front.1) s) h in
     (found.0, found.1, subst (λ o. Hears o found.0) front.2 found.2)
 
-stream_parts : (octets : List ℕ) (stream : List (List ℕ)) (frames : List PlainFrame) → Heard (octets ∷ stream) frames → (first later : List PlainFrame) × (frames ≡ first ++ later) × Hears octets first × Heard stream later
+stream_parts : (octets : List ℕ) (stream : List (List ℕ)) (frames : List PlainFrame) → Heard (octets ∷ stream) frames → (first later : List PlainFrame) ×
+    (frames ≡ first ++ later) × Hears octets first × Heard stream later
 stream_parts _ _ _ (between octets stream first later h more) = (first, later, refl, h, more)
 
 -- a stream that begins with a frame
-pub frame_first : (octets rest : List ℕ) (stream : List (List ℕ)) (f : PlainFrame) (frames : List PlainFrame) → Spells octets f → Heard ((octets ++ rest) ∷ stream) frames
+pub frame_first : (octets rest : List ℕ) (stream : List (List ℕ)) (f : PlainFrame) (frames : List PlainFrame) → Spells octets f →
+    Heard ((octets ++ rest) ∷ stream) frames
     → (later : List PlainFrame) × (frames ≡ f ∷ later) × Heard (rest ∷ stream) later
 frame_first octets rest stream f frames s h =
     let parts = stream_parts (octets ++ rest) stream frames h in

@@ -35,7 +35,8 @@ data_lost octets behind check begins more whole is left ne =
     (record { begins = begins; whole = whole }, lost_data octets good.some (λ e. ne (left ∙ ap (λ n. 65535 - n) (ap data_remainder is ∙ e))))
 
 -- a header and its check octet
-check_is : (octets header : List ℕ) (check : ℕ) → header ≡ drop 2 octets → length octets ≡ 8 → check ≡ 255 - header_remainder header → left_at octets ≡ header_remainder header
+check_is : (octets header : List ℕ) (check : ℕ) → header ≡ drop 2 octets → length octets ≡ 8 → check ≡ 255 - header_remainder header →
+    left_at octets ≡ header_remainder header
 check_is octets header check is eight left =
     ap header_remainder (take_all 6 (drop 2 octets) (omega (arith, eight, length-drop 2 octets)) ∙ sym is)
 
@@ -46,7 +47,8 @@ bad_span octets wrong = elim (span_is octets) [
   | is_long left some few e ↦ absurd (wrong left few)
 ]
 
-lost : (octets : List ℕ) → take 2 octets ≡ 0x55 ∷ 0xFF ∷ [] → length octets ≡ 8 → (left_at octets ≡ 0x55 → size_at octets ≤ 501 → ⊥) → IsFront octets × NoFrame octets
+lost : (octets : List ℕ) → take 2 octets ≡ 0x55 ∷ 0xFF ∷ [] → length octets ≡ 8 → (left_at octets ≡ 0x55 → size_at octets ≤ 501 → ⊥) → IsFront octets ×
+    NoFrame octets
 lost octets begins eight wrong = (record { begins = begins; whole = eight ∙ sym (bad_span octets wrong) }, lost_header octets wrong)
 
 pub header_lost : (octets header : List ℕ) (check : ℕ) → take 2 octets ≡ 0x55 ∷ 0xFF ∷ [] → length octets ≡ 8
@@ -57,7 +59,8 @@ header_lost octets header check begins eight is left ne =
 pub size_lost : (octets : List ℕ) → take 2 octets ≡ 0x55 ∷ 0xFF ∷ [] → length octets ≡ 8 → 501 < size_at octets → IsFront octets × NoFrame octets
 size_lost octets begins eight lt = lost octets begins eight (λ good few. absurd (omega (arith, lt, few)))
 
-good_left : (octets header : List ℕ) (check : ℕ) → length octets ≡ 8 → header ≡ drop 2 octets → check ≡ 255 - header_remainder header → check ≡ 170 → left_at octets ≡ 0x55
+good_left : (octets header : List ℕ) (check : ℕ) → length octets ≡ 8 → header ≡ drop 2 octets → check ≡ 255 - header_remainder header → check ≡ 170 →
+    left_at octets ≡ 0x55
 good_left octets header check eight is left e = check_is octets header check is eight left ∙ omega (arith, left, e, header_remainder-lt header)
 
 pub header_whole : (octets header : List ℕ) (check : ℕ) → take 2 octets ≡ 0x55 ∷ 0xFF ∷ [] → length octets ≡ 8 → AreOctets octets
@@ -85,7 +88,8 @@ header_cut octets header check begins eight is left e some few =
 pub ruleset judged = (data_whole, data_lost, header_lost, size_lost, header_whole, header_cut)
 
 -- more octets are taken together than are there
-pub goal_is : (octets : List ℕ) → IsCut octets → 8 ≤ length octets → IsGoal octets (10 + size_at octets) × (length octets < 10 + size_at octets) × (10 + size_at octets ≤ 511)
+pub goal_is : (octets : List ℕ) → IsCut octets → 8 ≤ length octets → IsGoal octets (10 + size_at octets) × (length octets < 10 + size_at octets) ×
+    (10 + size_at octets ≤ 511)
 goal_is octets cut eight =
     let short = (cut_begins octets (omega (arith, eight)) cut).1 in
     let good = more_taken octets (omega (arith, eight, short)) in

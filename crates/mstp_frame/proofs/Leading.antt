@@ -22,7 +22,9 @@ heard_by : (octets left : List ℕ) (stream : List (List ℕ)) (frames more : Li
 heard_by octets _ _ _ more step (between left stream first later h rest) =
     subst (λ fs. Heard (octets ∷ stream) fs) (append_assoc more first later) (between octets stream (more ++ first) later (step first h) rest)
 
-leads_if : (octets left : List ℕ) (frame : Option PlainFrame) → ((rest : List ℕ) (frames : List PlainFrame) → Hears (left ++ rest) frames → Hears (octets ++ rest) (option_to_list frame ++ frames)) → LeadsTo octets frame left
+leads_if : (octets left : List ℕ) (frame : Option PlainFrame) →
+    ((rest : List ℕ) (frames : List PlainFrame) → Hears (left ++ rest) frames → Hears (octets ++ rest) (option_to_list frame ++ frames)) →
+    LeadsTo octets frame left
 leads_if octets left frame step = record {
   heard = λ rest stream frames h. heard_by (octets ++ rest) (left ++ rest) stream frames (option_to_list frame) (step rest) h;
 }
@@ -37,7 +39,8 @@ leads_noise octet octets ne = leads_if (octet ∷ octets) octets None (λ rest f
 
 -- an octet before one that is no FF
 pub leads_second : (octet second : ℕ) (octets : List ℕ) → second ≢ 0xFF → LeadsTo (octet ∷ second ∷ octets) None (second ∷ octets)
-leads_second octet second octets ne = leads_if (octet ∷ second ∷ octets) (second ∷ octets) None (λ rest frames h. skips octet (second ∷ (octets ++ rest)) frames (inr ne) h)
+leads_second octet second octets ne = leads_if (octet ∷ second ∷ octets) (second ∷ octets) None
+    (λ rest frames h. skips octet (second ∷ (octets ++ rest)) frames (inr ne) h)
 
 pub leads_lost : (front left : List ℕ) → IsFront front → NoFrame front → LeadsTo (front ++ left) None left
 leads_lost front left is none = leads_if (front ++ left) left None (λ rest frames h.

@@ -29,7 +29,8 @@ checked_octets : (contents : List ℕ) → AreOctets contents → AreOctets (che
 checked_octets [] fits = fits
 checked_octets (octet ∷ more) fits = AreOctets-append (octet ∷ more) _ fits (two_octets _ _ (omega arith) (omega arith))
 
-eight_octets : (f : PlainFrame) (check : ℕ) (behind : List ℕ) → IsSound f → check < 256 → AreOctets behind → AreOctets (0x55 ∷ 0xFF ∷ (header f ++ check ∷ behind))
+eight_octets : (f : PlainFrame) (check : ℕ) (behind : List ℕ) → IsSound f → check < 256 → AreOctets behind →
+    AreOctets (0x55 ∷ 0xFF ∷ (header f ++ check ∷ behind))
 eight_octets f check behind sound lt fits zero = omega arith
 eight_octets f check behind sound lt fits (suc zero) = omega arith
 eight_octets f check behind sound lt fits (suc (suc zero)) = sound.frame_type
@@ -63,7 +64,8 @@ one_spelling octets f s =
     let at_check : slice_index octets 7 ≡ s.check = ap (λ o. slice_index o 7) s.parts in
     let check : s.check ≡ 255 - header_remainder (header f) = header_check_is (header f) s.check (omega (arith, at_check, s.are_octets 7)) s.header in
     let fits : AreOctets s.behind = AreOctets-after octets (0x55 ∷ 0xFF ∷ (header f ++ s.check ∷ [])) s.behind s.parts s.are_octets in
-    s.parts ∙ ap (λ c. 0x55 ∷ 0xFF ∷ (header f ++ c ∷ s.behind)) check ∙ ap (λ b. 0x55 ∷ 0xFF ∷ (header f ++ (255 - header_remainder (header f)) ∷ b)) (checked_is s.behind f.contents fits s.contents)
+    s.parts ∙ ap (λ c. 0x55 ∷ 0xFF ∷ (header f ++ c ∷ s.behind)) check
+    ∙ ap (λ b. 0x55 ∷ 0xFF ∷ (header f ++ (255 - header_remainder (header f)) ∷ b)) (checked_is s.behind f.contents fits s.contents)
 
 -- the data among what stands behind the header
 contents_at : (octets contents : List ℕ) → SpellsData octets contents → take (length octets - 2) octets ≡ contents
@@ -72,7 +74,8 @@ contents_at octets (octet ∷ more) s =
     let long : length octets - 2 ≡ length (octet ∷ more) = omega (arith, ap length s.parts, length-append (octet ∷ more) (s.low ∷ s.high ∷ [])) in
     ap (λ n. take n octets) long ∙ ap (take (length (octet ∷ more))) s.parts ∙ take_at (octet ∷ more) (s.low ∷ s.high ∷ []) (length (octet ∷ more)) refl
 
-same_frame : (f : PlainFrame) (frame_type destination source : ℕ) (contents : List ℕ) → frame_type ≡ f.frame_type → destination ≡ f.destination → source ≡ f.source → contents ≡ f.contents
+same_frame : (f : PlainFrame) (frame_type destination source : ℕ) (contents : List ℕ) → frame_type ≡ f.frame_type → destination ≡ f.destination →
+    source ≡ f.source → contents ≡ f.contents
     → record { frame_type = frame_type; destination = destination; source = source; contents = contents } ≡ f
 same_frame f frame_type destination source contents a b c d = rw (a, b, c, d) refl
 

@@ -1,10 +1,12 @@
 -- The tables have the remainders of the octets, and lead from octet to octet.
-use Rattle.std.proofs.Common.{◌≡◌, ℕ, zero, suc, ◌+◌, ◌*◌, ◌/◌, ◌%◌, ◌<◌, ◌^◌, Bool, false, List, ◌++◌, ◌≤◌, length, replicate, drop, drop-cons, slice_index, refl, ap, sym, arith, ◌∙◌}
+use Rattle.std.proofs.Common.{◌≡◌, ℕ, zero, suc, ◌+◌, ◌*◌, ◌/◌, ◌%◌, ◌<◌, ◌^◌, Bool, false, List, ◌++◌, ◌≤◌, length, replicate, drop, drop-cons, slice_index}
+use Rattle.std.proofs.Common.{refl, ap, sym, arith, ◌∙◌}
 use Rattle.std.specs.Int.Bits.{bit_xor, bit_and, xor_zero_l}
 use Rattle.std.proofs.lemmas.Nat.{and_mask, mod-pow-add}
 use Rattle.std.proofs.lemmas.List.{drop_all}
 use Rattle.mstp_frame.specs.declared.check.TheConstants.{HEADER_TABLE, DATA_TABLE}
-use Rattle.mstp_frame.specs.Remainder.{sum, divided, bits_of, number_of, header_divisor, data_divisor, octet_remainder, remainders_from, octet_remainders, header_remainder, data_remainder}
+use Rattle.mstp_frame.specs.Remainder.{sum, divided, bits_of, number_of, header_divisor, data_divisor, octet_remainder, remainders_from, octet_remainders}
+use Rattle.mstp_frame.specs.Remainder.{header_remainder, data_remainder}
 use Rattle.mstp_frame.proofs.Division.{register, remainder_is}
 
 pub header_table : HEADER_TABLE ≡ octet_remainders header_divisor
@@ -64,11 +66,13 @@ one_more d left i octets lt =
 
 -- of eight bits none is left over
 pub header_next : (left i : ℕ) (octets : List ℕ) → left < 256 → i < length octets →
-    register header_divisor (octet_remainder header_divisor (bit_xor left (slice_index octets i))) (drop (i + 1) octets) ≡ register header_divisor left (drop i octets)
+    register header_divisor (octet_remainder header_divisor (bit_xor left (slice_index octets i))) (drop (i + 1) octets)
+    ≡ register header_divisor left (drop i octets)
 header_next left i octets fits lt =
     let none : 0 ≡ left / 256 = omega arith in
     let entry = octet_remainder header_divisor (bit_xor left (slice_index octets i)) in
-    ap (λ n. register header_divisor n (drop (i + 1) octets)) (sym (xor_zero_l entry) ∙ ap (λ n. bit_xor n entry) none) ∙ one_more header_divisor left i octets lt
+    ap (λ n. register header_divisor n (drop (i + 1) octets)) (sym (xor_zero_l entry) ∙ ap (λ n. bit_xor n entry) none)
+    ∙ one_more header_divisor left i octets lt
 
 pub header_is : (octets : List ℕ) → header_remainder octets ≡ register header_divisor 255 octets
 unfolding header_remainder number_of

@@ -1,8 +1,11 @@
 -- From the fields to the whole header, and back.
-use Rattle.std.proofs.Common.{◌≡◌, ℕ, ◌/◌, ◌%◌, ◌<◌, ◌==◌, Bool, false, List, [], ◌∷◌, ◌++◌, ◌∙◌, length, Option, Some, None, inl, inr, refl, sym, ap, subst, get_or, ◌≤◌, zero, suc, arith, append_assoc}
+use Rattle.std.proofs.Common.{◌≡◌, ℕ, ◌/◌, ◌%◌, ◌<◌, ◌==◌, Bool, false, List, [], ◌∷◌, ◌++◌, ◌∙◌, length, Option, Some, None, inl, inr, refl, sym, ap, subst}
+use Rattle.std.proofs.Common.{get_or, ◌≤◌, zero, suc, arith, append_assoc}
 use Rattle.std.specs.Prelude.{option_map, is_some, IfSome}
-use Rattle.npdu.specs.Header.{Header, PlainDestination, PlainSource, Spells, NoHeader, fields, dnet_octets, IsDestination, snet_octets, hop_octets, message_octets}
-use Rattle.npdu.specs.Fields.{Takes, Only, Lacks, Begins, Place, place_in, place_octets, IsPlaceIf, IsSourceIf, IsDestinationAt, IsMessageIf, SpellsFields, IsCutFields, NoFields}
+use Rattle.npdu.specs.Header.{Header, PlainDestination, PlainSource, Spells, NoHeader, fields, dnet_octets, IsDestination, snet_octets, hop_octets}
+use Rattle.npdu.specs.Header.{message_octets}
+use Rattle.npdu.specs.Fields.{Takes, Only, Lacks, Begins, Place, place_in, place_octets, IsPlaceIf, IsSourceIf, IsDestinationAt, IsMessageIf, SpellsFields}
+use Rattle.npdu.specs.Fields.{IsCutFields, NoFields}
 use Rattle.npdu.specs.Refusals.{IsCut, RefusesPlace, RefusesSource, RefusesFields}
 use Rattle.tags.specs.declared.fault.Fault.{Fault}
 use Rattle.tags.specs.declared.fault.Fault.TheVariants.{Short, BadLength}
@@ -12,7 +15,8 @@ use Rattle.npdu.specs.declared.priority.Priority.{Priority}
 use Rattle.npdu.specs.declared.priority.Priority.TheVariants.{Normal, Urgent, CriticalEquipment, LifeSafety}
 
 -- octets behind what is left
-pub longer : {A : Type 0} (IsField : A → Type 0) (spelling : A → List ℕ) (octets : List ℕ) (a : A) (rest more : List ℕ) → Takes IsField spelling octets a rest → Takes IsField spelling (octets ++ more) a (rest ++ more)
+pub longer : {A : Type 0} (IsField : A → Type 0) (spelling : A → List ℕ) (octets : List ℕ) (a : A) (rest more : List ℕ) →
+    Takes IsField spelling octets a rest → Takes IsField spelling (octets ++ more) a (rest ++ more)
 longer IsField spelling octets a rest more t = record { fits = t.fits; parts = ap (λ (x : List ℕ). x ++ more) t.parts ∙ append_assoc (spelling a) rest more }
 
 priority_at : (n : ℕ) → n < 4 → (p : Priority) × (priority_number p ≡ n)
@@ -26,7 +30,8 @@ priority_at (suc (suc (suc (suc n)))) low = absurd (omega arith)
 cut_more : (control : ℕ) (octets more : List ℕ) → IsCutFields control (octets ++ more) → IsCutFields control octets
 cut_more control octets more cut = record { more = more ++ cut.more; header = cut.header; whole = rw (← append_assoc octets more cut.more) cut.whole }
 
-pub cut_at_message : (control : ℕ) (octets : List ℕ) (o : Option Place) (a : List ℕ) (s : Option PlainSource) (b : List ℕ) (d : Option PlainDestination) (c : List ℕ)
+pub cut_at_message : (control : ℕ) (octets : List ℕ) (o : Option Place) (a : List ℕ) (s : Option PlainSource) (b : List ℕ) (d : Option PlainDestination)
+    (c : List ℕ)
     → Takes (IsPlaceIf (control / 32 % 2 == 1)) place_octets octets o a
     → Takes (IsSourceIf (control / 8 % 2 == 1)) snet_octets a s b
     → Takes (IsDestinationAt o) hop_octets b d c
@@ -86,7 +91,8 @@ refuses_source BadLength control octets o a place r = inr (record { place = o; r
 refuses_source fault control octets o a place r = absurd r
 
 -- the message is lacking behind the fields that alone stand there
-pub no_message : (control : ℕ) (octets : List ℕ) (o : Option Place) (a : List ℕ) (s : Option PlainSource) (b : List ℕ) (d : Option PlainDestination) (c : List ℕ)
+pub no_message : (control : ℕ) (octets : List ℕ) (o : Option Place) (a : List ℕ) (s : Option PlainSource) (b : List ℕ) (d : Option PlainDestination)
+    (c : List ℕ)
     → Only (IsPlaceIf (control / 32 % 2 == 1)) place_octets octets o a
     → Only (IsSourceIf (control / 8 % 2 == 1)) snet_octets a s b
     → Only (IsDestinationAt o) hop_octets b d c
@@ -122,7 +128,11 @@ fields_in octets h s = record {
   at_source = snet_octets h.source ++ (hop_octets h.destination ++ (message_octets h.message ++ h.body));
   at_hops = hop_octets h.destination ++ (message_octets h.message ++ h.body);
   at_message = message_octets h.message ++ h.body;
-  place = record { fits = place_fits _ h.destination s.bits.destination s.sound.destination; parts = ap (λ (x : List ℕ). x ++ (snet_octets h.source ++ (hop_octets h.destination ++ (message_octets h.message ++ h.body)))) (dnet_is h.destination) };
+  place = record {
+    fits = place_fits _ h.destination s.bits.destination s.sound.destination;
+    parts =
+        ap (λ (x : List ℕ). x ++ (snet_octets h.source ++ (hop_octets h.destination ++ (message_octets h.message ++ h.body)))) (dnet_is h.destination);
+  };
   source = record { fits = record { announced = s.bits.source; sound = s.sound.source }; parts = refl };
   hops = record { fits = hops_fit h.destination s.sound.destination; parts = refl };
   message = record { fits = record { announced = s.bits.message; sound = s.sound.message }; parts = refl };

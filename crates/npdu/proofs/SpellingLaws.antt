@@ -37,11 +37,13 @@ one_type IAmRouterToNetwork IAmRouterToNetwork a b s t e = (refl, cc)
 one_type RejectMessageToNetwork RejectMessageToNetwork a b s t e = (refl, cc)
 one_type m n a b s t e = absurd (grind arith)
 
-one_message : (present : Bool) (octets : List ℕ) (o q : Option Message) (a b : List ℕ) → Takes (IsMessageIf present) message_octets octets o a → Takes (IsMessageIf present) message_octets octets q b → (o ≡ q) × (a ≡ b)
+one_message : (present : Bool) (octets : List ℕ) (o q : Option Message) (a b : List ℕ) → Takes (IsMessageIf present) message_octets octets o a →
+    Takes (IsMessageIf present) message_octets octets q b → (o ≡ q) × (a ≡ b)
 one_message present octets None None a b s t = (refl, cc)
 one_message present octets None (Some q) a b s t = absurd (cc (s.fits.announced, t.fits.announced))
 one_message present octets (Some p) None a b s t = absurd (cc (s.fits.announced, t.fits.announced))
-one_message present octets (Some p) (Some q) a b s t = let m = one_type p q a b s.fits.sound t.fits.sound (sym s.parts ∙ t.parts) in (ap (λ (x : Message). Some x) m.0, m.1)
+one_message present octets (Some p) (Some q) a b s t = let m = one_type p q a b s.fits.sound t.fits.sound (sym s.parts ∙ t.parts) in
+    (ap (λ (x : Message). Some x) m.0, m.1)
 
 destined : Dnet → List ℕ → ℕ → Option PlainDestination
 destined net mac hops = Some (record { net = net; mac = mac; hops = hops })
@@ -53,7 +55,8 @@ destined_again p = refl
 some_destination_is : (p q : PlainDestination) → p.net ≡ q.net → p.mac ≡ q.mac → p.hops ≡ q.hops → Some p ≡ Some q
 some_destination_is p q e f g = cc (destined_again p, destined_again q)
 
-one_destination : (at : Option Place) (octets : List ℕ) (o q : Option PlainDestination) (a b : List ℕ) → Takes (IsDestinationAt at) hop_octets octets o a → Takes (IsDestinationAt at) hop_octets octets q b → (o ≡ q) × (a ≡ b)
+one_destination : (at : Option Place) (octets : List ℕ) (o q : Option PlainDestination) (a b : List ℕ) → Takes (IsDestinationAt at) hop_octets octets o a →
+    Takes (IsDestinationAt at) hop_octets octets q b → (o ≡ q) × (a ≡ b)
 one_destination at octets None None a b s t = (refl, cc)
 one_destination at octets None (Some q) a b s t = absurd (cc (s.fits.place, t.fits.place))
 one_destination at octets (Some p) None a b s t = absurd (cc (s.fits.place, t.fits.place))
@@ -67,7 +70,8 @@ one_destination at octets (Some p) (Some q) a b s t =
     (some_destination_is p q net mac hops, rest)
 
 made : Bool → Priority → Option PlainDestination → Option PlainSource → Option Message → List ℕ → Header
-made expects_reply priority destination source message body = record { expects_reply = expects_reply; priority = priority; destination = destination; source = source; message = message; body = body }
+made expects_reply priority destination source message body =
+    record { expects_reply = expects_reply; priority = priority; destination = destination; source = source; message = message; body = body }
 
 made_again : (h : Header) → made h.expects_reply h.priority h.destination h.source h.message h.body ≡ h
 unfolding made
@@ -96,7 +100,8 @@ fields_behind octets h control rest s e =
 pub one_header : (octets : List ℕ) (h k : Header) → Spells octets h → Spells octets k → h ≡ k
 one_header octets h k s t = one_fields t.control (fields k) h k (fields_behind octets h t.control (fields k) s t.parts) (fields_in octets k t)
 
-pub only_header : (octets : List ℕ) (control : ℕ) (rest : List ℕ) (h : Header) → octets ≡ 1 ∷ (control ∷ rest) → SpellsFields control rest h → OnlyHeader octets h
+pub only_header : (octets : List ℕ) (control : ℕ) (rest : List ℕ) (h : Header) → octets ≡ 1 ∷ (control ∷ rest) → SpellsFields control rest h →
+    OnlyHeader octets h
 only_header octets control rest h e s = record { only = λ k t. one_fields control rest h k s (fields_behind octets k control rest t e) }
 
 not_zero : (net : Dnet) → IsDnet net → 0 ≡ dnet_number net → ⊥
@@ -104,32 +109,46 @@ not_zero (Network n) sound e = absurd (omega arith)
 not_zero Global sound e = absurd (omega arith)
 
 -- no octets behind mend a destination or a source that there is not
-mends_place : (present : Bool) (octets more : List ℕ) (o : Option Place) (a : List ℕ) → IsBadPlace present octets → Takes (IsPlaceIf present) place_octets (octets ++ more) o a → ⊥
+mends_place : (present : Bool) (octets more : List ℕ) (o : Option Place) (a : List ℕ) → IsBadPlace present octets →
+    Takes (IsPlaceIf present) place_octets (octets ++ more) o a → ⊥
 mends_place present octets more None a bad t = absurd (cc (bad.is, t.fits.announced))
 mends_place present octets more (Some p) a bad t =
-    let n = one_number 0 (dnet_number p.net) (bad.rest ++ more) (length p.mac ∷ (p.mac ++ a)) (omega arith) (dnet-lt p.net t.fits.sound.0) (sym (ap (λ (x : List ℕ). x ++ more) bad.front) ∙ t.parts) in
+    let n = one_number 0 (dnet_number p.net) (bad.rest ++ more) (length p.mac ∷ (p.mac ++ a)) (omega arith) (dnet-lt p.net t.fits.sound.0)
+    (sym (ap (λ (x : List ℕ). x ++ more) bad.front) ∙ t.parts) in
     not_zero p.net t.fits.sound.0 n.0
 
-mends_source : (present : Bool) (octets more : List ℕ) (o : Option PlainSource) (a : List ℕ) → IsBadSource present octets → Takes (IsSourceIf present) snet_octets (octets ++ more) o a → ⊥
+mends_source : (present : Bool) (octets more : List ℕ) (o : Option PlainSource) (a : List ℕ) → IsBadSource present octets →
+    Takes (IsSourceIf present) snet_octets (octets ++ more) o a → ⊥
 mends_source present octets more None a bad t = absurd (cc (bad.is, t.fits.announced))
 mends_source present octets more (Some p) a bad t =
-    let e : (big_bytes 2 bad.net ++ bad.rest) ++ more ≡ (big_bytes 2 p.net ++ (length p.mac ∷ p.mac)) ++ a = sym (ap (λ (x : List ℕ). x ++ more) bad.front) ∙ t.parts in
+    let e : (big_bytes 2 bad.net ++ bad.rest) ++ more ≡ (big_bytes 2 p.net ++ (length p.mac ∷ p.mac)) ++ a =
+    sym (ap (λ (x : List ℕ). x ++ more) bad.front) ∙ t.parts in
     elim bad.cause [
-      | inl zero-is ↦ absurd (omega (arith, t.fits.sound, (one_number bad.net p.net (bad.rest ++ more) (length p.mac ∷ (p.mac ++ a)) (omega arith) (omega (arith, t.fits.sound)) e).0))
+      | inl zero-is ↦ absurd (omega (
+        arith,
+        t.fits.sound,
+        (one_number bad.net p.net (bad.rest ++ more) (length p.mac ∷ (p.mac ++ a)) (omega arith) (omega (arith, t.fits.sound)) e).0,
+      ))
       | inr other ↦ elim other [
-        | inl global ↦ absurd (omega (arith, t.fits.sound, (one_number bad.net p.net (bad.rest ++ more) (length p.mac ∷ (p.mac ++ a)) (omega arith) (omega (arith, t.fits.sound)) e).0))
+        | inl global ↦ absurd (omega (
+          arith,
+          t.fits.sound,
+          (one_number bad.net p.net (bad.rest ++ more) (length p.mac ∷ (p.mac ++ a)) (omega arith) (omega (arith, t.fits.sound)) e).0,
+        ))
         | inr none ↦ let empty : length p.mac ≡ 0 = cc (e, none.front) in absurd (omega (arith, t.fits.sound))
       ]
     ]
 
 cut_misfit : (octets : List ℕ) → IsCut octets → IsMisfit octets → ⊥
 cut_misfit octets cut misfit =
-    let s = fields_behind (octets ++ cut.more) cut.header misfit.control (misfit.rest ++ cut.more) cut.whole (ap (λ (x : List ℕ). x ++ cut.more) misfit.front) in
+    let s = fields_behind (octets ++ cut.more) cut.header misfit.control (misfit.rest ++ cut.more) cut.whole
+    (ap (λ (x : List ℕ). x ++ cut.more) misfit.front) in
     elim misfit.cause [
       | inl place ↦ mends_place _ misfit.rest cut.more _ _ place s.place
       | inr behind ↦
           let p = one_place _ (misfit.rest ++ cut.more) _ _ _ _ (longer _ _ misfit.rest behind.place behind.rest cut.more behind.behind) s.place in
-          let from_source : Takes (IsSourceIf (misfit.control / 8 % 2 == 1)) snet_octets (behind.rest ++ cut.more) cut.header.source s.at_hops = rw (p.1) s.source in
+          let from_source : Takes (IsSourceIf (misfit.control / 8 % 2 == 1)) snet_octets (behind.rest ++ cut.more) cut.header.source s.at_hops =
+          rw (p.1) s.source in
           mends_source _ behind.rest cut.more _ _ behind.source from_source
     ]
 

@@ -86,7 +86,9 @@ station_order = record {
 }
 
 -- six octets, one by one
-pub six_at : (octets : List ℕ) → 6 ≤ length octets → length octets < 7 → (slice_index_or octets 0 0 ∷ slice_index_or octets 1 0 ∷ slice_index_or octets 2 0 ∷ slice_index_or octets 3 0 ∷ slice_index_or octets 4 0 ∷ slice_index_or octets 5 0 ∷ []) ≡ octets
+pub six_at : (octets : List ℕ) → 6 ≤ length octets → length octets < 7 →
+    (slice_index_or octets 0 0 ∷ slice_index_or octets 1 0 ∷ slice_index_or octets 2 0 ∷ slice_index_or octets 3 0 ∷ slice_index_or octets 4 0 ∷
+    slice_index_or octets 5 0 ∷ []) ≡ octets
 six_at [] low high = absurd (omega (arith, low))
 six_at (a ∷ []) low high = absurd (omega (arith, low))
 six_at (a ∷ b ∷ []) low high = absurd (omega (arith, low))

@@ -15,7 +15,7 @@ pub record Takes {A : Type 0} (IsField : A → Type 0) (spelling : A → List �
   pub fits : IsField a
   pub parts : octets ≡ spelling a ++ rest
 
--- .. and with that of no other
+-- octets begin with this field and with no other
 pub record Only {A : Type 0} (IsField : A → Type 0) (spelling : A → List ℕ) (octets : List ℕ) (a : A)
     (rest : List ℕ) : Type 0 where
   pub only : (b : A) (after : List ℕ) → Takes IsField spelling octets b after → (a ≡ b) × (rest ≡ after)

@@ -13,6 +13,10 @@ use Rattle.npdu.specs.declared.view.Dnet.{Dnet}
 use Rattle.npdu.specs.declared.view.Source.{Source}
 use Rattle.npdu.specs.declared.view.View.{View}
 
+-- the hop count of a message where it sets out (6.2.3)
+abbrev pub INITIAL_HOP_COUNT : ℕ
+INITIAL_HOP_COUNT = 255
+
 -- DNET, DADR and hop count (6.2.2)
 pub record PlainDestination : Type 0 where
   pub net : Dnet

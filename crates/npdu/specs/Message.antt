@@ -3,8 +3,8 @@ use Rattle.std.specs.Prelude.{◌≢◌, ℕ, ◌<◌, ◌≤◌, ◌^◌, List,
 use Rattle.byteorder.specs.Endian.{big_bytes}
 use Rattle.npdu.specs.declared.message.Message.{Message}
 use Rattle.npdu.specs.declared.message.Message.TheVariants.{WhoIsRouterToNetwork, IAmRouterToNetwork, RejectMessageToNetwork, Other, Proprietary}
-use Rattle.npdu.specs.declared.message.RejectReason.{RejectReason}
-use Rattle.npdu.specs.declared.message.RejectReason.TheVariants.{NoRoute, UnknownMessageType, TooLong}
+use Rattle.npdu.specs.declared.message.NetworkRejectReason.{NetworkRejectReason}
+use Rattle.npdu.specs.declared.message.NetworkRejectReason.TheVariants.{NoRoute, UnknownMessageType, TooLong}
 
 -- the message type octet (6.2.4)
 abbrev pub message_type : Message → ℕ
@@ -26,7 +26,7 @@ IsMessage (Proprietary kind vendor) = (128 ≤ kind) × (kind < 256) × (vendor 
 IsMessage message = Unit {0}
 
 -- the reason's octet in a Reject-Message-To-Network (6.4.4)
-abbrev pub reason_number : RejectReason → ℕ
+abbrev pub reason_number : NetworkRejectReason → ℕ
 reason_number NoRoute = 1
 reason_number UnknownMessageType = 3
 reason_number TooLong = 4

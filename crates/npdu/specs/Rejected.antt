@@ -13,7 +13,7 @@ pub record SpellsRejected (octets : List ℕ) (r : Rejected) : Type 0 where
   pub net : r.net < 2 ^ 16
   pub parts : octets ≡ rejected_octets r
 
--- .. and no others
+-- octets are these contents and no others
 pub record OnlyRejected (octets : List ℕ) (r : Rejected) : Type 0 where
   pub only : (x : Rejected) → SpellsRejected octets x → r ≡ x
 

@@ -1,11 +1,14 @@
 //! What holds of all headers and their spellings, and of all stations.
 
 ghost use Rattle.std.specs.Prelude.{◌≡◌, ◌≤◌, ◌/◌, ◌%◌, ℕ, List, length};
+ghost use Rattle.npdu.specs.Header as header;
 ghost use Rattle.npdu.specs.Header.{Header, IsSound, Spells, canonical, control_of};
 ghost use Rattle.npdu.specs.Refusals.{Refuses};
 ghost use Rattle.tags.specs.declared.fault.Fault.{Fault};
 ghost use Rattle.npdu.specs.Mac.{IsSameStation, StationOrder};
 ghost use Rattle.npdu.specs.declared.mac.Station.{Station};
+
+use crate::view::INITIAL_HOP_COUNT;
 
 /// What octets spell is one header, and octets are refused for one cause.
 pub fn one_header()
@@ -20,6 +23,13 @@ pub fn canonical_is_shortest()
     ensures bit_6 { (h : Header) → control_of h / 64 % 2 ≡ 0 }
     ensures bit_4 { (h : Header) → control_of h / 16 % 2 ≡ 0 }
 {}
+
+/// The hop count that a message begins with is that of its definition (6.2.3).
+pub fn initial_hop_count() -> u8
+    ensures { result ≡ header.INITIAL_HOP_COUNT }
+{
+    INITIAL_HOP_COUNT
+}
 
 /// Stations are one exactly where their networks and addresses are the same.
 #[tactic(auto, using(crate::proofs::Stations::one_station))]

@@ -20,9 +20,9 @@ mod rejected;
 mod view;
 
 pub use header::write;
-pub use laws::{canonical_is_shortest, one_header, one_station, station_order};
+pub use laws::{canonical_is_shortest, initial_hop_count, one_header, one_station, station_order};
 pub use mac::{Mac, Station, Target, Way};
-pub use message::{Message, RejectReason};
+pub use message::{Message, NetworkRejectReason};
 pub use parcel::Parcel;
 pub use priority::Priority;
 pub use rejected::Rejected;

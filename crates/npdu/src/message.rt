@@ -13,7 +13,7 @@ pub enum Message {
     WhoIsRouterToNetwork,
     /// Type 1: the networks that are reached through the sender.
     IAmRouterToNetwork,
-    /// Type 3: a message was not passed on, for a `RejectReason`.
+    /// Type 3: a message was not passed on, for a `NetworkRejectReason`.
     RejectMessageToNetwork,
     /// Another type of the standard's range, 2 or 4..=127.
     Other(u8),
@@ -51,7 +51,7 @@ impl Message {
 
 /// Why a router did not pass a message on (6.4.4).
 #[derive(Clone, Copy, Debug, PartialEq, Eq)]
-pub enum RejectReason {
+pub enum NetworkRejectReason {
     /// No route to the network is known.
     NoRoute = 1,
     /// The type of the network message is not known.
@@ -60,25 +60,25 @@ pub enum RejectReason {
     TooLong = 4,
 }
 
-impl From<RejectReason> for u8 {
+impl From<NetworkRejectReason> for u8 {
     ghost from_gives = { λ reason n. n ≡ reason_number reason };
 
-    fn from(reason: RejectReason) -> u8 {
+    fn from(reason: NetworkRejectReason) -> u8 {
         reason as u8
     }
 }
 
-impl TryFrom<u8> for RejectReason {
+impl TryFrom<u8> for NetworkRejectReason {
     type Error = Fault;
 
     ghost try_from_gives = { λ n r. MatchResult r (λ reason. reason_number reason ≡ n)
         (λ fault. (fault ≡ NoSuch) × (n ≢ 1) × (n ≢ 3) × (n ≢ 4)) };
 
-    fn try_from(number: u8) -> Result<RejectReason, Fault> {
+    fn try_from(number: u8) -> Result<NetworkRejectReason, Fault> {
         match number {
-            1 => Ok(RejectReason::NoRoute),
-            3 => Ok(RejectReason::UnknownMessageType),
-            4 => Ok(RejectReason::TooLong),
+            1 => Ok(NetworkRejectReason::NoRoute),
+            3 => Ok(NetworkRejectReason::UnknownMessageType),
+            4 => Ok(NetworkRejectReason::TooLong),
             _ => Err(Fault::NoSuch),
         }
     }

@@ -3,7 +3,7 @@
 ghost use Rattle.std.specs.Prelude.{◌≡◌, ◌++◌, ◌≤◌, IfSome, IfNone, IfErr, OnOk, OnErr};
 ghost use Rattle.npdu.specs.Rejected.{NoRejected, OnlyRejected, SpellsRejected, rejected_octets};
 
-use crate::message::RejectReason;
+use crate::message::NetworkRejectReason;
 use byteorder::{BigEndian, ByteOrder};
 use std::alloc::{AllocError, Allocator};
 
@@ -11,7 +11,7 @@ use std::alloc::{AllocError, Allocator};
 #[derive(Clone, Copy, Debug, PartialEq, Eq)]
 pub struct Rejected {
     /// Why a message was not passed on.
-    pub reason: RejectReason,
+    pub reason: NetworkRejectReason,
     /// The number of the network that it was for, or, where its type was not known, of the one that it was heard
     /// on: 0..=65535.
     pub net: u16,
@@ -28,7 +28,7 @@ impl Rejected {
         let [reason, high, low] = contents else {
             return None;
         };
-        let Ok(reason) = RejectReason::try_from(*reason) else {
+        let Ok(reason) = NetworkRejectReason::try_from(*reason) else {
             return None;
         };
         Some(Rejected {

@@ -11,6 +11,8 @@ counted_if true true p q = refl
 counted_if true false p q = q
 counted_if false b p q = p
 
-pub put_level_is : {A : Type 0} (slots : List (Option (Value A))) (level : ℕ) (v : Option (Value A)) → 1 ≤ level → level ≤ 16 → put_level slots level v ≡ put_slot slots level v
+pub put_level_is : {A : Type 0} (slots : List (Option (Value A))) (level : ℕ) (v : Option (Value A)) → 1 ≤ level → level ≤ 16 →
+    put_level slots level v ≡ put_slot slots level v
 put_level_is slots level v low high =
-    ap (λ (counts : Bool). cond counts (put_slot slots level v) slots) (counted_if (nat_lt 0 level) (nat_lt level 17) (lt-ltb 0 level (omega (arith, low))) (lt-ltb level 17 (omega (arith, high))))
+    ap (λ (counts : Bool). cond counts (put_slot slots level v) slots)
+    (counted_if (nat_lt 0 level) (nat_lt level 17) (lt-ltb 0 level (omega (arith, low))) (lt-ltb level 17 (omega (arith, high))))

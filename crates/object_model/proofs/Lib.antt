@@ -6,3 +6,4 @@ pub mod SoundLaws
 pub mod LocateLaws
 pub mod SoundReplyLaws
 pub mod ObjectPlaceLaws
+pub mod SupportedLaws

@@ -30,25 +30,31 @@ pub record IsLocated {A : Type 0} (t : PlainTable A) (id : ObjectId) (number : �
   pub property : property_at at.object number ≡ Some at.property
   pub element : index_refusal (is_array at.property) (length (held t at.object at.property)) index ≡ None
 
-located_element : {A : Type 0} (t : PlainTable A) (id : ObjectId) (number : ℕ) (index : Option ℕ) (at : Place A) (o : Object A) (p : Property) (refused : Option Refusal) → object_at t id ≡ Some o → property_at o number ≡ Some p → index_refusal (is_array p) (length (held t o p)) index ≡ refused → place_or refused (record { object = o; property = p }) ≡ Ok at → IsLocated t id number index at
+located_element : {A : Type 0} (t : PlainTable A) (id : ObjectId) (number : ℕ) (index : Option ℕ) (at : Place A) (o : Object A) (p : Property)
+    (refused : Option Refusal) → object_at t id ≡ Some o → property_at o number ≡ Some p → index_refusal (is_array p) (length (held t o p)) index ≡ refused →
+    place_or refused (record { object = o; property = p }) ≡ Ok at → IsLocated t id number index at
 located_element t id number index at o p None found named fits e =
     subst (λ (at : Place _). IsLocated t id number index at) (ok_same _ _ e) (record { object = found; property = named; element = fits })
 located_element t id number index at o p (Some r) found named fits e = absurd (err_ok _ _ e)
 
-located_property : {A : Type 0} (t : PlainTable A) (id : ObjectId) (number : ℕ) (index : Option ℕ) (at : Place A) (o : Object A) (named : Option Property) → object_at t id ≡ Some o → property_at o number ≡ named → locate_element t o named index ≡ Ok at → IsLocated t id number index at
+located_property : {A : Type 0} (t : PlainTable A) (id : ObjectId) (number : ℕ) (index : Option ℕ) (at : Place A) (o : Object A) (named : Option Property) →
+    object_at t id ≡ Some o → property_at o number ≡ named → locate_element t o named index ≡ Ok at → IsLocated t id number index at
 located_property t id number index at o None found named e = absurd (err_ok _ _ e)
 located_property t id number index at o (Some p) found named e = located_element t id number index at o p _ found named refl e
 
-located_object : {A : Type 0} (t : PlainTable A) (id : ObjectId) (number : ℕ) (index : Option ℕ) (at : Place A) (found : Option (Object A)) → object_at t id ≡ found → locate_property t found number index ≡ Ok at → IsLocated t id number index at
+located_object : {A : Type 0} (t : PlainTable A) (id : ObjectId) (number : ℕ) (index : Option ℕ) (at : Place A) (found : Option (Object A)) →
+    object_at t id ≡ found → locate_property t found number index ≡ Ok at → IsLocated t id number index at
 located_object t id number index at None found e = absurd (err_ok _ _ e)
 located_object t id number index at (Some o) found e = located_property t id number index at o _ found refl e
 
 -- a place is that of an object and property that are there
-pub located : {A : Type 0} (t : PlainTable A) (id : ObjectId) (number : ℕ) (index : Option ℕ) (at : Place A) → locate t id number index ≡ Ok at → IsLocated t id number index at
+pub located : {A : Type 0} (t : PlainTable A) (id : ObjectId) (number : ℕ) (index : Option ℕ) (at : Place A) → locate t id number index ≡ Ok at →
+    IsLocated t id number index at
 located t id number index at e = located_object t id number index at _ refl e
 
 -- and the other way round
-pub locates : {A : Type 0} (t : PlainTable A) (id : ObjectId) (number : ℕ) (index : Option ℕ) (at : Place A) → IsLocated t id number index at → locate t id number index ≡ Ok at
+pub locates : {A : Type 0} (t : PlainTable A) (id : ObjectId) (number : ℕ) (index : Option ℕ) (at : Place A) → IsLocated t id number index at →
+    locate t id number index ≡ Ok at
 locates t id number index at l =
     ap (λ (found : Option (Object _)). locate_property t found number index) l.object
     ∙ ap (λ (named : Option Property). locate_element t at.object named index) l.property
@@ -61,11 +67,14 @@ pub record IsDone {A : Type 0} (t : PlainTable A) (id : ObjectId) (w : PropertyW
   pub taken : write_refusal (access at.object at.property) (level_of w.priority) w.values ≡ None
   pub table : with_object t id (put at.property (level_of w.priority) w.values) ≡ written
 
-written_unless : {A : Type 0} (t : PlainTable A) (id : ObjectId) (w : PropertyWrite A) (written : PlainTable A) (at : Place A) (refused : Option Refusal) → IsLocated t id w.property w.index at → write_refusal (access at.object at.property) (level_of w.priority) w.values ≡ refused → unless refused (with_object t id (put at.property (level_of w.priority) w.values)) ≡ Ok written → IsDone t id w written
+written_unless : {A : Type 0} (t : PlainTable A) (id : ObjectId) (w : PropertyWrite A) (written : PlainTable A) (at : Place A) (refused : Option Refusal) →
+    IsLocated t id w.property w.index at → write_refusal (access at.object at.property) (level_of w.priority) w.values ≡ refused →
+    unless refused (with_object t id (put at.property (level_of w.priority) w.values)) ≡ Ok written → IsDone t id w written
 written_unless t id w written at None l taken e = record { at = at; located = l; taken = taken; table = ok_same _ _ e }
 written_unless t id w written at (Some r) l taken e = absurd (err_ok _ _ e)
 
-written_place : {A : Type 0} (t : PlainTable A) (id : ObjectId) (w : PropertyWrite A) (written : PlainTable A) (place : Result (Place A) Refusal) → locate t id w.property w.index ≡ place → write_place t id w place ≡ Ok written → IsDone t id w written
+written_place : {A : Type 0} (t : PlainTable A) (id : ObjectId) (w : PropertyWrite A) (written : PlainTable A) (place : Result (Place A) Refusal) →
+    locate t id w.property w.index ≡ place → write_place t id w place ≡ Ok written → IsDone t id w written
 written_place t id w written (Err r) l e = absurd (err_ok _ _ e)
 written_place t id w written (Ok at) l e = written_unless t id w written at _ (located t id w.property w.index at l) refl e
 
@@ -81,7 +90,9 @@ does t id w written d =
     ∙ ap (λ (x : PlainTable _). done x) d.table
 
 -- a sound table stays sound under a write of sound values
-pub IsSoundTable-write : {A : Type 0} (t : PlainTable A) (id : ObjectId) (w : PropertyWrite A) (written : PlainTable A) → IsSoundTable t → AreSound w.values → write t id w ≡ Ok written → IsSoundTable written
+pub IsSoundTable-write : {A : Type 0} (t : PlainTable A) (id : ObjectId) (w : PropertyWrite A) (written : PlainTable A) → IsSoundTable t → AreSound w.values →
+    write t id w ≡ Ok written → IsSoundTable written
 IsSoundTable-write t id w written s sound e =
     let d = is_done t id w written e in
-    subst (λ (x : PlainTable _). IsSoundTable x) d.table (IsSoundTable-put t id d.at.object d.at.property (level_of w.priority) w.values s d.located.object d.taken sound)
+    subst (λ (x : PlainTable _). IsSoundTable x) d.table
+    (IsSoundTable-put t id d.at.object d.at.property (level_of w.priority) w.values s d.located.object d.taken sound)

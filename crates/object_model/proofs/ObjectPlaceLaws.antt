@@ -19,7 +19,8 @@ stands_behind : {A : Type 0} (o : Object A) (os : List (Object A)) (place : Opti
 stands_behind o os None = refl
 stands_behind o os (Some place) = refl
 
-object_at_place_if : {A : Type 0} (test : Bool) (o : Object A) (os : List (Object A)) (place : Option ℕ) (found : Option (Object A)) → found ≡ stands_at os place → cond test (Some o) found ≡ stands_at (o ∷ os) (cond test (Some 0) (option_map suc place))
+object_at_place_if : {A : Type 0} (test : Bool) (o : Object A) (os : List (Object A)) (place : Option ℕ) (found : Option (Object A)) →
+    found ≡ stands_at os place → cond test (Some o) found ≡ stands_at (o ∷ os) (cond test (Some 0) (option_map suc place))
 object_at_place_if true o os place found e = refl
 object_at_place_if false o os place found e = e ∙ sym (stands_behind o os place)
 
@@ -33,28 +34,35 @@ abbrev pub changed_at : {A : Type 0} → PlainTable A → Option ℕ → Option 
 changed_at t (Some place) (Some o) change = slice_set t place (change o)
 changed_at t place found change = t
 
-changed_behind : {A : Type 0} (o : Object A) (os : List (Object A)) (place : Option ℕ) (found : Option (Object A)) (change : Object A → Object A) → o ∷ changed_at os place found change ≡ changed_at (o ∷ os) (option_map suc place) found change
+changed_behind : {A : Type 0} (o : Object A) (os : List (Object A)) (place : Option ℕ) (found : Option (Object A)) (change : Object A → Object A) →
+    o ∷ changed_at os place found change ≡ changed_at (o ∷ os) (option_map suc place) found change
 changed_behind o os None found change = refl
 changed_behind o os (Some place) None change = refl
 changed_behind o os (Some place) (Some q) change = refl
 
-with_object_place_if : {A : Type 0} (test : Bool) (o : Object A) (os os' : List (Object A)) (place : Option ℕ) (found : Option (Object A)) (change : Object A → Object A) → os' ≡ changed_at os place found change → cond test (change o ∷ os) (o ∷ os') ≡ changed_at (o ∷ os) (cond test (Some 0) (option_map suc place)) (cond test (Some o) found) change
+with_object_place_if : {A : Type 0} (test : Bool) (o : Object A) (os os' : List (Object A)) (place : Option ℕ) (found : Option (Object A))
+    (change : Object A → Object A) → os' ≡ changed_at os place found change →
+    cond test (change o ∷ os) (o ∷ os') ≡ changed_at (o ∷ os) (cond test (Some 0) (option_map suc place)) (cond test (Some o) found) change
 with_object_place_if true o os os' place found change e = refl
 with_object_place_if false o os os' place found change e = ap (λ (xs : List (Object _)). o ∷ xs) e ∙ changed_behind o os place found change
 
-with_object_at : {A : Type 0} (t : PlainTable A) (id : ObjectId) (change : Object A → Object A) → with_object t id change ≡ changed_at t (place_of (map identifier t) id) (object_at t id) change
+with_object_at : {A : Type 0} (t : PlainTable A) (id : ObjectId) (change : Object A → Object A) →
+    with_object t id change ≡ changed_at t (place_of (map identifier t) id) (object_at t id) change
 with_object_at [] id change = refl
 with_object_at (o ∷ os) id change =
-    with_object_place_if (is_named id o) o os (with_object os id change) (place_of (map identifier os) id) (object_at os id) change (with_object_at os id change)
+    with_object_place_if (is_named id o) o os (with_object os id change) (place_of (map identifier os) id) (object_at os id) change
+    (with_object_at os id change)
 
 -- to change the object of an identifier is to set what stands at its place
-pub with_object-place : {A : Type 0} (t : PlainTable A) (id : ObjectId) (place : ℕ) (o : Object A) (change : Object A → Object A) → place_of (map identifier t) id ≡ Some place → slice_get t place ≡ Some o → with_object t id change ≡ slice_set t place (change o)
+pub with_object-place : {A : Type 0} (t : PlainTable A) (id : ObjectId) (place : ℕ) (o : Object A) (change : Object A → Object A) →
+    place_of (map identifier t) id ≡ Some place → slice_get t place ≡ Some o → with_object t id change ≡ slice_set t place (change o)
 with_object-place t id place o change at here =
     with_object_at t id change
     ∙ ap (λ (at : Option ℕ). changed_at t at (object_at t id) change) at
     ∙ ap (λ (found : Option (Object _)). changed_at t (Some place) found change) (object_at-place t id ∙ ap (stands_at t) at ∙ here)
 
-place_within_if : (test : Bool) (found : Option ℕ) (ids : List ObjectId) (p : ObjectId) (place : ℕ) → cond test (Some 0) (option_map suc found) ≡ Some place → ((behind : ℕ) → found ≡ Some behind → behind < length ids) → place < length (p ∷ ids)
+place_within_if : (test : Bool) (found : Option ℕ) (ids : List ObjectId) (p : ObjectId) (place : ℕ) → cond test (Some 0) (option_map suc found) ≡ Some place →
+    ((behind : ℕ) → found ≡ Some behind → behind < length ids) → place < length (p ∷ ids)
 place_within_if true found ids p place e within = let zero_is = some_same 0 place e in omega (arith, zero_is)
 place_within_if false None ids p place e within = absurd (some_none place (sym e))
 place_within_if false (Some behind) ids p place e within =

@@ -19,19 +19,22 @@ true_is_not e = cc e
 pub same_is : (p q : ObjectId) → same_id p q ≡ true → p ≡ q
 same_is p q e =
     let parts = and_parts _ _ e in
-    ap (λ (n : ℕ). record { object_type = n; instance = p.instance }) (eqb-true _ _ parts.0) ∙ ap (λ (n : ℕ). record { object_type = q.object_type; instance = n }) (eqb-true _ _ parts.1)
+    ap (λ (n : ℕ). record { object_type = n; instance = p.instance }) (eqb-true _ _ parts.0)
+    ∙ ap (λ (n : ℕ). record { object_type = q.object_type; instance = n }) (eqb-true _ _ parts.1)
 
 pub is_none : {X : Type 0} (o : Option X) → is_some o ≡ false → o ≡ None
 is_none None e = refl
 is_none (Some x) e = absurd (true_is_not (sym e))
 
-noted_if : (old : Option ℕ) (test : Bool) (place : ℕ) (put q : ObjectId) → same_id put q ≡ test → (test ≡ true → old ≡ None) → cond test (Some place) old ≡ also_at old put place q
+noted_if : (old : Option ℕ) (test : Bool) (place : ℕ) (put q : ObjectId) → same_id put q ≡ test → (test ≡ true → old ≡ None) →
+    cond test (Some place) old ≡ also_at old put place q
 noted_if None test place put q e none = rw e refl
 noted_if (Some p) false place put q e none = refl
 noted_if (Some p) true place put q e none = cc (none refl)
 
 -- a place put into the map is one put behind the list
-pub noted : (at : ObjectId → Option ℕ) (put q : ObjectId) (place : ℕ) → at put ≡ None → cond (is_eq (id_cmp put q)) (Some place) (at q) ≡ also_at (at q) put place q
+pub noted : (at : ObjectId → Option ℕ) (put q : ObjectId) (place : ℕ) → at put ≡ None →
+    cond (is_eq (id_cmp put q)) (Some place) (at q) ≡ also_at (at q) put place q
 noted at put q place none =
     noted_if (at q) (is_eq (id_cmp put q)) place put q (sym (same_by_cmp put q)) (λ e. ap at (sym (same_is put q (sym (same_by_cmp put q) ∙ e))) ∙ none)
 
@@ -44,7 +47,8 @@ also_next (Some n) put q place = refl
 also_next None put q place = also_next_if (same_id put q) place
 
 pushed_if : (test : Bool) (ids : List ObjectId) (put q : ObjectId) → place_of (ids ++ put ∷ []) q ≡ also_at (place_of ids q) put (length ids) q
-    → (if test then Some 0 else option_map suc (place_of (ids ++ put ∷ []) q)) ≡ also_at (if test then Some 0 else option_map suc (place_of ids q)) put (suc (length ids)) q
+    → (if test then Some 0 else option_map suc (place_of (ids ++ put ∷ []) q))
+    ≡ also_at (if test then Some 0 else option_map suc (place_of ids q)) put (suc (length ids)) q
 pushed_if true ids put q e = refl
 pushed_if false ids put q e = ap (option_map suc) e ∙ also_next (place_of ids q) put q (length ids)
 

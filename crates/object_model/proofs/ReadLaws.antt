@@ -29,13 +29,15 @@ pub value_array : {A : Type 0} (o : ValueObject A) (p : Property) → is_array p
 value_array o property.ObjectList e other = refl
 value_array o p e other = grind arith
 
-slot_from : {A : Type 0} (slots : List (Option (Value A))) (place : ℕ) → place < length slots → slice_get (map slot_value slots) place ≡ Some (slot_value (slice_index_or slots place None))
+slot_from : {A : Type 0} (slots : List (Option (Value A))) (place : ℕ) → place < length slots →
+    slice_get (map slot_value slots) place ≡ Some (slot_value (slice_index_or slots place None))
 slot_from [] place below = absurd (omega (arith, below))
 slot_from (s ∷ ss) zero below = refl
 slot_from (s ∷ ss) (suc place) below = slot_from ss place (omega (arith, below))
 
 -- the element at a place is what its slot holds
-pub slot_at : {A : Type 0} (slots : List (Option (Value A))) (place : ℕ) → place < length slots → slice_get (map slot_value slots) place ≡ Some (slot_value (slot slots (place + 1)))
+pub slot_at : {A : Type 0} (slots : List (Option (Value A))) (place : ℕ) → place < length slots →
+    slice_get (map slot_value slots) place ≡ Some (slot_value (slot slots (place + 1)))
 slot_at slots place below =
     let same : place ≡ place + 1 - 1 = omega arith in
     slot_from slots place below ∙ ap (λ (n : ℕ). Some (slot_value (slice_index_or slots n None))) same

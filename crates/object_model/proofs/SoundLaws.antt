@@ -20,9 +20,11 @@ use Rattle.object_model.specs.Objects.{PlainTable, identifier, name_of, type_of}
 use Rattle.primitives.specs.Numbers.{type_number}
 use Rattle.object_model.specs.Reading.{Refusal, is_named, object_at}
 use Rattle.primitives.specs.Sound.{AreSound}
-use Rattle.object_model.specs.Site.{IsText, IsSlotOf, IsSoundValueObject, IsSoundDevice, IsSoundObjectOf, IsOther, AllApart, IsValueObject, HasOneDevice, IsSoundTable}
+use Rattle.object_model.specs.Site.{IsText, IsSlotOf, IsSoundValueObject, IsSoundDevice, IsSoundObjectOf, IsOther, AllApart, IsValueObject, HasOneDevice}
+use Rattle.object_model.specs.Site.{IsSoundTable}
 use Rattle.object_model.specs.Levels.{put_level}
-use Rattle.object_model.specs.Writing.{access_denied, other_character_set, datatype_of, access, text_refusal, command_refusal, write_refusal, commanded, put_value, put_device, put, with_object}
+use Rattle.object_model.specs.Writing.{access_denied, other_character_set, datatype_of, access, text_refusal, command_refusal, write_refusal, commanded}
+use Rattle.object_model.specs.Writing.{put_value, put_device, put, with_object}
 
 -- ---- what a write never changes
 
@@ -51,7 +53,8 @@ put_value_name o property.RelinquishDefault level v = refl
 put_value_name o property.Description level (value.Text set octets) = refl
 put_value_name o p level v = refl
 
-length-put_level_if : {A : Type 0} (counts : Bool) (slots : List (Option (Value A))) (level : ℕ) (v : Option (Value A)) → length (cond counts (put_slot slots level v) slots) ≡ length slots
+length-put_level_if : {A : Type 0} (counts : Bool) (slots : List (Option (Value A))) (level : ℕ) (v : Option (Value A)) →
+    length (cond counts (put_slot slots level v) slots) ≡ length slots
 length-put_level_if true slots level v = length-put_slot slots level v
 length-put_level_if false slots level v = refl
 
@@ -73,7 +76,8 @@ pub put_device_name : {A : Type 0} (d : DeviceObject A) (p : Property) (v : Valu
 put_device_name d property.Description (value.Text set octets) = refl
 put_device_name d p v = refl
 
-pub value_identifier : {A : Type 0} (o q : ValueObject A) → o.kind ≡ q.kind → o.instance ≡ q.instance → identifier (object.Value o) ≡ identifier (object.Value q)
+pub value_identifier : {A : Type 0} (o q : ValueObject A) → o.kind ≡ q.kind → o.instance ≡ q.instance →
+    identifier (object.Value o) ≡ identifier (object.Value q)
 value_identifier o q k i =
     ap (λ (k : ValueKind). record { object_type = type_number (type_of k); instance = o.instance }) k
     ∙ ap (λ (i : ℕ). record { object_type = type_number (type_of q.kind); instance = i }) i
@@ -95,20 +99,24 @@ name_of-put p level (v ∷ []) (object.Device d) = put_device_name d p v
 name_of-put p level (v ∷ []) (object.Value o) = put_value_name o p level v
 name_of-put p level (v ∷ w ∷ values) o = refl
 
-map-with_object_if : {A X : Type 0} (f : Object A → X) (change : Object A → Object A) (test : Bool) (o : Object A) (os os' : List (Object A)) → f (change o) ≡ f o → map f os' ≡ map f os → map f (cond test (change o ∷ os) (o ∷ os')) ≡ map f (o ∷ os)
+map-with_object_if : {A X : Type 0} (f : Object A → X) (change : Object A → Object A) (test : Bool) (o : Object A) (os os' : List (Object A)) →
+    f (change o) ≡ f o → map f os' ≡ map f os → map f (cond test (change o ∷ os) (o ∷ os')) ≡ map f (o ∷ os)
 map-with_object_if f change true o os os' e rest = ap (λ (x : _). x ∷ map f os) e
 map-with_object_if f change false o os os' e rest = ap (λ (xs : List _). f o ∷ xs) rest
 
 -- what a change of an object leaves as it is stays so in the table
-pub map-with_object : {A X : Type 0} (f : Object A → X) (t : PlainTable A) (id : ObjectId) (change : Object A → Object A) → ((o : Object A) → f (change o) ≡ f o) → map f (with_object t id change) ≡ map f t
+pub map-with_object : {A X : Type 0} (f : Object A → X) (t : PlainTable A) (id : ObjectId) (change : Object A → Object A) →
+    ((o : Object A) → f (change o) ≡ f o) → map f (with_object t id change) ≡ map f t
 map-with_object f [] id change same = refl
 map-with_object f (o ∷ os) id change same =
     map-with_object_if f change (is_named id o) o os (with_object os id change) (same o) (map-with_object f os id change same)
 
-pub identifiers-with_object : {A : Type 0} (t : PlainTable A) (id : ObjectId) (p : Property) (level : ℕ) (values : List (Value A)) → map identifier (with_object t id (put p level values)) ≡ map identifier t
+pub identifiers-with_object : {A : Type 0} (t : PlainTable A) (id : ObjectId) (p : Property) (level : ℕ) (values : List (Value A)) →
+    map identifier (with_object t id (put p level values)) ≡ map identifier t
 identifiers-with_object t id p level values = map-with_object identifier t id (put p level values) (identifier-put p level values)
 
-pub names-with_object : {A : Type 0} (t : PlainTable A) (id : ObjectId) (p : Property) (level : ℕ) (values : List (Value A)) → map name_of (with_object t id (put p level values)) ≡ map name_of t
+pub names-with_object : {A : Type 0} (t : PlainTable A) (id : ObjectId) (p : Property) (level : ℕ) (values : List (Value A)) →
+    map name_of (with_object t id (put p level values)) ≡ map name_of t
 names-with_object t id p level values = map-with_object name_of t id (put p level values) (name_of-put p level values)
 
 -- ---- values
@@ -142,17 +150,20 @@ AllByRecursion-set P [] i x all p = tt
 AllByRecursion-set P (y ∷ ys) zero x all p = (p, all.1)
 AllByRecursion-set P (y ∷ ys) (suc i) x all p = (all.0, AllByRecursion-set P ys i x all.1 p)
 
-put_level_all_if : {A : Type 0} (k : ValueKind) (counts : Bool) (slots : List (Option (Value A))) (level : ℕ) (v : Option (Value A)) → AllByRecursion (IsSlotOf k) slots → IsSlotOf k v → AllByRecursion (IsSlotOf k) (cond counts (put_slot slots level v) slots)
+put_level_all_if : {A : Type 0} (k : ValueKind) (counts : Bool) (slots : List (Option (Value A))) (level : ℕ) (v : Option (Value A)) →
+    AllByRecursion (IsSlotOf k) slots → IsSlotOf k v → AllByRecursion (IsSlotOf k) (cond counts (put_slot slots level v) slots)
 put_level_all_if k true slots level v all s = AllByRecursion-set (IsSlotOf k) slots (level - 1) v all s
 put_level_all_if k false slots level v all s = all
 
-pub put_level_all : {A : Type 0} (k : ValueKind) (slots : List (Option (Value A))) (level : ℕ) (v : Option (Value A)) → AllByRecursion (IsSlotOf k) slots → IsSlotOf k v → AllByRecursion (IsSlotOf k) (put_level slots level v)
+pub put_level_all : {A : Type 0} (k : ValueKind) (slots : List (Option (Value A))) (level : ℕ) (v : Option (Value A)) → AllByRecursion (IsSlotOf k) slots →
+    IsSlotOf k v → AllByRecursion (IsSlotOf k) (put_level slots level v)
 put_level_all k slots level v all s = put_level_all_if k _ slots level v all s
 
 -- ---- one object
 
 -- a value object stays sound where the write isn't refused
-pub put_value_sound : {A : Type 0} (o : ValueObject A) (p : Property) (level : ℕ) (v : Value A) → IsSoundValueObject o → write_refusal (access (object.Value o) p) level (v ∷ []) ≡ None → IsSound v → IsSoundValueObject (put_value o p level v)
+pub put_value_sound : {A : Type 0} (o : ValueObject A) (p : Property) (level : ℕ) (v : Value A) → IsSoundValueObject o →
+    write_refusal (access (object.Value o) p) level (v ∷ []) ≡ None → IsSound v → IsSoundValueObject (put_value o p level v)
 put_value_sound o property.PresentValue level v s e sound = record {
   kind = s.kind;
   instance = s.instance;
@@ -192,7 +203,8 @@ put_value_sound o property.Description level (value.Text set octets) s e sound =
 put_value_sound o p level v s e sound = s
 
 -- so does a Device object
-pub put_device_sound : {A : Type 0} (d : DeviceObject A) (p : Property) (level : ℕ) (v : Value A) → IsSoundDevice d → write_refusal (access (object.Device d) p) level (v ∷ []) ≡ None → IsSoundDevice (put_device d p v)
+pub put_device_sound : {A : Type 0} (d : DeviceObject A) (p : Property) (level : ℕ) (v : Value A) → IsSoundDevice d →
+    write_refusal (access (object.Device d) p) level (v ∷ []) ≡ None → IsSoundDevice (put_device d p v)
 put_device_sound d property.Description level (value.Text set octets) s e = record {
   instance = s.instance;
   name = s.name;
@@ -202,7 +214,8 @@ put_device_sound d property.Description level (value.Text set octets) s e = reco
 put_device_sound d p level v s e = s
 
 -- a sound object stays sound where the write isn't refused
-pub IsSoundObjectOf-put : {A : Type 0} (p : Property) (level : ℕ) (values : List (Value A)) (o : Object A) → IsSoundObjectOf o → write_refusal (access o p) level values ≡ None → AreSound values → IsSoundObjectOf (put p level values o)
+pub IsSoundObjectOf-put : {A : Type 0} (p : Property) (level : ℕ) (values : List (Value A)) (o : Object A) → IsSoundObjectOf o →
+    write_refusal (access o p) level values ≡ None → AreSound values → IsSoundObjectOf (put p level values o)
 IsSoundObjectOf-put p level [] o s e sound = s
 IsSoundObjectOf-put p level (v ∷ []) (object.Device d) s e sound = put_device_sound d p level v s e
 IsSoundObjectOf-put p level (v ∷ []) (object.Value o) s e sound = put_value_sound o p level v s e sound.0
@@ -210,15 +223,19 @@ IsSoundObjectOf-put p level (v ∷ w ∷ values) o s e sound = s
 
 -- ---- a table
 
-all_with_object_if : {A : Type 0} (P : Object A → Type 0) (o : Object A) (os os' : List (Object A)) (test : Bool) (found : Option (Object A)) (change : Object A → Object A) → AllByRecursion P (o ∷ os) → ((q : Object A) → cond test (Some o) found ≡ Some q → P q → P (change q)) → (((q : Object A) → found ≡ Some q → P q → P (change q)) → AllByRecursion P os') → AllByRecursion P (cond test (change o ∷ os) (o ∷ os'))
+all_with_object_if : {A : Type 0} (P : Object A → Type 0) (o : Object A) (os os' : List (Object A)) (test : Bool) (found : Option (Object A))
+    (change : Object A → Object A) → AllByRecursion P (o ∷ os) → ((q : Object A) → cond test (Some o) found ≡ Some q → P q → P (change q)) →
+    (((q : Object A) → found ≡ Some q → P q → P (change q)) → AllByRecursion P os') → AllByRecursion P (cond test (change o ∷ os) (o ∷ os'))
 all_with_object_if P o os os' true found change all changed rest = (changed o refl all.0, all.1)
 all_with_object_if P o os os' false found change all changed rest = (all.0, rest changed)
 
 -- what holds of each object still does, where it holds of the changed one
-pub AllByRecursion-with_object : {A : Type 0} (P : Object A → Type 0) (t : PlainTable A) (id : ObjectId) (change : Object A → Object A) → AllByRecursion P t → ((o : Object A) → object_at t id ≡ Some o → P o → P (change o)) → AllByRecursion P (with_object t id change)
+pub AllByRecursion-with_object : {A : Type 0} (P : Object A → Type 0) (t : PlainTable A) (id : ObjectId) (change : Object A → Object A) → AllByRecursion P t →
+    ((o : Object A) → object_at t id ≡ Some o → P o → P (change o)) → AllByRecursion P (with_object t id change)
 AllByRecursion-with_object P [] id change all changed = tt
 AllByRecursion-with_object P (o ∷ os) id change all changed =
-    all_with_object_if P o os (with_object os id change) (is_named id o) (object_at os id) change all changed (λ later. AllByRecursion-with_object P os id change all.1 later)
+    all_with_object_if P o os (with_object os id change) (is_named id o) (object_at os id) change all changed
+    (λ later. AllByRecursion-with_object P os id change all.1 later)
 
 cons_same : {X : Type 0} (x y : X) (xs ys : List X) → x ∷ xs ≡ y ∷ ys → (x ≡ y) × (xs ≡ ys)
 cons_same x y xs ys e = (cc, cc)
@@ -227,13 +244,17 @@ nil_cons : {X : Type 0} (x : X) (xs : List X) → [] ≡ x ∷ xs → ⊥
 nil_cons x xs e = cc
 
 -- objects of the same identifiers and names are apart from the same others
-apart_from : {A : Type 0} (o q : Object A) (os qs : List (Object A)) → identifier q ≡ identifier o → name_of q ≡ name_of o → map identifier qs ≡ map identifier os → map name_of qs ≡ map name_of os → AllByRecursion (IsOther (identifier o) (name_of o)) os → AllByRecursion (IsOther (identifier q) (name_of q)) qs
+apart_from : {A : Type 0} (o q : Object A) (os qs : List (Object A)) → identifier q ≡ identifier o → name_of q ≡ name_of o →
+    map identifier qs ≡ map identifier os → map name_of qs ≡ map name_of os → AllByRecursion (IsOther (identifier o) (name_of o)) os →
+    AllByRecursion (IsOther (identifier q) (name_of q)) qs
 apart_from o q os [] i n is ns all = tt
 apart_from o q [] (s ∷ qs) i n is ns all = absurd (nil_cons _ _ (sym is))
 apart_from o q (p ∷ os) (s ∷ qs) i n is ns all =
     let is' = cons_same _ _ _ _ is in
-    let ns' = cons_same _ _ _ _ ns in
-    (record { identifiers = λ e. all.0.identifiers (sym i ∙ e ∙ is'.0); names = λ e. all.0.names (sym n ∙ e ∙ ns'.0) }, apart_from o q os qs i n is'.1 ns'.1 all.1)
+    let ns' = cons_same _ _ _ _ ns in (
+      record { identifiers = λ e. all.0.identifiers (sym i ∙ e ∙ is'.0); names = λ e. all.0.names (sym n ∙ e ∙ ns'.0) },
+      apart_from o q os qs i n is'.1 ns'.1 all.1,
+    )
 
 pub AllApart-same : {A : Type 0} (os qs : List (Object A)) → map identifier qs ≡ map identifier os → map name_of qs ≡ map name_of os → AllApart os → AllApart qs
 AllApart-same os [] is ns all = tt
@@ -244,7 +265,8 @@ AllApart-same (o ∷ os) (q ∷ qs) is ns all =
     (apart_from o q os qs is'.0 ns'.0 is'.1 ns'.1 all.0, AllApart-same os qs is'.1 ns'.1 all.1)
 
 pub length-with_object : {A : Type 0} (t : PlainTable A) (id : ObjectId) (change : Object A → Object A) → length (with_object t id change) ≡ length t
-length-with_object t id change = sym (length-map (with_object t id change) (λ o. tt)) ∙ ap (λ (xs : List (Unit {0})). length xs) (map-with_object (λ o. tt) t id change (λ o. refl)) ∙ length-map t (λ o. tt)
+length-with_object t id change = sym (length-map (with_object t id change) (λ o. tt))
+    ∙ ap (λ (xs : List (Unit {0})). length xs) (map-with_object (λ o. tt) t id change (λ o. refl)) ∙ length-map t (λ o. tt)
 
 pub some_same : {X : Type 0} (x y : X) → Some x ≡ Some y → x ≡ y
 some_same x y e = cc
@@ -255,24 +277,31 @@ put_value_object p level (v ∷ []) (object.Device d) is = absurd is
 put_value_object p level (v ∷ []) (object.Value o) is = tt
 put_value_object p level (v ∷ w ∷ values) o is = is
 
-one_device_if : {A : Type 0} (test : Bool) (d : DeviceObject A) (os os' : List (Object A)) (p : Property) (level : ℕ) (values : List (Value A)) → AllByRecursion IsValueObject os → AllByRecursion IsValueObject os' → HasOneDevice (cond test (put p level values (object.Device d) ∷ os) (object.Device d ∷ os'))
+one_device_if : {A : Type 0} (test : Bool) (d : DeviceObject A) (os os' : List (Object A)) (p : Property) (level : ℕ) (values : List (Value A)) →
+    AllByRecursion IsValueObject os → AllByRecursion IsValueObject os' →
+    HasOneDevice (cond test (put p level values (object.Device d) ∷ os) (object.Device d ∷ os'))
 one_device_if true d os os' p level [] all all' = all
 one_device_if true d os os' p level (v ∷ []) all all' = all
 one_device_if true d os os' p level (v ∷ w ∷ values) all all' = all
 one_device_if false d os os' p level values all all' = all'
 
 -- a write leaves the one Device object first
-pub HasOneDevice-put : {A : Type 0} (t : PlainTable A) (id : ObjectId) (p : Property) (level : ℕ) (values : List (Value A)) → HasOneDevice t → HasOneDevice (with_object t id (put p level values))
+pub HasOneDevice-put : {A : Type 0} (t : PlainTable A) (id : ObjectId) (p : Property) (level : ℕ) (values : List (Value A)) → HasOneDevice t →
+    HasOneDevice (with_object t id (put p level values))
 HasOneDevice-put [] id p level values one = absurd one
 HasOneDevice-put (object.Device d ∷ os) id p level values all =
-    one_device_if (is_named id (object.Device d)) d os (with_object os id (put p level values)) p level values all (AllByRecursion-with_object IsValueObject os id (put p level values) all (λ o at is. put_value_object p level values o is))
+    one_device_if (is_named id (object.Device d)) d os (with_object os id (put p level values)) p level values all
+    (AllByRecursion-with_object IsValueObject os id (put p level values) all (λ o at is. put_value_object p level values o is))
 HasOneDevice-put (object.Value o ∷ os) id p level values one = absurd one
 
 -- a sound table stays sound where the write isn't refused
-pub IsSoundTable-put : {A : Type 0} (t : PlainTable A) (id : ObjectId) (o : Object A) (p : Property) (level : ℕ) (values : List (Value A)) → IsSoundTable t → object_at t id ≡ Some o → write_refusal (access o p) level values ≡ None → AreSound values → IsSoundTable (with_object t id (put p level values))
+pub IsSoundTable-put : {A : Type 0} (t : PlainTable A) (id : ObjectId) (o : Object A) (p : Property) (level : ℕ) (values : List (Value A)) → IsSoundTable t →
+    object_at t id ≡ Some o → write_refusal (access o p) level values ≡ None → AreSound values → IsSoundTable (with_object t id (put p level values))
 IsSoundTable-put {A} t id o p level values s found e sound = record {
   device = HasOneDevice-put t id p level values s.device;
   few = subst (λ (n : ℕ). n ≤ 513) (sym (length-with_object t id (put p level values))) s.few;
-  objects = AllByRecursion-with_object IsSoundObjectOf t id (put p level values) s.objects (λ q at q_sound. IsSoundObjectOf-put p level values q q_sound (ap (λ (o : Object A). write_refusal (access o p) level values) (some_same _ _ (sym at ∙ found)) ∙ e) sound);
+  objects = AllByRecursion-with_object IsSoundObjectOf t id (put p level values) s.objects
+      (λ q at q_sound. IsSoundObjectOf-put p level values q q_sound
+      (ap (λ (o : Object A). write_refusal (access o p) level values) (some_same _ _ (sym at ∙ found)) ∙ e) sound);
   apart = AllApart-same t _ (identifiers-with_object t id p level values) (names-with_object t id p level values) s.apart;
 }

@@ -1,5 +1,6 @@
 -- What is read of a sound table is sound, and so is every refusal.
-use Rattle.std.proofs.Common.{refl, sym, subst, ◌≡◌, ◌<◌, ◌≤◌, ◌^◌, ℕ, zero, suc, Bool, true, false, List, [], ◌∷◌, Option, Some, None, Result, Ok, Err, length, arith}
+use Rattle.std.proofs.Common.{refl, sym, subst, ◌≡◌, ◌<◌, ◌≤◌, ◌^◌, ℕ, zero, suc, Bool, true, false, List, [], ◌∷◌, Option, Some, None, Result, Ok, Err, length}
+use Rattle.std.proofs.Common.{arith}
 use Rattle.std.proofs.lemmas.Bool.{ltb-false}
 use Rattle.std.proofs.lemmas.List.{length-map}
 use Rattle.std.specs.Prelude.{cond, map, find, ◌-◌, ◌==◌, nat_lt, ◌&&◌, ◌+◌, slice_get, option_to_list, unwrap_or}
@@ -23,15 +24,19 @@ use Rattle.object_model.specs.declared.object.ValueObject.{ValueObject}
 use Rattle.primitives.specs.declared.plain_data.PropertyWrite.{PropertyWrite}
 use Rattle.primitives.specs.declared.property.Property.{Property}
 use Rattle.primitives.specs.declared.property.Property.TheVariants as property
-use Rattle.object_model.specs.declared.site.DataLink.{DataLink}
-use Rattle.object_model.specs.declared.site.DataLink.TheVariants.{BacnetIp, MsTp}
+use Rattle.profile.specs.LinkKind.{max_apdu}
+use Rattle.profile.specs.declared.link_kind.LinkKind.{LinkKind}
+use Rattle.profile.specs.declared.link_kind.LinkKind.TheVariants.{BacnetIp, MsTp}
 use Rattle.primitives.specs.Numbers.{type_number}
-use Rattle.object_model.specs.Objects.{PlainTable, type_of, present_value, status_flags, slot_value, states_of, units_of, held_by_value, held_by_device, held, object_list, max_apdu_of}
+use Rattle.object_model.specs.Objects.{PlainTable, type_of, present_value, status_flags, slot_value, states_of, units_of, held_by_value, held_by_device, held}
+use Rattle.object_model.specs.Objects.{object_list}
 use Rattle.primitives.specs.Properties.{is_array}
-use Rattle.object_model.specs.Reading.{Refusal, Place, not_an_array, invalid_index, is_named, object_at, property_at, index_refusal, place_or, locate_element, locate_property, locate, at_index, read_place, read}
+use Rattle.object_model.specs.Reading.{Refusal, Place, not_an_array, invalid_index, is_named, object_at, property_at, index_refusal, place_or, locate_element}
+use Rattle.object_model.specs.Reading.{locate_property, locate, at_index, read_place, read}
 use Rattle.primitives.specs.Sound.{AreSound, IsSoundError, IsSoundReading}
 use Rattle.object_model.specs.Site.{IsText, IsSoundKind, IsValueOf, IsSlotOf, IsSoundValueObject, IsSoundDevice, IsSoundObjectOf, IsSoundTable}
-use Rattle.object_model.specs.Writing.{level_of, in_range, no_space, other_character_set, access_denied, text_refusal, value_refusal, values_refusal, command_refusal, write_refusal, access, put, with_object, unless, write_place, write}
+use Rattle.object_model.specs.Writing.{level_of, in_range, no_space, other_character_set, access_denied, text_refusal, value_refusal, values_refusal}
+use Rattle.object_model.specs.Writing.{command_refusal, write_refusal, access, put, with_object, unless, write_place, write}
 use Rattle.object_model.proofs.SoundLaws.{listed, some_none, some_same}
 use Rattle.object_model.proofs.LocateLaws.{located}
 
@@ -61,7 +66,8 @@ set_sound false r s = (omega arith, tt, omega arith, tt)
 
 text_refusal_sound : (set : ℕ) (octets : List ℕ) → IsSoundRefusal (text_refusal set octets)
 text_refusal_sound set octets =
-    set_sound (set == 0) (cond (nat_lt 128 (length octets)) (Some no_space) (in_range (is_utf8 octets))) (space_sound (nat_lt 128 (length octets)) (in_range (is_utf8 octets)) (in_range_sound (is_utf8 octets)))
+    set_sound (set == 0) (cond (nat_lt 128 (length octets)) (Some no_space) (in_range (is_utf8 octets)))
+    (space_sound (nat_lt 128 (length octets)) (in_range (is_utf8 octets)) (in_range_sound (is_utf8 octets)))
 
 value_refusal_sound : {A : Type 0} (d : Datatype) (v : Value A) → IsSoundRefusal (value_refusal d v)
 value_refusal_sound datatype.Boolean (value.Bool b) = tt
@@ -105,11 +111,15 @@ place_or_sound : {A : Type 0} (r : Option Refusal) (p : Place A) → IsSoundRefu
 place_or_sound None p s = tt
 place_or_sound (Some e) p s = s
 
-locate_element_sound : {A : Type 0} (t : PlainTable A) (o : Object A) (named : Option Property) (index : Option ℕ) → IsSoundIfErr (locate_element t o named index)
+locate_element_sound : {A : Type 0} (t : PlainTable A) (o : Object A) (named : Option Property) (index : Option ℕ) →
+    IsSoundIfErr (locate_element t o named index)
 locate_element_sound t o None index = (omega arith, tt, omega arith, tt)
-locate_element_sound t o (Some p) index = place_or_sound (index_refusal (is_array p) (length (held t o p)) index) (record { object = o; property = p }) (index_refusal_sound (is_array p) (length (held t o p)) index)
+locate_element_sound t o (Some p) index =
+    place_or_sound (index_refusal (is_array p) (length (held t o p)) index) (record { object = o; property = p })
+    (index_refusal_sound (is_array p) (length (held t o p)) index)
 
-locate_property_sound : {A : Type 0} (t : PlainTable A) (found : Option (Object A)) (number : ℕ) (index : Option ℕ) → IsSoundIfErr (locate_property t found number index)
+locate_property_sound : {A : Type 0} (t : PlainTable A) (found : Option (Object A)) (number : ℕ) (index : Option ℕ) →
+    IsSoundIfErr (locate_property t found number index)
 locate_property_sound t None number index = (omega arith, tt, omega arith, tt)
 locate_property_sound t (Some o) number index = locate_element_sound t o (property_at o number) index
 
@@ -120,9 +130,11 @@ unless_sound : {A : Type 0} (r : Option Refusal) (t : PlainTable A) → IsSoundR
 unless_sound None t s = tt
 unless_sound (Some e) t s = s
 
-write_place_sound : {A : Type 0} (t : PlainTable A) (id : ObjectId) (w : PropertyWrite A) (place : Result (Place A) Refusal) → IsSoundIfErr place → IsSoundIfErr (write_place t id w place)
+write_place_sound : {A : Type 0} (t : PlainTable A) (id : ObjectId) (w : PropertyWrite A) (place : Result (Place A) Refusal) → IsSoundIfErr place →
+    IsSoundIfErr (write_place t id w place)
 write_place_sound t id w (Err e) s = s
-write_place_sound t id w (Ok at) s = unless_sound (write_refusal (access at.object at.property) (level_of w.priority) w.values) (with_object t id (put at.property (level_of w.priority) w.values)) (write_refusal_sound (access at.object at.property) (level_of w.priority) w.values)
+write_place_sound t id w (Ok at) s = unless_sound (write_refusal (access at.object at.property) (level_of w.priority) w.values)
+    (with_object t id (put at.property (level_of w.priority) w.values)) (write_refusal_sound (access at.object at.property) (level_of w.priority) w.values)
 
 -- why a write is refused is sound
 pub write_sound : {A : Type 0} (t : PlainTable A) (id : ObjectId) (w : PropertyWrite A) → IsSoundIfErr (write t id w)
@@ -149,7 +161,8 @@ pub find_all : {X : Type 0} (P : X → Type 0) (test : X → Bool) (xs : List X)
 find_all P test [] x all e = absurd (some_none x (sym e))
 find_all P test (y ∷ ys) x all e = find_all_if P (test y) (find test ys) y x all.0 e (λ later. find_all P test ys x all.1 later)
 
-first_filled_value : {A : Type 0} (k : ValueKind) (slots : List (Option (Value A))) (default : Value A) → AllByRecursion (IsSlotOf k) slots → IsValueOf k default → IsValueOf k (unwrap_or (first_filled slots) default)
+first_filled_value : {A : Type 0} (k : ValueKind) (slots : List (Option (Value A))) (default : Value A) → AllByRecursion (IsSlotOf k) slots →
+    IsValueOf k default → IsValueOf k (unwrap_or (first_filled slots) default)
 first_filled_value k [] default all d = d
 first_filled_value k (None ∷ slots) default all d = first_filled_value k slots default all.1 d
 first_filled_value k (Some v ∷ slots) default all d = all.0
@@ -214,14 +227,15 @@ held_by_value_sound o property.RelinquishDefault s = (s.default.sound, tt)
 held_by_value_sound o property.Description s = (text_short _ s.description, tt)
 held_by_value_sound o p s = tt
 
-max_apdu_sound : (link : DataLink) → max_apdu_of link < 2 ^ 32
+max_apdu_sound : (link : LinkKind) → max_apdu link < 2 ^ 32
 max_apdu_sound BacnetIp = omega arith
 max_apdu_sound MsTp = omega arith
 
 vendor_sound : (n : ℕ) → n < 2 ^ 16 → n < 2 ^ 32
 vendor_sound n low = omega (arith, low)
 
-held_by_device_sound : {A : Type 0} (t : PlainTable A) (d : DeviceObject A) (p : Property) → AllByRecursion IsSoundObjectOf t → IsSoundDevice d → AreSound (held_by_device t d p)
+held_by_device_sound : {A : Type 0} (t : PlainTable A) (d : DeviceObject A) (p : Property) → AllByRecursion IsSoundObjectOf t → IsSoundDevice d →
+    AreSound (held_by_device t d p)
 held_by_device_sound t d property.ObjectIdentifier all s = (identifier_sound (object.Device d) s, tt)
 held_by_device_sound t d property.ObjectName all s = (text_short _ s.name, tt)
 held_by_device_sound t d property.ObjectType all s = (omega arith, tt)
@@ -288,7 +302,8 @@ element_sound [] i all = tt
 element_sound (v ∷ vs) zero all = (all.0, tt)
 element_sound (v ∷ vs) (suc i) all = element_sound vs i all.1
 
-at_index_sound_if : {A : Type 0} (first : Bool) (values : List (Value A)) (i : ℕ) → AreSound values → length values < 514 → AreSound (cond first (value.Unsigned (length values) ∷ []) (option_to_list (slice_get values (i - 1))))
+at_index_sound_if : {A : Type 0} (first : Bool) (values : List (Value A)) (i : ℕ) → AreSound values → length values < 514 →
+    AreSound (cond first (value.Unsigned (length values) ∷ []) (option_to_list (slice_get values (i - 1))))
 at_index_sound_if true values i all few = (omega (arith, few), tt)
 at_index_sound_if false values i all few = element_sound values (i - 1) all
 
@@ -296,7 +311,8 @@ pub at_index_sound : {A : Type 0} (values : List (Value A)) (index : Option ℕ)
 at_index_sound values None all few = all
 at_index_sound values (Some i) all few = at_index_sound_if (i == 0) values i all few
 
-read_sound_at : {A : Type 0} (t : PlainTable A) (id : ObjectId) (number : ℕ) (index : Option ℕ) (place : Result (Place A) Refusal) → IsSoundTable t → locate t id number index ≡ place → IsSoundIfErr place → IsSoundReading (read_place t place index)
+read_sound_at : {A : Type 0} (t : PlainTable A) (id : ObjectId) (number : ℕ) (index : Option ℕ) (place : Result (Place A) Refusal) → IsSoundTable t →
+    locate t id number index ≡ place → IsSoundIfErr place → IsSoundReading (read_place t place index)
 read_sound_at t id number index (Err e) s at sound = sound
 read_sound_at t id number index (Ok at) s e sound =
     let o_sound = find_all IsSoundObjectOf (is_named id) t at.object s.objects (located t id number index at e).object in

@@ -5,3 +5,4 @@ pub mod Reading
 pub mod Writing
 pub mod Site
 pub mod Places
+pub mod Supported

@@ -14,9 +14,10 @@ use Rattle.primitives.specs.declared.object_type.ObjectType.{ObjectType}
 use Rattle.primitives.specs.declared.object_type.ObjectType.TheVariants as type
 use Rattle.primitives.specs.declared.property.Property.{Property}
 use Rattle.primitives.specs.declared.property.Property.TheVariants as property
-use Rattle.object_model.specs.declared.site.DataLink.{DataLink}
-use Rattle.object_model.specs.declared.site.DataLink.TheVariants.{BacnetIp, MsTp}
 use Rattle.primitives.specs.Numbers.{type_number}
+use Rattle.profile.specs.Limits.{MAX_SEGMENTS_ACCEPTED, NUMBER_OF_APDU_RETRIES}
+use Rattle.profile.specs.LinkKind.{max_apdu}
+use Rattle.profile.specs.Times.{APDU_SEGMENT_TIMEOUT_MS, APDU_TIMEOUT_MS}
 
 -- the objects of a device: the Device object, then the value objects in the order of the site (12.11.16)
 abbrev pub PlainTable : Type 0 → Type 0
@@ -124,14 +125,19 @@ held_by_value o property.RelinquishDefault = o.default ∷ []
 held_by_value o property.Description = text o.description ∷ []
 held_by_value o p = []
 
--- the longest APDU that a device on this data link takes, in octets (9, J.1)
-abbrev pub max_apdu_of : DataLink → ℕ
-max_apdu_of BacnetIp = 1476
-max_apdu_of MsTp = 480
-
 -- the object list: the identifiers of all objects, the Device object's first (12.11.16)
 abbrev pub object_list : {A : Type 0} → PlainTable A → List (Value A)
 object_list t = map (λ o. value.Object (identifier o)) t
+
+-- the octets of Protocol_Services_Supported, whose 35 bits stand for the services by their numbers in
+-- BACnetServicesSupported (12.11.13; 21)
+abbrev pub services_supported : List ℕ
+services_supported = 0 ∷ 11 ∷ 128 ∷ 0 ∷ 32 ∷ []
+
+-- the octets of Protocol_Object_Types_Supported, whose 46 bits stand for the object types by their numbers
+-- (12.11.14; 21)
+abbrev pub types_supported : List ℕ
+types_supported = 4 ∷ 128 ∷ 16 ∷ 0 ∷ 0 ∷ 132 ∷ []
 
 -- what a property of the Device object of a table holds: all elements of an array, else the values (12.11)
 abbrev pub held_by_device : {A : Type 0} → PlainTable A → DeviceObject A → Property → List (Value A)
@@ -146,15 +152,15 @@ held_by_device t d property.FirmwareRevision = text (codes "1") ∷ []
 held_by_device t d property.ApplicationSoftwareVersion = text (codes "1") ∷ []
 held_by_device t d property.ProtocolVersion = value.Unsigned 1 ∷ []
 held_by_device t d property.ProtocolRevision = value.Unsigned 14 ∷ []
-held_by_device t d property.ProtocolServicesSupported = value.Bits 5 (0 ∷ 11 ∷ 128 ∷ 0 ∷ 32 ∷ []) ∷ []
-held_by_device t d property.ProtocolObjectTypesSupported = value.Bits 2 (4 ∷ 128 ∷ 16 ∷ 0 ∷ 0 ∷ 132 ∷ []) ∷ []
+held_by_device t d property.ProtocolServicesSupported = value.Bits 5 services_supported ∷ []
+held_by_device t d property.ProtocolObjectTypesSupported = value.Bits 2 types_supported ∷ []
 held_by_device t d property.ObjectList = object_list t
-held_by_device t d property.MaxApduLengthAccepted = value.Unsigned (max_apdu_of d.data_link) ∷ []
+held_by_device t d property.MaxApduLengthAccepted = value.Unsigned (max_apdu d.data_link) ∷ []
 held_by_device t d property.SegmentationSupported = value.Enum 0 ∷ []
-held_by_device t d property.MaxSegmentsAccepted = value.Unsigned 64 ∷ []
-held_by_device t d property.ApduSegmentTimeout = value.Unsigned 2000 ∷ []
-held_by_device t d property.ApduTimeout = value.Unsigned 3000 ∷ []
-held_by_device t d property.NumberOfApduRetries = value.Unsigned 3 ∷ []
+held_by_device t d property.MaxSegmentsAccepted = value.Unsigned MAX_SEGMENTS_ACCEPTED ∷ []
+held_by_device t d property.ApduSegmentTimeout = value.Unsigned APDU_SEGMENT_TIMEOUT_MS ∷ []
+held_by_device t d property.ApduTimeout = value.Unsigned APDU_TIMEOUT_MS ∷ []
+held_by_device t d property.NumberOfApduRetries = value.Unsigned NUMBER_OF_APDU_RETRIES ∷ []
 held_by_device t d property.DeviceAddressBinding = []
 held_by_device t d property.DatabaseRevision = value.Unsigned 1 ∷ []
 held_by_device t d property.Description = text d.description ∷ []

@@ -13,7 +13,7 @@ use Rattle.primitives.specs.declared.plain_data.ObjectResults.{ObjectResults}
 use Rattle.primitives.specs.declared.plain_data.PropertyReference.{PropertyReference}
 use Rattle.primitives.specs.declared.plain_data.PropertyResult.{PropertyResult}
 use Rattle.primitives.specs.declared.property.Property.{Property}
-use Rattle.primitives.specs.Numbers.{property_number}
+use Rattle.primitives.specs.Numbers.{ALL_PROPERTIES, OPTIONAL_PROPERTIES, REQUIRED_PROPERTIES, property_number}
 use Rattle.object_model.specs.Identifiers.{same_id}
 use Rattle.object_model.specs.Objects.{PlainTable, identifier, properties_of, held}
 use Rattle.primitives.specs.Properties.{is_required, is_array}
@@ -99,19 +99,22 @@ read_place t (Ok at) index = Ok (at_index (held t at.object at.property) index)
 abbrev pub read : {A : Type 0} → PlainTable A → ObjectId → ℕ → Option ℕ → Result (List (Value A)) Refusal
 read t id number index = read_place t (locate t id number index) index
 
--- 8 stands for all properties of an object, 105 for the required and 80 for the optional ones (15.7.3.1.2)
+-- a number that stands for all properties of an object, the optional or the required ones (15.7.3.1.2)
 abbrev pub is_special : ℕ → Bool
-is_special number = (number == 8) || (number == 80) || (number == 105)
+is_special number = (number == ALL_PROPERTIES) || (number == OPTIONAL_PROPERTIES) || (number == REQUIRED_PROPERTIES)
 
--- whether a property is among those that 8, 80 or 105 stands for (15.7.3.1.2)
+-- whether a property is among those that such a number stands for (15.7.3.1.2)
 abbrev pub is_selected : ℕ → Property → Bool
-is_selected number p = if number == 8 then true else if number == 105 then is_required p else not (is_required p)
+is_selected number p =
+    if number == ALL_PROPERTIES then true
+    else if number == REQUIRED_PROPERTIES then is_required p
+    else not (is_required p)
 
 -- one entry of a result: what is read of one property (15.7.3.2)
 abbrev pub entry : {A : Type 0} → PlainTable A → ObjectId → ℕ → Option ℕ → PropertyResult A
 entry t id number index = record { property = number; index = index; result = read t id number index }
 
--- the entries for 8, 80 or 105 on an object that is there: one for each property in the order of its table; with an
+-- the entries for such a number on an object that is there: one for each property in the order of its table; with an
 -- index none of them is an array (15.7.3.1.2)
 abbrev pub selected_entries : {A : Type 0} → PlainTable A → ObjectId → Object A → ℕ → Option ℕ → List (PropertyResult A)
 selected_entries t id o number (Some i) = record { property = number; index = Some i; result = Err not_an_array } ∷ []

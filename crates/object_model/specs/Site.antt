@@ -1,5 +1,5 @@
 -- The objects that a site may give a device, the table as it opens, and sound tables (12).
-use Rattle.std.specs.Prelude.{◌≡◌, ◌≢◌, ℕ, ◌<◌, ◌^◌, ◌≤◌, false, List, [], ◌∷◌, Option, Some, None, map, length}
+use Rattle.std.specs.Prelude.{◌≡◌, ◌≢◌, ℕ, ◌<◌, ◌^◌, ◌≤◌, ◌+◌, false, List, [], ◌∷◌, Option, Some, None, map, length}
 use Rattle.std.specs.List.{AllByRecursion}
 use Rattle.priority.specs.Slots.{no_slots}
 use Rattle.tags.specs.declared.object_id.ObjectId.{ObjectId}
@@ -15,6 +15,7 @@ use Rattle.object_model.specs.declared.site.SiteObject.{SiteObject}
 use Rattle.object_model.specs.declared.site.SiteObjects.{SiteObjects}
 use Rattle.object_model.specs.Objects.{PlainTable, identifier, name_of}
 use Rattle.object_model.specs.Writing.{datatype_of, value_refusal, text_refusal}
+use Rattle.profile.specs.Limits.{MAX_OBJECTS}
 
 -- a value object as it opens: its slots are empty, and it is in service (12.8, 19.2)
 abbrev pub opening_value : {A : Type 0} → SiteObject A → Object A
@@ -104,10 +105,10 @@ abbrev pub HasOneDevice : {A : Type 0} → PlainTable A → Type 0
 HasOneDevice (object.Device d ∷ os) = AllByRecursion IsValueObject os
 HasOneDevice t = ⊥
 
--- a sound table: one Device object, at most 513 sound objects, each two apart (12)
+-- a sound table: one Device object and at most MAX_OBJECTS others, all sound, each two apart (12)
 pub record IsSoundTable {A : Type 0} (t : PlainTable A) : Type 0 where
   pub device : HasOneDevice t
-  pub few : length t ≤ 513
+  pub few : length t ≤ 1 + MAX_OBJECTS
   pub objects : AllByRecursion IsSoundObjectOf t
   pub apart : AllApart t
 

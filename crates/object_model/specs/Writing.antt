@@ -22,6 +22,7 @@ use Rattle.primitives.specs.declared.plain_data.Reply.{Reply}
 use Rattle.primitives.specs.declared.plain_data.Reply.TheVariants.{Done, ErrorAt}
 use Rattle.primitives.specs.declared.property.Property.{Property}
 use Rattle.primitives.specs.declared.property.Property.TheVariants as property
+use Rattle.profile.specs.Limits.{MAX_TEXT_OCTETS}
 use Rattle.object_model.specs.Levels.{put_level}
 use Rattle.object_model.specs.Objects.{PlainTable}
 use Rattle.object_model.specs.Reading.{Refusal, Place, is_named, locate}
@@ -69,7 +70,7 @@ in_range fits = if fits then None else Some out_of_range
 -- why a text is not taken: its character set, its length, or octets that are no UTF-8 (20.2.9)
 abbrev pub text_refusal : ℕ → List ℕ → Option Refusal
 text_refusal set octets =
-    if set == 0 then (if nat_lt 128 (length octets) then Some no_space else in_range (is_utf8 octets))
+    if set == 0 then (if nat_lt MAX_TEXT_OCTETS (length octets) then Some no_space else in_range (is_utf8 octets))
     else Some other_character_set
 
 -- why a value is not taken where this type is wanted (15.9.1.3)

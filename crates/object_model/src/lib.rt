@@ -14,11 +14,13 @@
 //! - `reading`: where a property is, and what it holds.
 //! - `writing`: whether a value is taken, and what it leaves.
 //! - `copying`: equal copies.
+//! - `laws`: what holds of all objects, for the proofs of the layers above.
 #![tactic(auto)]
 
 mod commands;
 mod copying;
 mod identity;
+mod laws;
 mod object;
 mod places;
 pub mod reading;
@@ -26,6 +28,7 @@ mod site;
 pub mod writing;
 
 pub use commands::Commands;
+pub use laws::types_are_supported;
 pub use object::{Access, Datatype, DeviceObject, Object, ValueKind, ValueObject};
 pub use places::Places;
-pub use site::{DataLink, SiteObject, SiteObjects};
+pub use site::{SiteObject, SiteObjects};

@@ -1,7 +1,7 @@
 //! The objects of a device: what each holds (clauses 12.8, 12.11, 12.20, 12.37 and 12.43).
 
 use crate::commands::Commands;
-use crate::site::DataLink;
+use profile::LinkKind;
 use std::alloc::Allocator;
 use tags::{Octets, Value};
 
@@ -73,7 +73,7 @@ pub struct DeviceObject<A: Allocator> {
     /// Vendor_Identifier.
     pub vendor: u16,
     /// The data link, which sets Max_APDU_Length_Accepted.
-    pub data_link: DataLink,
+    pub data_link: LinkKind,
     /// Description, a text of at most 128 octets.
     pub description: Octets<A>,
 }

@@ -9,8 +9,10 @@ ghost use Rattle.object_model.specs.Reading.{index_refusal, locate_property, at_
 
 use crate::commands::Commands;
 use crate::object::{DeviceObject, Object, ValueKind, ValueObject};
-use crate::site::DataLink;
 use primitives::{ErrorClass, ErrorCode, ObjectType, Property, Values};
+use profile::{
+    APDU_SEGMENT_TIMEOUT_MS, APDU_TIMEOUT_MS, MAX_SEGMENTS_ACCEPTED, NUMBER_OF_APDU_RETRIES,
+};
 use std::alloc::{AllocError, Allocator};
 use tags::{Items, ObjectId, Octets, Value};
 
@@ -28,21 +30,6 @@ pub const NOT_AN_ARRAY: Refusal = (ErrorClass::Property, ErrorCode::PropertyIsNo
 
 /// The array has no element of this index (15.5.1.3).
 pub const INVALID_INDEX: Refusal = (ErrorClass::Property, ErrorCode::InvalidArrayIndex);
-
-impl DataLink {
-    ghost use Rattle.std.specs.Prelude.{◌≡◌};
-    ghost use Rattle.object_model.specs.Objects.{max_apdu_of};
-
-    /// The longest APDU that a device on this data link takes, in octets (clauses 9 and J).
-    pub fn max_apdu(self) -> u32
-        ensures { result ≡ max_apdu_of self }
-    {
-        match self {
-            DataLink::BacnetIp => 1476,
-            DataLink::MsTp => 480,
-        }
-    }
-}
 
 /// The property of this number of an object, if the object has it and the index is one of its
 /// elements (15.5.1.3).
@@ -191,13 +178,22 @@ fn read_device<A: Allocator + Copy>(
         Property::ProtocolObjectTypesSupported => one_bits(alloc, 2, &OBJECT_TYPES_SUPPORTED),
         Property::ObjectList => object_list(alloc, objects),
         Property::MaxApduLengthAccepted => {
-            one(alloc, Value::Unsigned(device.data_link.max_apdu()))
+            one(
+                alloc,
+                Value::Unsigned(u32::from(device.data_link.max_apdu())),
+            )
         }
         Property::SegmentationSupported => one(alloc, Value::Enum(SEGMENTED_BOTH)),
-        Property::MaxSegmentsAccepted => one(alloc, Value::Unsigned(MAX_SEGMENTS_ACCEPTED)),
-        Property::ApduSegmentTimeout => one(alloc, Value::Unsigned(APDU_SEGMENT_TIMEOUT_MS)),
-        Property::ApduTimeout => one(alloc, Value::Unsigned(APDU_TIMEOUT_MS)),
-        Property::NumberOfApduRetries => one(alloc, Value::Unsigned(NUMBER_OF_APDU_RETRIES)),
+        Property::MaxSegmentsAccepted => one(
+            alloc,
+            Value::Unsigned(u32::from(MAX_SEGMENTS_ACCEPTED)),
+        ),
+        Property::ApduSegmentTimeout => one(alloc, Value::Unsigned(APDU_SEGMENT_TIMEOUT_MS as u32)),
+        Property::ApduTimeout => one(alloc, Value::Unsigned(APDU_TIMEOUT_MS as u32)),
+        Property::NumberOfApduRetries => one(
+            alloc,
+            Value::Unsigned(u32::from(NUMBER_OF_APDU_RETRIES)),
+        ),
         Property::DatabaseRevision => one(alloc, Value::Unsigned(DATABASE_REVISION)),
         Property::Description => one_text(alloc, device.description.as_slice()),
         Property::DeviceAddressBinding
@@ -214,9 +210,9 @@ fn read_device<A: Allocator + Copy>(
 
 /// System_Status operational (21, BACnetDeviceStatus).
 const OPERATIONAL: u32 = 0;
-/// Protocol_Version and Protocol_Revision of the standard that this product follows.
+/// Protocol_Version of the standard that this product follows.
 const PROTOCOL_VERSION: u32 = 1;
-
+/// Protocol_Revision of the standard that this product follows.
 const PROTOCOL_REVISION: u32 = 14;
 /// ReadProperty, ReadPropertyMultiple, WriteProperty, WritePropertyMultiple and Who-Is: bits 12,
 /// 14, 15, 16 and 34 of 35 (21, BACnetServicesSupported).
@@ -225,14 +221,6 @@ const SERVICES_SUPPORTED: [u8; 5] = [0x00, 0x0B, 0x80, 0x00, 0x20];
 const OBJECT_TYPES_SUPPORTED: [u8; 6] = [0x04, 0x80, 0x10, 0x00, 0x00, 0x84];
 /// Segments are sent and received (21, BACnetSegmentation).
 const SEGMENTED_BOTH: u32 = 0;
-/// The greatest number of segments of a message.
-const MAX_SEGMENTS_ACCEPTED: u32 = 64;
-/// How long a SegmentACK is waited for, in ms.
-const APDU_SEGMENT_TIMEOUT_MS: u32 = 2000;
-/// How long an answer is waited for, in ms.
-const APDU_TIMEOUT_MS: u32 = 3000;
-/// How often a request is sent again.
-const NUMBER_OF_APDU_RETRIES: u32 = 3;
 /// Database_Revision: no object comes or goes.
 const DATABASE_REVISION: u32 = 1;
 /// Event_State normal (21, BACnetEventState).

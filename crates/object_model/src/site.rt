@@ -1,17 +1,9 @@
 //! The objects that a site gives a device.
 
 use crate::object::ValueKind;
+use profile::LinkKind;
 use std::alloc::Allocator;
 use tags::{Items, Octets, Value};
-
-/// The data link of a device (clauses 9 and J).
-#[derive(Clone, Copy, Debug, PartialEq, Eq)]
-pub enum DataLink {
-    /// BACnet/IP, which takes APDUs of at most 1476 octets.
-    BacnetIp,
-    /// MS/TP, which takes APDUs of at most 480 octets.
-    MsTp,
-}
 
 /// A device as its site describes it: its Device object, and its value objects in order.
 #[derive(Drop)]
@@ -23,8 +15,8 @@ pub struct SiteObjects<A: Allocator> {
     pub instance: u32,
     /// Vendor_Identifier.
     pub vendor: u16,
-    /// The data link that the device is on.
-    pub data_link: DataLink,
+    /// The kind of link that the device is on.
+    pub data_link: LinkKind,
     /// The value objects, at most 512.
     pub objects: Items<SiteObject<A>, A>,
 }

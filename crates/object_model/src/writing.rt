@@ -9,17 +9,15 @@ ghost use Rattle.object_model.specs.Writing.{access, in_range, text_refusal, val
 use crate::object::{Access, Datatype, DeviceObject, Object, ValueKind, ValueObject};
 use crate::reading::Refusal;
 use primitives::{ErrorClass, ErrorCode, Property, Values};
+use profile::MAX_TEXT_OCTETS;
 use std::alloc::Allocator;
 use std::str;
 use tags::Value;
 
-/// The longest text that a property holds, in octets.
-const MAX_TEXT: usize = 128;
-
-/// The level of a write without a priority, and the level that is reserved for the minimum on and
-/// off times (19.2.3).
+/// The level of a write without a priority (19.2.3).
 const DEFAULT_LEVEL: u8 = 16;
 
+/// The level that is reserved for the minimum on and off times (19.2.3).
 const RESERVED_LEVEL: u8 = 6;
 
 const ACCESS_DENIED: Refusal = (ErrorClass::Property, ErrorCode::WriteAccessDenied);
@@ -130,7 +128,7 @@ pub fn text_refusal(set: u8, octets: &[u8]) -> Option<Refusal>
     if set != 0 {
         return Some(OTHER_CHARACTER_SET);
     }
-    if MAX_TEXT < octets.len() {
+    if MAX_TEXT_OCTETS < octets.len() {
         return Some(NO_SPACE);
     }
     in_range(is_utf8(octets))

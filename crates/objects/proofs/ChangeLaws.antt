@@ -32,7 +32,9 @@ pub record IsKept {A : Type 0} (R : PlainTable A → PlainTable A → Type 0) : 
   pub chain : (t u v : PlainTable A) → R t u → R u v → R t v
   pub write : (t u : PlainTable A) (id : ObjectId) (w : PropertyWrite A) → write t id w ≡ Ok u → R t u
 
-kept_go_on : {A : Type 0} (R : PlainTable A → PlainTable A → Type 0) (t : PlainTable A) (w : ObjectWrite A) (r : Result (PlainTable A) Refusal) (next : PlainTable A → Outcome A) → IsKept R → write t w.object w.write ≡ r → ((written : PlainTable A) → R written (next written).table) → R t (go_on t w r next).table
+kept_go_on : {A : Type 0} (R : PlainTable A → PlainTable A → Type 0) (t : PlainTable A) (w : ObjectWrite A) (r : Result (PlainTable A) Refusal)
+    (next : PlainTable A → Outcome A) → IsKept R → write t w.object w.write ≡ r → ((written : PlainTable A) → R written (next written).table) →
+    R t (go_on t w r next).table
 kept_go_on R t w (Err e) next k is later = k.self t
 kept_go_on R t w (Ok written) next k is later = k.chain t written (next written).table (k.write t written w.object w.write is) (later written)
 
@@ -40,7 +42,8 @@ kept_write_all : {A : Type 0} (R : PlainTable A → PlainTable A → Type 0) (t 
 kept_write_all R t [] k = k.self t
 kept_write_all R t (w ∷ ws) k = kept_go_on R t w (write t w.object w.write) (λ written. write_all written ws) k refl (λ written. kept_write_all R written ws k)
 
-kept_write : {A : Type 0} (R : PlainTable A → PlainTable A → Type 0) (t : PlainTable A) (id : ObjectId) (w : PropertyWrite A) (r : Result (PlainTable A) Refusal) → IsKept R → write t id w ≡ r → R t (write_outcome t r).table
+kept_write : {A : Type 0} (R : PlainTable A → PlainTable A → Type 0) (t : PlainTable A) (id : ObjectId) (w : PropertyWrite A)
+    (r : Result (PlainTable A) Refusal) → IsKept R → write t id w ≡ r → R t (write_outcome t r).table
 kept_write R t id w (Err e) k is = k.self t
 kept_write R t id w (Ok written) k is = k.write t written id w is
 
@@ -61,12 +64,14 @@ shape_kept A = record { self = one_shape-self; chain = one_shape-chain; write = 
 pub one_shape-after : {A : Type 0} (t : PlainTable A) (q : Request A) → HaveOneShape t (after t q)
 one_shape-after {A} t q = kept_after HaveOneShape t q (shape_kept A)
 
-map_write : {A X : Type 0} (f : Object A → X) → ((p : Property) (level : ℕ) (values : List (Value A)) (o : Object A) → f (put p level values o) ≡ f o) → (t u : PlainTable A) (id : ObjectId) (w : PropertyWrite A) → write t id w ≡ Ok u → map f u ≡ map f t
+map_write : {A X : Type 0} (f : Object A → X) → ((p : Property) (level : ℕ) (values : List (Value A)) (o : Object A) → f (put p level values o) ≡ f o) →
+    (t u : PlainTable A) (id : ObjectId) (w : PropertyWrite A) → write t id w ≡ Ok u → map f u ≡ map f t
 map_write f same t u id w e =
     let d = is_done t id w u e in
     ap (map f) (sym d.table) ∙ map-with_object f t id (put d.at.property (level_of w.priority) w.values) (same d.at.property (level_of w.priority) w.values)
 
-map_kept : {A X : Type 0} (f : Object A → X) → ((p : Property) (level : ℕ) (values : List (Value A)) (o : Object A) → f (put p level values o) ≡ f o) → IsKept {A = A} (λ t u. map f u ≡ map f t)
+map_kept : {A X : Type 0} (f : Object A → X) → ((p : Property) (level : ℕ) (values : List (Value A)) (o : Object A) → f (put p level values o) ≡ f o) →
+    IsKept {A = A} (λ t u. map f u ≡ map f t)
 map_kept f same = record { self = λ t. refl; chain = λ t u v a b. b ∙ a; write = map_write f same }
 
 pub identifiers-after : {A : Type 0} (t : PlainTable A) (q : Request A) → map identifier (after t q) ≡ map identifier t
@@ -90,7 +95,8 @@ one_write_says : {A : Type 0} (t : PlainTable A) (r : Result (PlainTable A) Refu
 one_write_says t (Ok written) s = absurd s
 one_write_says t (Err e) s = refl
 
-go_on_says : {A : Type 0} (t : PlainTable A) (w : ObjectWrite A) (r : Result (PlainTable A) Refusal) (next : PlainTable A → Outcome A) → ((written : PlainTable A) → SaysNoWrite (next written).reply → ⊥) → SaysNoWrite (go_on t w r next).reply → ⊥
+go_on_says : {A : Type 0} (t : PlainTable A) (w : ObjectWrite A) (r : Result (PlainTable A) Refusal) (next : PlainTable A → Outcome A) →
+    ((written : PlainTable A) → SaysNoWrite (next written).reply → ⊥) → SaysNoWrite (go_on t w r next).reply → ⊥
 go_on_says t w (Err e) next later s = s
 go_on_says t w (Ok written) next later s = later written s
 
@@ -119,18 +125,25 @@ types-after t q = kept_after (λ t u. map object_type_of u ≡ map object_type_o
 
 -- ---- several writes
 
-append_go_on : {A : Type 0} (t : PlainTable A) (w : ObjectWrite A) (r : Result (PlainTable A) Refusal) (first both : PlainTable A → Outcome A) (ws : List (ObjectWrite A)) → (go_on t w r first).reply ≡ Done → ((written : PlainTable A) → (first written).reply ≡ Done → both written ≡ write_all (first written).table ws) → go_on t w r both ≡ write_all (go_on t w r first).table ws
+append_go_on : {A : Type 0} (t : PlainTable A) (w : ObjectWrite A) (r : Result (PlainTable A) Refusal) (first both : PlainTable A →
+    Outcome A) (ws : List (ObjectWrite A)) → (go_on t w r first).reply ≡ Done →
+    ((written : PlainTable A) → (first written).reply ≡ Done → both written ≡ write_all (first written).table ws) →
+    go_on t w r both ≡ write_all (go_on t w r first).table ws
 append_go_on t w (Err e) first both ws is later = absurd (failure_done w e is)
 append_go_on t w (Ok written) first both ws is later = later written is
 
 -- writes behind others that are all done go on from the table that those leave
-pub write_all-append : {A : Type 0} (t : PlainTable A) (vs ws : List (ObjectWrite A)) → (write_all t vs).reply ≡ Done → write_all t (vs ++ ws) ≡ write_all (write_all t vs).table ws
+pub write_all-append : {A : Type 0} (t : PlainTable A) (vs ws : List (ObjectWrite A)) → (write_all t vs).reply ≡ Done →
+    write_all t (vs ++ ws) ≡ write_all (write_all t vs).table ws
 write_all-append t [] ws is = refl
 write_all-append t (v ∷ vs) ws is =
-    append_go_on t v (write t v.object v.write) (λ written. write_all written vs) (λ written. write_all written (vs ++ ws)) ws is (λ written done. write_all-append written vs ws done)
+    append_go_on t v (write t v.object v.write) (λ written. write_all written vs) (λ written. write_all written (vs ++ ws)) ws is
+    (λ written done. write_all-append written vs ws done)
 
 -- the first write that fails ends the request: those before it stay, those behind it aren't done
-pub write_all-fails : {A : Type 0} (t u : PlainTable A) (vs ws : List (ObjectWrite A)) (w : ObjectWrite A) (e : Refusal) → write_all t vs ≡ record { table = u; reply = Done } → write u w.object w.write ≡ Err e → write_all t (vs ++ w ∷ ws) ≡ record { table = u; reply = failed_at w e }
+pub write_all-fails : {A : Type 0} (t u : PlainTable A) (vs ws : List (ObjectWrite A)) (w : ObjectWrite A) (e : Refusal) →
+    write_all t vs ≡ record { table = u; reply = Done } → write u w.object w.write ≡ Err e →
+    write_all t (vs ++ w ∷ ws) ≡ record { table = u; reply = failed_at w e }
 write_all-fails t u vs ws w e done fails =
     write_all-append t vs (w ∷ ws) (ap (λ (o : Outcome _). o.reply) done)
     ∙ ap (λ (o : Outcome _). write_all o.table (w ∷ ws)) done
@@ -149,5 +162,8 @@ write_done_is t (Ok written) is = refl
 write_done_is t (Err e) is = absurd (done_one _ e.0 e.1 is)
 
 -- a WriteProperty that is done is a write that is done
-pub write_done : {A : Type 0} (t : PlainTable A) (id : ObjectId) (number : ℕ) (index : Option ℕ) (values : List (Value A)) (priority : Option ℕ) → reply t (Write id number index values priority) ≡ Done → write t id (record { property = number; index = index; values = values; priority = priority }) ≡ Ok (after t (Write id number index values priority))
-write_done t id number index values priority is = write_done_is t (write t id (record { property = number; index = index; values = values; priority = priority })) is
+pub write_done : {A : Type 0} (t : PlainTable A) (id : ObjectId) (number : ℕ) (index : Option ℕ) (values : List (Value A)) (priority : Option ℕ) →
+    reply t (Write id number index values priority) ≡ Done → write t id (record { property = number; index = index; values = values; priority = priority })
+    ≡ Ok (after t (Write id number index values priority))
+write_done t id number index values priority is =
+    write_done_is t (write t id (record { property = number; index = index; values = values; priority = priority })) is

@@ -17,13 +17,17 @@
 
 mod answering;
 mod applying;
-pub mod laws;
+mod laws;
 mod opening;
 mod table;
 
-pub use object_model::{DataLink, SiteObject, SiteObjects, ValueKind};
-pub use primitives::{
-    ErrorClass, ErrorCode, ObjectRefs, ObjectResults, ObjectType, ObjectWrites, Property,
-    PropertyReference, PropertyResult, PropertyWrite, Reply, Request, Values,
+pub use laws::{
+    answers_request, command_leaves_other_levels, command_reads_back, command_shows,
+    done_is_written, leaves_sound, present_is_in_force, reading_changes_nothing,
+    replies_first_failure, replies_sound, request_leaves_identifiers, request_leaves_names,
+    request_leaves_object_list, request_leaves_shape, request_leaves_types, shape_refuses,
+    write_leaves_other_objects, write_leaves_other_properties, write_leaves_other_reads,
+    write_leaves_shape, write_reads_back, writes_end_at_failure,
 };
+pub use object_model::{SiteObject, SiteObjects, ValueKind};
 pub use table::Table;

@@ -1,22 +1,21 @@
 //! The objects of a device as they open, and which a site may give it (clause 12).
 
-ghost use Rattle.std.specs.Prelude.{◌≡◌, ◌∷◌, ◌↔◌, ◌≤◌, ◌++◌, ◌≤◌, IsTrue, IfOk, OnOk, length, map};
+ghost use Rattle.std.specs.Prelude.{◌≡◌, ◌∷◌, ◌↔◌, ◌≤◌, ◌+◌, ◌++◌, IsTrue, IfOk, OnOk, length, map};
 ghost use Rattle.std.specs.List.{AllByRecursion};
 ghost use Rattle.tags.specs.declared.object_id.ObjectId.{ObjectId};
 ghost use Rattle.object_model.specs.declared.object.Object.TheVariants as object;
 ghost use Rattle.object_model.specs.Objects.{identifier, name_of};
 ghost use Rattle.object_model.specs.Site.{opening_value, opening_device, opening_table, IsText, IsSoundKind, IsSoundObjectOf, IsOther, AllApart, IsSite};
+ghost use Rattle.profile.specs.Limits.{MAX_OBJECTS};
 
 use object_model::writing::{text_refusal, value_refusal};
 use object_model::{
     Commands, DeviceObject, Object, Places, SiteObject, SiteObjects, ValueKind, ValueObject,
 };
 use primitives::ObjectType;
+use profile::MAX_OBJECTS;
 use std::alloc::{AllocError, Allocator};
 use tags::{Items, ObjectId, Octets};
-
-/// The number of value objects that a device has at most.
-const MAX_OBJECTS: usize = 512;
 
 /// The least instance number that no object has.
 const NO_INSTANCE: u32 = 4_194_303;
@@ -32,7 +31,7 @@ pub fn is_site<A: Allocator>(site: &SiteObjects<A>) -> bool
 /// Whether there are at most 512 value objects beside the Device object.
 #[tactic(auto, using(crate::proofs::OpeningLaws::opening_rules))]
 fn has_few_objects<A: Allocator>(site: &SiteObjects<A>) -> bool
-    ensures { IsTrue result ↔ (length (opening_table site.now) ≤ 513) }
+    ensures { IsTrue result ↔ (length (opening_table site.now) ≤ 1 + MAX_OBJECTS) }
 {
     site.objects.len() <= MAX_OBJECTS
 }

@@ -1,6 +1,7 @@
 -- Which replies answer a request (15.5 to 15.10).
 use Rattle.std.specs.Prelude.{◌≡◌, ◌≢◌, List, [], ◌∷◌, map}
 use Rattle.std.specs.List.{AllByRecursion}
+use Rattle.primitives.specs.Numbers.{ALL_PROPERTIES, OPTIONAL_PROPERTIES, REQUIRED_PROPERTIES}
 use Rattle.primitives.specs.declared.plain_data.Request.{Request}
 use Rattle.primitives.specs.declared.plain_data.Request.TheVariants.{Read, ReadMany, Write, WriteMany}
 use Rattle.primitives.specs.declared.plain_data.ObjectRefs.{ObjectRefs}
@@ -10,9 +11,10 @@ use Rattle.primitives.specs.declared.plain_data.Reply.TheVariants.{Values, Many,
 use Rattle.primitives.specs.declared.plain_data.ObjectResults.{ObjectResults}
 use Rattle.primitives.specs.declared.plain_data.PropertyResult.{PropertyResult}
 
--- a property's own number, and not 8, 80 or 105, which stand for all, optional and required (15.7.3.1.2)
+-- a property's own number, and none that stands for all, optional or required ones (15.7.3.1.2)
 abbrev pub IsOneProperty : PropertyReference → Type 0
-IsOneProperty r = (r.property ≢ 8) × (r.property ≢ 80) × (r.property ≢ 105)
+IsOneProperty r =
+    (r.property ≢ ALL_PROPERTIES) × (r.property ≢ OPTIONAL_PROPERTIES) × (r.property ≢ REQUIRED_PROPERTIES)
 
 -- the property and index that were read
 abbrev pub read_reference : {A : Type 0} → PropertyResult A → PropertyReference

@@ -17,6 +17,18 @@ type_number type.IntegerValue = 45
 pub record NoObjectType (number : ℕ) : Type 0 where
   pub none : (t : ObjectType) → type_number t ≡ number → ⊥
 
+-- stands for all properties of an object in ReadPropertyMultiple (15.7.3.1.2; 21, BACnetPropertyIdentifier)
+abbrev pub ALL_PROPERTIES : ℕ
+ALL_PROPERTIES = 8
+
+-- stands for its optional properties (15.7.3.1.2; 21)
+abbrev pub OPTIONAL_PROPERTIES : ℕ
+OPTIONAL_PROPERTIES = 80
+
+-- stands for its required properties (15.7.3.1.2; 21)
+abbrev pub REQUIRED_PROPERTIES : ℕ
+REQUIRED_PROPERTIES = 105
+
 -- BACnetPropertyIdentifier (21)
 abbrev pub property_number : Property → ℕ
 property_number property.ApduSegmentTimeout = 10

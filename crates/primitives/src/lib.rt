@@ -24,7 +24,7 @@ mod soundness;
 
 pub use copying::{CopyIn, copy_all};
 pub use error::{ErrorClass, ErrorCode};
-pub use laws::{one_class, one_code};
+pub use laws::{one_class, one_code, special_numbers};
 pub use object_type::ObjectType;
 pub use plain_data::{
     ObjectRefs, ObjectResults, ObjectWrites, PropertyReference, PropertyResult, PropertyWrite,

@@ -8,10 +8,12 @@ use Rattle.priority.specs.Laws.{NoneHigher, IsInForce, NoneFilled}
 none_some : {T : Type 0} (value : T) → None ≡ Some value → ⊥
 none_some value e = cc
 
-pub slot-put_slot : {T : Type 0} (slots : List (Option T)) (level : ℕ) (value : Option T) → 1 ≤ level → level ≤ length slots → slot (put_slot slots level value) level ≡ value
+pub slot-put_slot : {T : Type 0} (slots : List (Option T)) (level : ℕ) (value : Option T) → 1 ≤ level → level ≤ length slots →
+    slot (put_slot slots level value) level ≡ value
 slot-put_slot slots level value counted within = get_or-set_same slots (level - 1) value None (omega arith)
 
-pub slot-put_slot_other : {T : Type 0} (slots : List (Option T)) (level other : ℕ) (value : Option T) → 1 ≤ level → 1 ≤ other → other ≢ level → slot (put_slot slots level value) other ≡ slot slots other
+pub slot-put_slot_other : {T : Type 0} (slots : List (Option T)) (level other : ℕ) (value : Option T) → 1 ≤ level → 1 ≤ other → other ≢ level →
+    slot (put_slot slots level value) other ≡ slot slots other
 slot-put_slot_other slots level other value counted other_counted apart =
     get_or-set_other slots (level - 1) (other - 1) value None (λ e. apart (omega arith))
 
@@ -26,7 +28,8 @@ slot_behind first slots (suc index) counted =
     let behind : suc index - 1 ≡ index = omega arith in
     rw (here, behind) refl
 
-none_higher_behind : {T : Type 0} (slots : List (Option T)) (level : ℕ) → NoneHigher slots level → (higher : ℕ) → 1 ≤ higher → higher < suc level → slot (None ∷ slots) higher ≡ None
+none_higher_behind : {T : Type 0} (slots : List (Option T)) (level : ℕ) → NoneHigher slots level → (higher : ℕ) → 1 ≤ higher → higher < suc level →
+    slot (None ∷ slots) higher ≡ None
 none_higher_behind slots level none zero counted below = absurd (omega arith)
 none_higher_behind slots level none (suc zero) counted below = refl
 none_higher_behind slots level none (suc (suc index)) counted below =
@@ -52,7 +55,8 @@ first_in_force (None ∷ slots) value first =
     }
 
 -- a filled slot is the first where those of all higher priorities are empty
-pub highest_first : {T : Type 0} (slots : List (Option T)) (level : ℕ) (value : T) → 1 ≤ level → slot slots level ≡ Some value → NoneHigher slots level → first_filled slots ≡ Some value
+pub highest_first : {T : Type 0} (slots : List (Option T)) (level : ℕ) (value : T) → 1 ≤ level → slot slots level ≡ Some value → NoneHigher slots level →
+    first_filled slots ≡ Some value
 highest_first [] level value counted held none = held
 highest_first (first ∷ slots) zero value counted held none = absurd (omega (arith, counted))
 highest_first (Some first ∷ slots) (suc zero) value counted held none = held
@@ -60,7 +64,8 @@ highest_first (None ∷ slots) (suc zero) value counted held none = absurd (none
 highest_first (Some first ∷ slots) (suc (suc index)) value counted held none =
     absurd (none_some first (sym (none.empty 1 (omega arith) (omega arith))))
 highest_first (None ∷ slots) (suc (suc index)) value counted held none =
-    highest_first slots (suc index) value (omega arith) (sym (slot_behind None slots (suc index) (omega arith)) ∙ held) (none_higher_before None slots (suc index) none)
+    highest_first slots (suc index) value (omega arith) (sym (slot_behind None slots (suc index) (omega arith)) ∙ held)
+    (none_higher_before None slots (suc index) none)
 
 pub in_force_first : {T : Type 0} (slots : List (Option T)) (value : T) → IsInForce slots value → first_filled slots ≡ Some value
 in_force_first slots value force = highest_first slots force.level value force.counted force.held force.higher
@@ -87,14 +92,17 @@ none_filled_no_first (None ∷ slots) none =
     none_filled_no_first slots (record { empty = none_behind slots none })
 
 -- a value put into a slot is in force where those of all higher priorities are empty
-pub put_first : {T : Type 0} (slots : List (Option T)) (level : ℕ) (value : T) → 1 ≤ level → level ≤ length slots → NoneHigher slots level → first_filled (put_slot slots level (Some value)) ≡ Some value
+pub put_first : {T : Type 0} (slots : List (Option T)) (level : ℕ) (value : T) → 1 ≤ level → level ≤ length slots → NoneHigher slots level →
+    first_filled (put_slot slots level (Some value)) ≡ Some value
 put_first slots level value counted within none =
     highest_first (put_slot slots level (Some value)) level value counted (slot-put_slot slots level (Some value) counted within) (record {
-      empty = λ higher counted_too below. slot-put_slot_other slots level higher (Some value) counted counted_too (λ e. omega (arith, e, below)) ∙ none.empty higher counted_too below;
+      empty = λ higher counted_too below. slot-put_slot_other slots level higher (Some value) counted counted_too (λ e. omega (arith, e, below))
+          ∙ none.empty higher counted_too below;
     })
 
 -- as many slots that hold the same at each level are the same
-pub same_slots : {T : Type 0} (slots others : List (Option T)) → length slots ≡ length others → ((level : ℕ) → 1 ≤ level → level ≤ length slots → slot slots level ≡ slot others level) → slots ≡ others
+pub same_slots : {T : Type 0} (slots others : List (Option T)) → length slots ≡ length others →
+    ((level : ℕ) → 1 ≤ level → level ≤ length slots → slot slots level ≡ slot others level) → slots ≡ others
 same_slots [] [] long same = refl
 same_slots [] (other ∷ others) long same = absurd (omega (arith, long))
 same_slots (first ∷ slots) [] long same = absurd (omega (arith, long))
@@ -105,7 +113,8 @@ same_slots (first ∷ slots) (other ∷ others) long same =
     rw (heads, tails) refl
 
 -- slots that are the same below a level are so up to it, once the same is put there
-pub same_up_to : {T : Type 0} (slots others : List (Option T)) (level : ℕ) (value : Option T) → 1 ≤ level → level ≤ length slots → value ≡ slot others level → ((n : ℕ) → 1 ≤ n → n < level → slot slots n ≡ slot others n) → (n : ℕ) → 1 ≤ n → n < level + 1 → slot (put_slot slots level value) n ≡ slot others n
+pub same_up_to : {T : Type 0} (slots others : List (Option T)) (level : ℕ) (value : Option T) → 1 ≤ level → level ≤ length slots → value ≡ slot others level →
+    ((n : ℕ) → 1 ≤ n → n < level → slot slots n ≡ slot others n) → (n : ℕ) → 1 ≤ n → n < level + 1 → slot (put_slot slots level value) n ≡ slot others n
 same_up_to slots others level value counted within there same n one below =
     elim (cases_eq n level) [
       | inl e ↦ rw (e, slot-put_slot slots level value counted within) there

@@ -8,7 +8,11 @@
 //! - `laws`: what holds of any slots, for the proofs of the layers above.
 #![tactic(auto)]
 
-pub mod laws;
+mod laws;
 mod slots;
 
+pub use laws::{
+    first_is_in_force, new_are_empty, no_first_is_none_filled, put_is_held, put_is_in_force,
+    put_keeps_length, put_leaves_others, same_at_each_level,
+};
 pub use slots::Slots;

@@ -10,7 +10,7 @@ use Rattle.std.specs.Prelude.{◌==◌}
 use Rattle.std.proofs.lemmas.Bool.{eqb-true, eq-eqb}
 use Rattle.npdu.proofs.Stations.{then_equal, station_order}
 use Rattle.npdu.specs.declared.mac.Way.{Way}
-use Rattle.segments.specs.Cutting.{Cutting}
+use Rattle.segments.specs.Sender.{SenderState}
 use Rattle.npdu.specs.declared.mac.Station.{Station}
 use Rattle.remembered.specs.declared.record.Asker.{Asker}
 use Rattle.npdu.specs.Mac.{station_cmp}
@@ -22,7 +22,8 @@ use Rattle.remembered.specs.Keeping.{cons_some, at, listed, is_at, key_of, IsFil
 pub exact_asker : (a b : Asker) → asker_cmp a b ≡ Equal → a ≡ b
 exact_asker a b e =
     let p = then_equal (nat_cmp a.invoke_id b.invoke_id) (station_cmp a.station b.station) e in
-    ap (λ (s : Station). record { station = s; invoke_id = a.invoke_id }) (station_order.apart a.station b.station p.1) ∙ ap (λ (n : ℕ). record { station = b.station; invoke_id = n }) (exact_unsigned a.invoke_id b.invoke_id p.0)
+    ap (λ (s : Station). record { station = s; invoke_id = a.invoke_id }) (station_order.apart a.station b.station p.1)
+    ∙ ap (λ (n : ℕ). record { station = b.station; invoke_id = n }) (exact_unsigned a.invoke_id b.invoke_id p.0)
 
 pub is_equal : (o : Ordering) → is_eq o ≡ true → o ≡ Equal
 is_equal Less e = absurd (cc e)
@@ -84,14 +85,16 @@ module _ {A : Type 0} where
   abbrev IsNewest : List (Option (Record A)) → Option (Record A) → Option ℕ → Type 0
   IsNewest held n o = (n ≡ and_get held o) × HasRecord held o
 
-  step_by : (held : List (Option (Record A))) (k : ℕ) (b : Bool) (r : Record A) (n : Option (Record A)) (o : Option ℕ) → at held k ≡ Some r → IsNewest held n o → IsNewest held (later_or n (some_if b r)) (later_or o (some_if b k))
+  step_by : (held : List (Option (Record A))) (k : ℕ) (b : Bool) (r : Record A) (n : Option (Record A)) (o : Option ℕ) → at held k ≡ Some r →
+      IsNewest held n o → IsNewest held (later_or n (some_if b r)) (later_or o (some_if b k))
   step_by held k true r None None is e = (sym is, record { r = r; is = is })
   step_by held k false r None None is e = (refl, tt)
   step_by held k b r (Some x) None is e = absurd (cc e.0)
   step_by held k b r (Some x) (Some j) is e = e
   step_by held k b r None (Some j) is e = absurd (let gone : at held j ≡ None = sym e.0 in let there : at held j ≡ Some e.1.r = e.1.is in cc (sym gone ∙ there))
 
-  step_at : (held : List (Option (Record A))) (a : Asker) (k : ℕ) (here : Option (Record A)) (rs : List (Record A)) (o : Option ℕ) → at held k ≡ here → IsNewest held (newest a rs) o → IsNewest held (newest a (cons_some here rs)) (later_or o (some_if (is_at a here) k))
+  step_at : (held : List (Option (Record A))) (a : Asker) (k : ℕ) (here : Option (Record A)) (rs : List (Record A)) (o : Option ℕ) → at held k ≡ here →
+      IsNewest held (newest a rs) o → IsNewest held (newest a (cons_some here rs)) (later_or o (some_if (is_at a here) k))
   step_at held a k None rs o is e = rw (later_none o) e
   step_at held a k (Some r) rs o is e = step_by held k (is_of a r) r (newest a rs) o is e
 
@@ -107,15 +110,18 @@ module _ {A : Type 0} where
   listed_same held now [] all = refl
   listed_same held now (k ∷ ks) all = rw (all.0, listed_same held now ks all.1) refl
 
-  key_same : (held now : List (Option (Record A))) (a : Asker) (ks : List ℕ) → AllByRecursion (λ j. at now j ≡ at held j) ks → key_of now a ks ≡ key_of held a ks
+  key_same : (held now : List (Option (Record A))) (a : Asker) (ks : List ℕ) → AllByRecursion (λ j. at now j ≡ at held j) ks →
+      key_of now a ks ≡ key_of held a ks
   key_same held now a [] all = refl
   key_same held now a (k ∷ ks) all = rw (all.0, key_same held now a ks all.1) refl
 
-  filled_same : (held now : List (Option (Record A))) (ks : List ℕ) → AllByRecursion (λ j. at now j ≡ at held j) ks → AllByRecursion (IsFilled held) ks → AllByRecursion (IsFilled now) ks
+  filled_same : (held now : List (Option (Record A))) (ks : List ℕ) → AllByRecursion (λ j. at now j ≡ at held j) ks → AllByRecursion (IsFilled held) ks →
+      AllByRecursion (IsFilled now) ks
   filled_same held now [] all filled = tt
   filled_same held now (k ∷ ks) all filled = (record { r = filled.0.r; is = all.0 ∙ filled.0.is }, filled_same held now ks all.1 filled.1)
 
-  others : (held now : List (Option (Record A))) (k : ℕ) (o : Option (Record A)) (ks : List ℕ) → Updated held now k o → AllByRecursion (λ j. j ≢ k) ks → AllByRecursion (λ j. at now j ≡ at held j) ks
+  others : (held now : List (Option (Record A))) (k : ℕ) (o : Option (Record A)) (ks : List ℕ) → Updated held now k o → AllByRecursion (λ j. j ≢ k) ks →
+      AllByRecursion (λ j. at now j ≡ at held j) ks
   others held now k o [] up apart = tt
   others held now k o (j ∷ ks) up apart = (up.others j apart.0, others held now k o ks up apart.1)
 
@@ -124,7 +130,8 @@ module _ {A : Type 0} where
   vacant_apart held k (j ∷ ks) none filled = ((λ e. cc (sym none ∙ ap (at held) (sym e) ∙ filled.0.is)), vacant_apart held k ks none filled.1)
 
   -- ---- one key more
-  listed_push : (held : List (Option (Record A))) (ks : List ℕ) (k : ℕ) (r : Record A) → at held k ≡ Some r → listed held (ks ++ k ∷ []) ≡ listed held ks ++ r ∷ []
+  listed_push : (held : List (Option (Record A))) (ks : List ℕ) (k : ℕ) (r : Record A) → at held k ≡ Some r →
+      listed held (ks ++ k ∷ []) ≡ listed held ks ++ r ∷ []
   listed_push held [] k r is = rw is refl
   listed_push held (j ∷ ks) k r is = rw (listed_push held ks k r is) (cons_append (at held j) (listed held ks) r)
     where
@@ -132,30 +139,37 @@ module _ {A : Type 0} where
       cons_append None xs r = refl
       cons_append (Some x) xs r = refl
 
-  key_push : (held : List (Option (Record A))) (a : Asker) (ks : List ℕ) (k : ℕ) (r : Record A) → at held k ≡ Some r → key_of held a (ks ++ k ∷ []) ≡ later_or (some_if (is_of a r) k) (key_of held a ks)
+  key_push : (held : List (Option (Record A))) (a : Asker) (ks : List ℕ) (k : ℕ) (r : Record A) → at held k ≡ Some r →
+      key_of held a (ks ++ k ∷ []) ≡ later_or (some_if (is_of a r) k) (key_of held a ks)
   key_push held a [] k r is = rw is (sym (later_none (some_if (is_of a r) k)))
   key_push held a (j ∷ ks) k r is = rw (key_push held a ks k r is) (later_assoc (some_if (is_of a r) k) (key_of held a ks) (some_if (is_at a (at held j)) j))
 
-  filled_push : (held : List (Option (Record A))) (ks : List ℕ) (k : ℕ) → AllByRecursion (IsFilled held) ks → IsFilled held k → AllByRecursion (IsFilled held) (ks ++ k ∷ [])
+  filled_push : (held : List (Option (Record A))) (ks : List ℕ) (k : ℕ) → AllByRecursion (IsFilled held) ks → IsFilled held k →
+      AllByRecursion (IsFilled held) (ks ++ k ∷ [])
   filled_push held [] k all one = (one, tt)
   filled_push held (j ∷ ks) k all one = (all.0, filled_push held ks k all.1 one)
 
-  pub kept_pushed : (held now : List (Option (Record A))) (keys mapped : Keys) (ks : List ℕ) (k : ℕ) (r : Record A) → IsKept held keys ks → at held k ≡ None → Updated held now k (Some r) → IsSet r.asker k keys mapped → IsKept now mapped (ks ++ k ∷ [])
+  pub kept_pushed : (held now : List (Option (Record A))) (keys mapped : Keys) (ks : List ℕ) (k : ℕ) (r : Record A) → IsKept held keys ks → at held k ≡ None →
+      Updated held now k (Some r) → IsSet r.asker k keys mapped → IsKept now mapped (ks ++ k ∷ [])
   kept_pushed held now keys mapped ks k r kept none up put =
       let apart = vacant_apart held k ks none kept.filled in
       let same = others held now k (Some r) ks up apart in
       record {
         filled = filled_push now ks k (filled_same held now ks same kept.filled) (record { r = r; is = up.changed });
         apart = apart_push ks k kept.apart apart;
-        found = λ a. put a ∙ ap (cond (is_eq (asker_cmp r.asker a)) (Some k)) (kept.found a ∙ sym (key_same held now a ks same)) ∙ sym (key_push now a ks k r up.changed ∙ later_cond (is_of a r) k (key_of now a ks));
+        found = λ a. put a ∙ ap (cond (is_eq (asker_cmp r.asker a)) (Some k)) (kept.found a ∙ sym (key_same held now a ks same))
+            ∙ sym (key_push now a ks k r up.changed ∙ later_cond (is_of a r) k (key_of now a ks));
       }
 
-  pub listed_pushed : (held now : List (Option (Record A))) (keys : Keys) (ks : List ℕ) (k : ℕ) (r : Record A) → IsKept held keys ks → at held k ≡ None → Updated held now k (Some r) → listed now (ks ++ k ∷ []) ≡ listed held ks ++ r ∷ []
+  pub listed_pushed : (held now : List (Option (Record A))) (keys : Keys) (ks : List ℕ) (k : ℕ) (r : Record A) → IsKept held keys ks → at held k ≡ None →
+      Updated held now k (Some r) → listed now (ks ++ k ∷ []) ≡ listed held ks ++ r ∷ []
   listed_pushed held now keys ks k r kept none up =
-      listed_push now ks k r up.changed ∙ ap (λ (rs : List (Record A)). rs ++ r ∷ []) (listed_same held now ks (others held now k (Some r) ks up (vacant_apart held k ks none kept.filled)))
+      listed_push now ks k r up.changed ∙ ap (λ (rs : List (Record A)). rs ++ r ∷ [])
+      (listed_same held now ks (others held now k (Some r) ks up (vacant_apart held k ks none kept.filled)))
 
   -- ---- one key less
-  pub listed_popped : (held now : List (Option (Record A))) (k : ℕ) (ks : List ℕ) → AreApart (k ∷ ks) → Updated held now k None → IsFilled held k → listed now ks ≡ drop 1 (listed held (k ∷ ks))
+  pub listed_popped : (held now : List (Option (Record A))) (k : ℕ) (ks : List ℕ) → AreApart (k ∷ ks) → Updated held now k None → IsFilled held k →
+      listed now ks ≡ drop 1 (listed held (k ∷ ks))
   listed_popped held now k ks apart up filled = rw (filled.is) (listed_same held now ks (others held now k None ks up apart.0))
 
   key_among : (held : List (Option (Record A))) (a : Asker) (k : ℕ) (ks : List ℕ) → AllByRecursion (λ j. j ≢ k) ks → key_of held a ks ≡ Some k → ⊥
@@ -167,10 +181,12 @@ module _ {A : Type 0} where
       key_among_by None true not e = apart.0 (cc e)
       key_among_by None false not e = cc e
 
-  key_first : (held : List (Option (Record A))) (keys : Keys) (k : ℕ) (ks : List ℕ) (r : Record A) (a : Asker) → IsKept held keys (k ∷ ks) → at held k ≡ Some r → get keys a ≡ later_or (key_of held a ks) (some_if (is_of a r) k)
+  key_first : (held : List (Option (Record A))) (keys : Keys) (k : ℕ) (ks : List ℕ) (r : Record A) (a : Asker) → IsKept held keys (k ∷ ks) →
+      at held k ≡ Some r → get keys a ≡ later_or (key_of held a ks) (some_if (is_of a r) k)
   key_first held keys k ks r a kept is = kept.found a ∙ ap (λ (o : Option (Record A)). later_or (key_of held a ks) (some_if (is_at a o) k)) is
 
-  kept_removed : (held now : List (Option (Record A))) (keys mapped : Keys) (k : ℕ) (ks : List ℕ) (r : Record A) → IsKept held keys (k ∷ ks) → at held k ≡ Some r → Updated held now k None → get keys r.asker ≡ Some k → IsDropped r.asker keys mapped → IsKept now mapped ks
+  kept_removed : (held now : List (Option (Record A))) (keys mapped : Keys) (k : ℕ) (ks : List ℕ) (r : Record A) → IsKept held keys (k ∷ ks) →
+      at held k ≡ Some r → Updated held now k None → get keys r.asker ≡ Some k → IsDropped r.asker keys mapped → IsKept now mapped ks
   kept_removed held now keys mapped k ks r kept is up mine removed =
       let same = others held now k None ks up kept.apart.0 in
       record {
@@ -185,7 +201,8 @@ module _ {A : Type 0} where
             ∙ sym (key_same held now a ks same);
       }
 
-  kept_left : (held now : List (Option (Record A))) (keys : Keys) (k : ℕ) (ks : List ℕ) (r : Record A) → IsKept held keys (k ∷ ks) → at held k ≡ Some r → Updated held now k None → (get keys r.asker ≡ Some k → ⊥) → IsKept now keys ks
+  kept_left : (held now : List (Option (Record A))) (keys : Keys) (k : ℕ) (ks : List ℕ) (r : Record A) → IsKept held keys (k ∷ ks) → at held k ≡ Some r →
+      Updated held now k None → (get keys r.asker ≡ Some k → ⊥) → IsKept now keys ks
   kept_left held now keys k ks r kept is up other =
       let same = others held now k None ks up kept.apart.0 in
       record {
@@ -198,14 +215,16 @@ module _ {A : Type 0} where
             ∙ sym (key_same held now a ks same);
       }
 
-  pub kept_forgotten : (held now : List (Option (Record A))) (keys mapped : Keys) (k : ℕ) (ks : List ℕ) (r : Record A) → IsKept held keys (k ∷ ks) → at held k ≡ Some r → Updated held now k None → IsForgotten r.asker k keys mapped → IsKept now mapped ks
+  pub kept_forgotten : (held now : List (Option (Record A))) (keys mapped : Keys) (k : ℕ) (ks : List ℕ) (r : Record A) → IsKept held keys (k ∷ ks) →
+      at held k ≡ Some r → Updated held now k None → IsForgotten r.asker k keys mapped → IsKept now mapped ks
   kept_forgotten held now keys mapped k ks r kept is up f = by_key (get keys r.asker) refl
     where
       other : (get keys r.asker ≡ Some k → ⊥) → IsKept now mapped ks
       other not = subst (λ (m : Keys). IsKept now m ks) (sym (f.left not)) (kept_left held now keys k ks r kept is up not)
 
       by_test : (j : ℕ) (b : Bool) → (j == k) ≡ b → get keys r.asker ≡ Some j → IsKept now mapped ks
-      by_test j true t e = let mine : get keys r.asker ≡ Some k = e ∙ ap Some (eqb-true j k t) in kept_removed held now keys mapped k ks r kept is up mine (f.dropped mine)
+      by_test j true t e = let mine : get keys r.asker ≡ Some k = e ∙ ap Some (eqb-true j k t) in
+          kept_removed held now keys mapped k ks r kept is up mine (f.dropped mine)
       by_test j false t e = other (λ mine. true_is_not (sym t ∙ eq-eqb j k (cc (sym e ∙ mine))))
 
       by_key : (o : Option ℕ) → get keys r.asker ≡ o → IsKept now mapped ks
@@ -217,7 +236,8 @@ module _ {A : Type 0} where
   length_listed held (k ∷ ks) all = rw (all.0.is) (ap suc (length_listed held ks all.1))
 
   -- the first of what is listed is under the first key
-  pub first_listed : (held : List (Option (Record A))) (ks : List ℕ) → AllByRecursion (IsFilled held) ks → first (listed held ks) ≡ and_get held (slice_get ks 0)
+  pub first_listed : (held : List (Option (Record A))) (ks : List ℕ) → AllByRecursion (IsFilled held) ks →
+      first (listed held ks) ≡ and_get held (slice_get ks 0)
   first_listed held [] all = refl
   first_listed held (k ∷ ks) all = rw (all.0.is) refl
 
@@ -243,7 +263,8 @@ module _ {A : Type 0} where
   shorter now (r ∷ rs) e = omega arith
 
   -- each record is under the key at its place
-  pub listed_at : (held : List (Option (Record A))) (ks : List ℕ) (i : ℕ) → AllByRecursion (IsFilled held) ks → slice_get (listed held ks) i ≡ and_get held (slice_get ks i)
+  pub listed_at : (held : List (Option (Record A))) (ks : List ℕ) (i : ℕ) → AllByRecursion (IsFilled held) ks →
+      slice_get (listed held ks) i ≡ and_get held (slice_get ks i)
   listed_at held [] i all = refl
   listed_at held (k ∷ ks) zero all = rw (all.0.is) refl
   listed_at held (k ∷ ks) (suc i) all = rw (all.0.is) (listed_at held ks i all.1)
@@ -256,11 +277,13 @@ module _ {A : Type 0} where
       ap (λ n. take n (y ∷ xs)) next ∙ ap (λ (zs : List (Record A)). y ∷ zs) (take_next xs i x e)
 
   -- ---- said on another way
-  key_askers : (held now : List (Option (Record A))) (a : Asker) → ((j : ℕ) → is_at a (at now j) ≡ is_at a (at held j)) → (ks : List ℕ) → key_of now a ks ≡ key_of held a ks
+  key_askers : (held now : List (Option (Record A))) (a : Asker) → ((j : ℕ) → is_at a (at now j) ≡ is_at a (at held j)) → (ks : List ℕ) →
+      key_of now a ks ≡ key_of held a ks
   key_askers held now a same [] = refl
   key_askers held now a same (k ∷ ks) = rw (same k, key_askers held now a same ks) refl
 
-  same_asker_at : (held now : List (Option (Record A))) (k : ℕ) (w : Way) (s : Option Cutting) (r : Record A) → at held k ≡ Some r → Updated held now k (Some (said_on w s r)) → (a : Asker) (j : ℕ) → is_at a (at now j) ≡ is_at a (at held j)
+  same_asker_at : (held now : List (Option (Record A))) (k : ℕ) (w : Way) (s : Option SenderState) (r : Record A) → at held k ≡ Some r →
+      Updated held now k (Some (said_on w s r)) → (a : Asker) (j : ℕ) → is_at a (at now j) ≡ is_at a (at held j)
   same_asker_at held now k w s r is up a j = by_test (j == k) refl
     where
       by_test : (b : Bool) → (j == k) ≡ b → is_at a (at now j) ≡ is_at a (at held j)
@@ -269,7 +292,8 @@ module _ {A : Type 0} where
           ap (is_at a) (ap (at now) same ∙ up.changed) ∙ sym (ap (is_at a) (ap (at held) same ∙ is))
       by_test false e = ap (is_at a) (up.others j (λ same. true_is_not (sym e ∙ eq-eqb j k same)))
 
-  filled_sent : (held now : List (Option (Record A))) (k : ℕ) (w : Way) (s : Option Cutting) (r : Record A) → at held k ≡ Some r → Updated held now k (Some (said_on w s r)) → (ks : List ℕ) → AllByRecursion (IsFilled held) ks → AllByRecursion (IsFilled now) ks
+  filled_sent : (held now : List (Option (Record A))) (k : ℕ) (w : Way) (s : Option SenderState) (r : Record A) → at held k ≡ Some r →
+      Updated held now k (Some (said_on w s r)) → (ks : List ℕ) → AllByRecursion (IsFilled held) ks → AllByRecursion (IsFilled now) ks
   filled_sent held now k w s r is up [] all = tt
   filled_sent held now k w s r is up (j ∷ ks) all = (by_test (j == k) refl, filled_sent held now k w s r is up ks all.1)
     where
@@ -277,7 +301,8 @@ module _ {A : Type 0} where
       by_test true e = record { r = said_on w s r; is = ap (at now) (eqb-true j k e) ∙ up.changed }
       by_test false e = record { r = all.0.r; is = up.others j (λ same. true_is_not (sym e ∙ eq-eqb j k same)) ∙ all.0.is }
 
-  pub kept_sent : (held now : List (Option (Record A))) (keys : Keys) (ks : List ℕ) (k : ℕ) (w : Way) (s : Option Cutting) (r : Record A) → IsKept held keys ks → at held k ≡ Some r → Updated held now k (Some (said_on w s r)) → IsKept now keys ks
+  pub kept_sent : (held now : List (Option (Record A))) (keys : Keys) (ks : List ℕ) (k : ℕ) (w : Way) (s : Option SenderState) (r : Record A) →
+      IsKept held keys ks → at held k ≡ Some r → Updated held now k (Some (said_on w s r)) → IsKept now keys ks
   kept_sent held now keys ks k w s r kept is up =
       record {
         filled = filled_sent held now k w s r is up ks kept.filled;
@@ -285,7 +310,11 @@ module _ {A : Type 0} where
         found = λ a. kept.found a ∙ sym (key_askers held now a (same_asker_at held now k w s r is up a) ks);
       }
 
-  sent_by : (held now : List (Option (Record A))) (a : Asker) (k : ℕ) (w : Way) (s : Option Cutting) (j : ℕ) (ks : List ℕ) (r : Record A) (x : Record A) (o : Option ℕ) (n : Option (Record A)) (b : Bool) → at held k ≡ Some r → Updated held now k (Some (said_on w s r)) → AllByRecursion (λ i. i ≢ j) ks → at held j ≡ Some x → is_of a x ≡ b → key_of held a ks ≡ o → IsNewest held n o → later_or o (some_if b j) ≡ Some k → (o ≡ Some k → listed now ks ≡ said_again a w s (listed held ks)) → cons_some (at now j) (listed now ks) ≡ said_by n b w s x (listed held ks) (said_again a w s (listed held ks))
+  sent_by : (held now : List (Option (Record A))) (a : Asker) (k : ℕ) (w : Way) (s : Option SenderState) (j : ℕ) (ks : List ℕ) (r : Record A) (x : Record A)
+      (o : Option ℕ) (n : Option (Record A)) (b : Bool) → at held k ≡ Some r → Updated held now k (Some (said_on w s r)) → AllByRecursion (λ i. i ≢ j) ks →
+      at held j ≡ Some x → is_of a x ≡ b → key_of held a ks ≡ o → IsNewest held n o → later_or o (some_if b j) ≡ Some k →
+      (o ≡ Some k → listed now ks ≡ said_again a w s (listed held ks)) →
+      cons_some (at now j) (listed now ks) ≡ said_by n b w s x (listed held ks) (said_again a w s (listed held ks))
   sent_by held now a k w s j ks r x (Some i) None b is up apart here test key new e next = absurd (cc (new.0 ∙ new.1.is))
   sent_by held now a k w s j ks r x (Some i) (Some y) b is up apart here test key new e next =
       let other : at now j ≡ at held j = up.others j (λ same. key_among held a j ks apart (key ∙ e ∙ ap Some (sym same))) in
@@ -296,16 +325,23 @@ module _ {A : Type 0} where
       let same : j ≡ k = cc e in
       let one : Some x ≡ Some r = sym here ∙ ap (at held) same ∙ is in
       let record_is : x ≡ r = cc one in
-      rw (ap (at now) same ∙ up.changed, record_is, listed_same held now ks (others held now k (Some (said_on w s r)) ks up (subst (λ (i : ℕ). AllByRecursion (λ l. l ≢ i) ks) same apart))) refl
+      rw (
+        ap (at now) same ∙ up.changed,
+        record_is,
+        listed_same held now ks (others held now k (Some (said_on w s r)) ks up (subst (λ (i : ℕ). AllByRecursion (λ l. l ≢ i) ks) same apart)),
+      ) refl
 
-  pub listed_sent : (held now : List (Option (Record A))) (a : Asker) (k : ℕ) (w : Way) (s : Option Cutting) (r : Record A) → at held k ≡ Some r → Updated held now k (Some (said_on w s r)) → (ks : List ℕ) → AreApart ks → AllByRecursion (IsFilled held) ks → key_of held a ks ≡ Some k → listed now ks ≡ said_again a w s (listed held ks)
+  pub listed_sent : (held now : List (Option (Record A))) (a : Asker) (k : ℕ) (w : Way) (s : Option SenderState) (r : Record A) → at held k ≡ Some r →
+      Updated held now k (Some (said_on w s r)) → (ks : List ℕ) → AreApart ks → AllByRecursion (IsFilled held) ks → key_of held a ks ≡ Some k →
+      listed now ks ≡ said_again a w s (listed held ks)
   listed_sent held now a k w s r is up [] apart filled e = absurd (cc e)
   listed_sent held now a k w s r is up (j ∷ ks) apart filled e =
-      rw (filled.0.is) (sent_by held now a k w s j ks r filled.0.r (key_of held a ks) (newest a (listed held ks)) (is_of a filled.0.r) is up apart.0 filled.0.is refl refl (newest_at held a ks)
+      rw (filled.0.is) (sent_by held now a k w s j ks r filled.0.r (key_of held a ks) (newest a (listed held ks)) (is_of a filled.0.r) is up apart.0
+      filled.0.is refl refl (newest_at held a ks)
       (ap (λ (o : Option (Record A)). later_or (key_of held a ks) (some_if (is_at a o) j)) (sym filled.0.is) ∙ e)
       (λ found. listed_sent held now a k w s r is up ks apart.1 filled.1 found))
 
-  pub not_sent : (a : Asker) (w : Way) (s : Option Cutting) (rs : List (Record A)) → newest a rs ≡ None → said_again a w s rs ≡ rs
+  pub not_sent : (a : Asker) (w : Way) (s : Option SenderState) (rs : List (Record A)) → newest a rs ≡ None → said_again a w s rs ≡ rs
   not_sent a w s [] e = refl
   not_sent a w s (r ∷ rs) e = by_newest (newest a rs) (is_of a r) e
     where

@@ -1,25 +1,29 @@
 -- Of records in order of execution, those that are forgotten are the dead ones.
 use Rattle.std.proofs.Common.{◌≡◌, ◌∙◌, refl, sym, ap, subst, ℕ, ◌<◌, ◌≤◌, Bool, true, false, List, [], ◌∷◌, arith}
-use Rattle.std.specs.Prelude.{◌-◌, nat_le, ◌&&◌, length, filter, Option, Some, None}
+use Rattle.std.specs.Prelude.{◌+◌, nat_le, ◌&&◌, length, filter, Option, Some, None}
 use Rattle.std.proofs.lemmas.Bool.{leb-true, le-leb}
-use Rattle.segments.specs.Numbers.{KEEP_MS, MAX_REMEMBERED}
+use Rattle.profile.specs.Ages as age
+use Rattle.profile.specs.Limits.{MAX_REMEMBERED}
+use Rattle.profile.specs.Times.{KEEP_MS}
 use Rattle.remembered.specs.declared.record.Asker.{Asker}
 use Rattle.remembered.specs.declared.record.Record.{Record}
 use Rattle.remembered.specs.Records.{AreFrom, forgotten, is_full, is_of, later_or, lives, living, newest, remembered, some_if}
 use Rattle.remembered.specs.Laws.{ForgottenAreDead, FullIsLiving, NewestLives}
 
 -- the first lives, and all others are executed at that moment or later
-lives_later : {A : Type 0} (now moment : ℕ) (r : Record A) → nat_le (now - KEEP_MS) moment ≡ true → moment ≤ r.at → lives now r ≡ true
-lives_later now moment r e l = le-leb (now - KEEP_MS) r.at (omega (arith, l, leb-true (now - KEEP_MS) moment e))
+lives_later : {A : Type 0} (now moment : ℕ) (r : Record A) → age.lives moment now ≡ true → moment ≤ r.at → lives now r ≡ true
+lives_later now moment r e l = le-leb now (r.at + KEEP_MS) (omega (arith, l, leb-true now (moment + KEEP_MS) e))
 
-kept_first : {A : Type 0} (now : ℕ) (r : Record A) (rs : List (Record A)) → lives now r ≡ true → filter (lives now) rs ≡ rs → filter (lives now) (r ∷ rs) ≡ r ∷ rs
+kept_first : {A : Type 0} (now : ℕ) (r : Record A) (rs : List (Record A)) → lives now r ≡ true → filter (lives now) rs ≡ rs →
+    filter (lives now) (r ∷ rs) ≡ r ∷ rs
 kept_first now r rs e same = rw (e, same) refl
 
-all_live : {A : Type 0} (now moment : ℕ) (rs : List (Record A)) → nat_le (now - KEEP_MS) moment ≡ true → AreFrom moment rs → filter (lives now) rs ≡ rs
+all_live : {A : Type 0} (now moment : ℕ) (rs : List (Record A)) → age.lives moment now ≡ true → AreFrom moment rs → filter (lives now) rs ≡ rs
 all_live now moment [] e from = refl
 all_live now moment (r ∷ rs) e from = kept_first now r rs (lives_later now moment r e from.0) (all_live now moment rs e from.1)
 
-forgotten_by : {A : Type 0} (now : ℕ) (r : Record A) (rs : List (Record A)) (b : Bool) → lives now r ≡ b → AreFrom r.at rs → forgotten now rs ≡ filter (lives now) rs → forgotten now (r ∷ rs) ≡ filter (lives now) (r ∷ rs)
+forgotten_by : {A : Type 0} (now : ℕ) (r : Record A) (rs : List (Record A)) (b : Bool) → lives now r ≡ b → AreFrom r.at rs →
+    forgotten now rs ≡ filter (lives now) rs → forgotten now (r ∷ rs) ≡ filter (lives now) (r ∷ rs)
 forgotten_by now r rs true e from same = rw e (ap (λ (xs : List (Record _)). r ∷ xs) (sym (all_live now r.at rs e from)))
 forgotten_by now r rs false e from same = rw e same
 
@@ -27,7 +31,8 @@ pub forgotten_are_dead : {A : Type 0} → ForgottenAreDead A
 forgotten_are_dead now [] ascending = refl
 forgotten_are_dead now (r ∷ rs) ascending = forgotten_by now r rs (lives now r) refl ascending.0 (forgotten_are_dead now rs ascending.1)
 
-fewer_by : {A : Type 0} (now : ℕ) (r : Record A) (rs : List (Record A)) (b : Bool) → lives now r ≡ b → length (filter (lives now) rs) ≤ length rs → length (filter (lives now) (r ∷ rs)) ≤ length (r ∷ rs)
+fewer_by : {A : Type 0} (now : ℕ) (r : Record A) (rs : List (Record A)) (b : Bool) → lives now r ≡ b → length (filter (lives now) rs) ≤ length rs →
+    length (filter (lives now) (r ∷ rs)) ≤ length (r ∷ rs)
 fewer_by now r rs true e l = rw e (omega (arith, l))
 fewer_by now r rs false e l = rw e (omega (arith, l))
 
@@ -42,9 +47,11 @@ not_le m n l = by_test (nat_le m n) refl
     by_test true e = absurd (omega (arith, l, leb-true m n e))
     by_test false e = refl
 
-full_by : {A : Type 0} (now : ℕ) (r : Record A) (rs : List (Record A)) (b : Bool) → lives now r ≡ b → AreFrom r.at rs → length (r ∷ rs) ≤ MAX_REMEMBERED → is_full now (r ∷ rs) ≡ nat_le MAX_REMEMBERED (length (filter (lives now) (r ∷ rs)))
+full_by : {A : Type 0} (now : ℕ) (r : Record A) (rs : List (Record A)) (b : Bool) → lives now r ≡ b → AreFrom r.at rs → length (r ∷ rs) ≤ MAX_REMEMBERED →
+    is_full now (r ∷ rs) ≡ nat_le MAX_REMEMBERED (length (filter (lives now) (r ∷ rs)))
 full_by now r rs true e from few =
-    rw e (and_true (nat_le MAX_REMEMBERED (length (r ∷ rs))) ∙ ap (λ (xs : List (Record _)). nat_le MAX_REMEMBERED (length (r ∷ xs))) (sym (all_live now r.at rs e from)))
+    rw e (and_true (nat_le MAX_REMEMBERED (length (r ∷ rs)))
+    ∙ ap (λ (xs : List (Record _)). nat_le MAX_REMEMBERED (length (r ∷ xs))) (sym (all_live now r.at rs e from)))
   where
     and_true : (b : Bool) → (b && true) ≡ b
     and_true true = refl
@@ -64,7 +71,8 @@ full_is_living now (r ∷ rs) ascending few = full_by now r rs (lives now r) ref
 the_same : {A : Type 0} (r x : Record A) → Some r ≡ Some x → r ≡ x
 the_same r x e = cc e
 
-newest_from_by : {A : Type 0} (a : Asker) (moment : ℕ) (r x : Record A) (o : Option (Record A)) (b : Bool) → moment ≤ r.at → (o ≡ Some x → moment ≤ x.at) → later_or o (some_if b r) ≡ Some x → moment ≤ x.at
+newest_from_by : {A : Type 0} (a : Asker) (moment : ℕ) (r x : Record A) (o : Option (Record A)) (b : Bool) → moment ≤ r.at → (o ≡ Some x → moment ≤ x.at) →
+    later_or o (some_if b r) ≡ Some x → moment ≤ x.at
 newest_from_by a moment r x (Some y) b here others e = others e
 newest_from_by {A} a moment r x None true here others e = subst (λ (z : Record A). moment ≤ z.at) (the_same r x e) here
 newest_from_by a moment r x None false here others e = absurd (cc e)
@@ -77,21 +85,25 @@ living_some : {A : Type 0} (now : ℕ) (x : Record A) → lives now x ≡ true �
 living_some now x e = rw e refl
 
 -- the newest of records that all live
-newest_live : {A : Type 0} (now : ℕ) (a : Asker) (moment : ℕ) (rs : List (Record A)) (o : Option (Record A)) → newest a rs ≡ o → nat_le (now - KEEP_MS) moment ≡ true → AreFrom moment rs → living now o ≡ o
+newest_live : {A : Type 0} (now : ℕ) (a : Asker) (moment : ℕ) (rs : List (Record A)) (o : Option (Record A)) → newest a rs ≡ o → age.lives moment now ≡ true →
+    AreFrom moment rs → living now o ≡ o
 newest_live now a moment rs None is e from = refl
 newest_live now a moment rs (Some x) is e from = living_some now x (lives_later now moment x e (newest_from a moment rs x from is))
 
-live_first : {A : Type 0} (now : ℕ) (r : Record A) (o : Option (Record A)) (b : Bool) → lives now r ≡ true → living now o ≡ o → living now (later_or o (some_if b r)) ≡ later_or o (some_if b r)
+live_first : {A : Type 0} (now : ℕ) (r : Record A) (o : Option (Record A)) (b : Bool) → lives now r ≡ true → living now o ≡ o →
+    living now (later_or o (some_if b r)) ≡ later_or o (some_if b r)
 live_first now r (Some x) b e same = same
 live_first now r None true e same = living_some now r e
 live_first now r None false e same = refl
 
-dead_first : {A : Type 0} (now : ℕ) (r : Record A) (o : Option (Record A)) (b : Bool) → lives now r ≡ false → living now (later_or o (some_if b r)) ≡ living now o
+dead_first : {A : Type 0} (now : ℕ) (r : Record A) (o : Option (Record A)) (b : Bool) → lives now r ≡ false →
+    living now (later_or o (some_if b r)) ≡ living now o
 dead_first now r (Some x) b e = refl
 dead_first now r None true e = rw e refl
 dead_first now r None false e = refl
 
-newest_by : {A : Type 0} (now : ℕ) (a : Asker) (r : Record A) (rs : List (Record A)) (b : Bool) → lives now r ≡ b → AreFrom r.at rs → remembered now a rs ≡ newest a (filter (lives now) rs) → remembered now a (r ∷ rs) ≡ newest a (filter (lives now) (r ∷ rs))
+newest_by : {A : Type 0} (now : ℕ) (a : Asker) (r : Record A) (rs : List (Record A)) (b : Bool) → lives now r ≡ b → AreFrom r.at rs →
+    remembered now a rs ≡ newest a (filter (lives now) rs) → remembered now a (r ∷ rs) ≡ newest a (filter (lives now) (r ∷ rs))
 newest_by now a r rs true e from same =
     live_first now r (newest a rs) (is_of a r) e (newest_live now a r.at rs (newest a rs) refl e from)
     ∙ ap (newest a) (sym (kept_first now r rs e (all_live now r.at rs e from)))

@@ -15,7 +15,9 @@ use Rattle.remembered.specs.Records.{asker_cmp}
 use Rattle.remembered.specs.Keeping.{HasNow, IsSet, IsSameMap, Keys, get}
 use Rattle.remembered.proofs.Keeping.{exact_asker, is_equal}
 
-macs : (n : ℕ) (a b : Mac) (i j m : ℕ) → impl.cmp-value.it (record { station = record { net = n; mac = a }; invoke_id = i }) (record { station = record { net = m; mac = b }; invoke_id = j }) ≡ asker_cmp (record { station = record { net = n; mac = a }; invoke_id = i }) (record { station = record { net = m; mac = b }; invoke_id = j })
+macs : (n : ℕ) (a b : Mac) (i j m : ℕ) → impl.cmp-value.it (record { station = record { net = n; mac = a }; invoke_id = i })
+    (record { station = record { net = m; mac = b }; invoke_id = j })
+    ≡ asker_cmp (record { station = record { net = n; mac = a }; invoke_id = i }) (record { station = record { net = m; mac = b }; invoke_id = j })
 macs n (One a) (One b) i j m = refl
 macs n (One a) (Six b) i j m = refl
 macs n (Six a) (One b) i j m = refl
@@ -47,6 +49,8 @@ undone true key had old e = sym (e refl)
 undone false key had old e = refl
 
 -- the key of an asker set, and put back
-pub put_and_back : (a : Asker) (key : ℕ) (had : Option ℕ) (before with after : Keys) → had ≡ get before a → IsSet a key before with → HasNow a had with after → IsSameMap before after
+pub put_and_back : (a : Asker) (key : ℕ) (had : Option ℕ) (before with after : Keys) → had ≡ get before a → IsSet a key before with →
+    HasNow a had with after → IsSameMap before after
 put_and_back a key had before with after is put back = λ q.
-    back q ∙ ap (cond (is_eq (asker_cmp a q)) had) (put q) ∙ undone (is_eq (asker_cmp a q)) key had (get before q) (λ b. ap (get before) (sym (exact_asker a q (is_equal _ b))) ∙ sym is)
+    back q ∙ ap (cond (is_eq (asker_cmp a q)) had) (put q)
+    ∙ undone (is_eq (asker_cmp a q)) key had (get before q) (λ b. ap (get before) (sym (exact_asker a q (is_equal _ b))) ∙ sym is)

@@ -2,19 +2,21 @@
 use Rattle.std.proofs.Common.{◌≡◌, ◌∙◌, refl, sym, ap, ℕ, ◌+◌, ◌<◌, Bool, true, false, List, [], ◌∷◌, take, arith}
 use Rattle.std.specs.Prelude.{Option, Some, None, suc, zero, length, option_map, slice_get, slice_set}
 use Rattle.npdu.specs.declared.mac.Way.{Way}
-use Rattle.segments.specs.Cutting.{Cutting}
+use Rattle.segments.specs.Sender.{SenderState}
 use Rattle.remembered.specs.declared.record.Asker.{Asker}
 use Rattle.remembered.specs.declared.record.Record.{Record}
 use Rattle.remembered.specs.Records.{is_of, later_or, newest, said_again, said_by, said_on, some_if}
 use Rattle.remembered.specs.Keeping.{newest_place}
 use Rattle.remembered.proofs.Keeping.{later_none, forgotten_next, forgotten_done, shorter, take_next, not_sent}
 
-next_by : (b : Bool) (i : ℕ) (o c : Option ℕ) → later_or (option_map suc (later_or (some_if b i) o)) c ≡ later_or (some_if b (suc i)) (later_or (option_map suc o) c)
+next_by : (b : Bool) (i : ℕ) (o c : Option ℕ) →
+    later_or (option_map suc (later_or (some_if b i) o)) c ≡ later_or (some_if b (suc i)) (later_or (option_map suc o) c)
 next_by true i o c = refl
 next_by false i o c = refl
 
 -- the newest among one more
-pub place_next : {A : Type 0} (a : Asker) (rs : List (Record A)) (i : ℕ) (r : Record A) → slice_get rs i ≡ Some r → newest_place a (take (i + 1) rs) ≡ later_or (some_if (is_of a r) i) (newest_place a (take i rs))
+pub place_next : {A : Type 0} (a : Asker) (rs : List (Record A)) (i : ℕ) (r : Record A) → slice_get rs i ≡ Some r →
+    newest_place a (take (i + 1) rs) ≡ later_or (some_if (is_of a r) i) (newest_place a (take i rs))
 place_next a [] i r e = absurd (cc e)
 place_next {A} a (x ∷ rs) zero r e = ap (λ (y : Record A). some_if (is_of a y) 0) (the_same x r e) ∙ sym (later_none (some_if (is_of a r) 0))
   where
@@ -32,7 +34,8 @@ IsAt rs None None = Unit {0}
 IsAt rs (Some x) (Some i) = slice_get rs i ≡ Some x
 IsAt rs n o = ⊥
 
-at_next : {A : Type 0} (r : Record A) (rs : List (Record A)) (n : Option (Record A)) (o : Option ℕ) (b : Bool) → IsAt rs n o → IsAt (r ∷ rs) (later_or n (some_if b r)) (later_or (option_map suc o) (some_if b 0))
+at_next : {A : Type 0} (r : Record A) (rs : List (Record A)) (n : Option (Record A)) (o : Option ℕ) (b : Bool) → IsAt rs n o →
+    IsAt (r ∷ rs) (later_or n (some_if b r)) (later_or (option_map suc o) (some_if b 0))
 at_next r rs None None true at = refl
 at_next r rs None None false at = tt
 at_next r rs (Some x) (Some i) b at = at
@@ -74,7 +77,8 @@ pub place_within : {A : Type 0} (a : Asker) (rs : List (Record A)) (i : ℕ) →
 place_within a [] i e = absurd (cc e)
 place_within a (r ∷ rs) i e = within_by (newest_place a rs) (is_of a r) (length rs) i (place_within a rs) e
 
-said_there_by : {A : Type 0} (w : Way) (s : Option Cutting) (r x : Record A) (rs again : List (Record A)) (n : Option (Record A)) (o : Option ℕ) (b : Bool) (i : ℕ) → IsAt rs n o
+said_there_by : {A : Type 0} (w : Way) (s : Option SenderState) (r x : Record A) (rs again : List (Record A)) (n : Option (Record A)) (o : Option ℕ)
+    (b : Bool) (i : ℕ) → IsAt rs n o
     → ((j : ℕ) → o ≡ Some j → slice_get rs j ≡ Some x → again ≡ slice_set rs j (said_on w s x))
     → later_or (option_map suc o) (some_if b 0) ≡ Some i → slice_get (r ∷ rs) i ≡ Some x → said_by n b w s r rs again ≡ slice_set (r ∷ rs) i (said_on w s x)
 said_there_by {A} w s r x rs again (Some y) (Some j) b i at others e is =
@@ -90,12 +94,14 @@ said_there_by w s r x rs again None None false i at others e is = absurd (cc e)
 said_there_by w s r x rs again None (Some j) b i at others e is = absurd at
 said_there_by w s r x rs again (Some y) None b i at others e is = absurd at
 
-pub said_there : {A : Type 0} (a : Asker) (w : Way) (s : Option Cutting) (rs : List (Record A)) (i : ℕ) (x : Record A) → newest_place a rs ≡ Some i → slice_get rs i ≡ Some x → said_again a w s rs ≡ slice_set rs i (said_on w s x)
+pub said_there : {A : Type 0} (a : Asker) (w : Way) (s : Option SenderState) (rs : List (Record A)) (i : ℕ) (x : Record A) → newest_place a rs ≡ Some i →
+    slice_get rs i ≡ Some x → said_again a w s rs ≡ slice_set rs i (said_on w s x)
 said_there a w s [] i x e is = absurd (cc e)
 said_there a w s (r ∷ rs) i x e is =
-    said_there_by w s r x rs (said_again a w s rs) (newest a rs) (newest_place a rs) (is_of a r) i (newest_is_at a rs) (λ j f there. said_there a w s rs j x f there) e is
+    said_there_by w s r x rs (said_again a w s rs) (newest a rs) (newest_place a rs) (is_of a r) i (newest_is_at a rs)
+    (λ j f there. said_there a w s rs j x f there) e is
 
-pub said_nowhere : {A : Type 0} (a : Asker) (w : Way) (s : Option Cutting) (rs : List (Record A)) → newest_place a rs ≡ None → said_again a w s rs ≡ rs
+pub said_nowhere : {A : Type 0} (a : Asker) (w : Way) (s : Option SenderState) (rs : List (Record A)) → newest_place a rs ≡ None → said_again a w s rs ≡ rs
 said_nowhere a w s rs e = not_sent a w s rs (newest_nowhere a rs e)
 
 pub ruleset place_rules = (place_next, forgotten_next, forgotten_done, shorter, take_next, newest_there, newest_nowhere, place_within, said_there, said_nowhere)

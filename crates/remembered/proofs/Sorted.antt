@@ -1,5 +1,6 @@
 -- Askers in their order: what a search among them finds, and what an edit at that place does.
-use Rattle.std.proofs.Common.{◌≡◌, ◌∙◌, refl, sym, ap, subst, ℕ, zero, suc, ◌<◌, ◌≤◌, Bool, true, false, [], ◌∷◌, length, get_or, set, Some, None, Result, Ok, Err, IfOk, IfErr, arith}
+use Rattle.std.proofs.Common.{◌≡◌, ◌∙◌, refl, sym, ap, subst, ℕ, zero, suc, ◌<◌, ◌≤◌, Bool, true, false, [], ◌∷◌, length, get_or, set, Some, None, Result, Ok}
+use Rattle.std.proofs.Common.{Err, IfOk, IfErr, arith}
 use Rattle.std.specs.Prelude.{cond, slice_get}
 use Rattle.std.specs.List.{AllByRecursion, AllWithin, insert, remove}
 use Rattle.std.specs.List.Sorted.{IsBinarySearchResult, IsNonDecreasingBy, IsSearchInRange}
@@ -70,7 +71,8 @@ module _ (P : Asker × ℕ → Type 0) where
   all_removed (f ∷ es) zero all = all.1
   all_removed (f ∷ es) (suc i) all = (all.0, all_removed es i all.1)
 
-all_set : (P : Asker → Type 0) (es : Keys) (i : ℕ) (a : Asker) (old key : ℕ) → AllByRecursion (λ f. P f.0) es → slice_get es i ≡ Some (a, old) → AllByRecursion (λ f. P f.0) (set es i (a, key))
+all_set : (P : Asker → Type 0) (es : Keys) (i : ℕ) (a : Asker) (old key : ℕ) → AllByRecursion (λ f. P f.0) es → slice_get es i ≡ Some (a, old) →
+    AllByRecursion (λ f. P f.0) (set es i (a, key))
 all_set P [] i a old key all is = absurd (cc is)
 all_set P (f ∷ es) zero a old key all is = let same : f ≡ (a, old) = cc is in (subst (λ (e : Asker × ℕ). P e.0) same all.0, all.1)
 all_set P (f ∷ es) (suc i) a old key all is = (all.0, all_set P es i a old key all.1 is)
@@ -85,7 +87,8 @@ key_there (e ∷ es) a (suc i) key sorted is =
     let less : asker_cmp e.0 a ≡ Less = at_place (λ f. asker_cmp e.0 f.0 ≡ Less) es i (a, key) sorted.0 is in
     ap (λ (b : Bool). cond b (Some e.1) (get es a)) (ap is_eq less) ∙ key_there es a i key sorted.1 is
 
-absent_by : (es : Keys) (a : Asker) (i : ℕ) → AllWithin (λ e. asker_cmp e.0 a ≡ Less) es 0 i → AllWithin (λ e. asker_cmp e.0 a ≡ Greater) es i (length es) → get es a ≡ None
+absent_by : (es : Keys) (a : Asker) (i : ℕ) → AllWithin (λ e. asker_cmp e.0 a ≡ Less) es 0 i → AllWithin (λ e. asker_cmp e.0 a ≡ Greater) es i (length es) →
+    get es a ≡ None
 absent_by [] a i less greater = refl
 absent_by (e ∷ es) a zero less greater =
     let here : asker_cmp e.0 a ≡ Greater = greater 0 e (omega arith) (omega arith) in
@@ -94,7 +97,8 @@ absent_by (e ∷ es) a zero less greater =
 absent_by (e ∷ es) a (suc i) less greater =
     let here : asker_cmp e.0 a ≡ Less = less 0 e (omega arith) (omega arith) in
     ap (λ (b : Bool). cond b (Some e.1) (get es a)) (ap is_eq here)
-    ∙ absent_by es a i (λ k d low high. less (suc k) d (omega arith) (omega (arith, high))) (λ k d low high. greater (suc k) d (omega (arith, low)) (omega (arith, high)))
+    ∙ absent_by es a i (λ k d low high. less (suc k) d (omega arith) (omega (arith, high)))
+    (λ k d low high. greater (suc k) d (omega (arith, low)) (omega (arith, high)))
 
 pub key_absent : (es : Keys) (a : Asker) (i : ℕ) → IsGap es a i → get es a ≡ None
 key_absent es a i gap = absent_by es a i gap.less gap.greater
@@ -121,14 +125,19 @@ key_set (e ∷ es) a (suc i) old key sorted is q =
 -- ---- one asker more
 behind : (es : Keys) (a : Asker) → AllWithin (λ e. asker_cmp e.0 a ≡ Greater) es 0 (length es) → AllByRecursion (λ f. asker_cmp a f.0 ≡ Less) es
 behind [] a greater = tt
-behind (e ∷ es) a greater = (greater_is_less e.0 a (greater 0 e (omega arith) (omega arith)), behind es a (λ k d low high. greater (suc k) d (omega arith) (omega (arith, high))))
+behind (e ∷ es) a greater = (
+  greater_is_less e.0 a (greater 0 e (omega arith) (omega arith)),
+  behind es a (λ k d low high. greater (suc k) d (omega arith) (omega (arith, high))),
+)
 
-sorted_by : (es : Keys) (a : Asker) (i key : ℕ) → AreSorted es → AllWithin (λ e. asker_cmp e.0 a ≡ Less) es 0 i → AllWithin (λ e. asker_cmp e.0 a ≡ Greater) es i (length es) → AreSorted (insert es i (a, key))
+sorted_by : (es : Keys) (a : Asker) (i key : ℕ) → AreSorted es → AllWithin (λ e. asker_cmp e.0 a ≡ Less) es 0 i →
+    AllWithin (λ e. asker_cmp e.0 a ≡ Greater) es i (length es) → AreSorted (insert es i (a, key))
 sorted_by es a zero key sorted less greater = (behind es a greater, sorted)
 sorted_by [] a (suc i) key sorted less greater = (tt, tt)
 sorted_by (e ∷ es) a (suc i) key sorted less greater = (
   all_inserted (λ f. asker_cmp e.0 f.0 ≡ Less) es i (a, key) sorted.0 (less 0 e (omega arith) (omega arith)),
-  sorted_by es a i key sorted.1 (λ k d low high. less (suc k) d (omega arith) (omega (arith, high))) (λ k d low high. greater (suc k) d (omega (arith, low)) (omega (arith, high))),
+  sorted_by es a i key sorted.1 (λ k d low high. less (suc k) d (omega arith) (omega (arith, high)))
+      (λ k d low high. greater (suc k) d (omega (arith, low)) (omega (arith, high))),
 )
 
 pub sorted_inserted : (es : Keys) (a : Asker) (i key : ℕ) → AreSorted es → IsGap es a i → AreSorted (insert es i (a, key))
@@ -191,7 +200,8 @@ rises (e ∷ es) a sorted zero (suc j) d le lt = rise e.0 (get_or es j d).0 a (a
 rises (e ∷ es) a sorted (suc i) zero d le lt = absurd (omega (arith, le))
 rises (e ∷ es) a sorted (suc i) (suc j) d le lt = rises es a sorted.1 i j d (omega (arith, le)) (omega (arith, lt))
 
-pub searched : (es : Keys) (a : Asker) → AreSorted es → (r : Result ℕ ℕ) → IsSearchInRange r (length es) → IsBinarySearchResult (λ (e : Asker × ℕ). asker_cmp e.0 a) es r → record { found : IfOk r (IsAt es a); absent : IfErr r (IsGap es a) }
+pub searched : (es : Keys) (a : Asker) → AreSorted es → (r : Result ℕ ℕ) → IsSearchInRange r (length es) →
+    IsBinarySearchResult (λ (e : Asker × ℕ). asker_cmp e.0 a) es r → record { found : IfOk r (IsAt es a); absent : IfErr r (IsGap es a) }
 searched es a sorted (Ok i) within equal =
     let e = get_or es i (a, 0) in
     let is : slice_get es i ≡ Some (a, e.1) = slice_get-get_or es i (a, 0) within ∙ ap (λ (b : Asker). Some (b, e.1)) (exact_asker e.0 a (equal (a, 0))) in

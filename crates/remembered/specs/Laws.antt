@@ -1,6 +1,6 @@
 -- What holds of lists of records.
 use Rattle.std.specs.Prelude.{◌≡◌, ◌≤◌, ℕ, nat_le, List, length, filter}
-use Rattle.segments.specs.Numbers.{MAX_REMEMBERED}
+use Rattle.profile.specs.Limits.{MAX_REMEMBERED}
 use Rattle.remembered.specs.declared.record.Asker.{Asker}
 use Rattle.remembered.specs.declared.record.Record.{Record}
 use Rattle.remembered.specs.Records.{AreAscending, forgotten, is_full, lives, newest, remembered}

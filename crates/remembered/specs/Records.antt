@@ -4,8 +4,9 @@ use Rattle.std.specs.Ordering.{is_eq, nat_cmp, ordering_then}
 use Rattle.std.specs.declared.cmp.Ordering.{Ordering}
 use Rattle.npdu.specs.Mac.{station_cmp}
 use Rattle.npdu.specs.declared.mac.Way.{Way}
-use Rattle.segments.specs.Cutting.{Cutting}
-use Rattle.segments.specs.Numbers.{KEEP_MS, MAX_REMEMBERED}
+use Rattle.segments.specs.Sender.{SenderState}
+use Rattle.profile.specs.Ages as age
+use Rattle.profile.specs.Limits.{MAX_REMEMBERED}
 use Rattle.remembered.specs.declared.record.Asker.{Asker}
 use Rattle.remembered.specs.declared.record.Record.{Record}
 
@@ -32,9 +33,9 @@ abbrev pub newest : {A : Type 0} → Asker → List (Record A) → Option (Recor
 newest a [] = None
 newest a (r ∷ rs) = later_or (newest a rs) (some_if (is_of a r) r)
 
--- a record lives as long as its execution is not more than KEEP_MS ago
+-- a record lives while an answer of its moment of execution does
 abbrev pub lives : {A : Type 0} → ℕ → Record A → Bool
-lives now r = nat_le (now - KEEP_MS) r.at
+lives now r = age.lives r.at now
 
 -- a record that lives
 abbrev pub living : {A : Type 0} → ℕ → Option (Record A) → Option (Record A)
@@ -57,7 +58,7 @@ forgotten now (r ∷ rs) = if lives now r then r ∷ rs else forgotten now rs
 
 -- there is no place for another one: there are MAX_REMEMBERED, and none to be forgotten
 abbrev pub is_full : {A : Type 0} → ℕ → List (Record A) → Bool
-is_full now rs = nat_le MAX_REMEMBERED (length rs) && not (begins_dead now rs)
+is_full now rs = age.has_no_place (length rs) (begins_dead now rs)
 
 -- the moments of execution of all of them are this or later
 abbrev pub AreFrom : {A : Type 0} → ℕ → List (Record A) → Type 0
@@ -70,18 +71,18 @@ AreAscending [] = Unit {0}
 AreAscending (r ∷ rs) = AreFrom r.at rs × AreAscending rs
 
 -- the same, said on this way by this sender
-abbrev pub said_on : {A : Type 0} → Way → Option Cutting → Record A → Record A
+abbrev pub said_on : {A : Type 0} → Way → Option SenderState → Record A → Record A
 said_on way sending r = record r { way = way; sending = sending }
 
 -- a first record and those behind it: changed where it is of the asker, and none behind it is
-abbrev pub said_by : {A : Type 0} → Option (Record A) → Bool → Way → Option Cutting → Record A → List (Record A) →
+abbrev pub said_by : {A : Type 0} → Option (Record A) → Bool → Way → Option SenderState → Record A → List (Record A) →
     List (Record A) → List (Record A)
 said_by (Some x) is_of way sending r rs rest = r ∷ rest
 said_by None true way sending r rs rest = said_on way sending r ∷ rs
 said_by None false way sending r rs rest = r ∷ rs
 
 -- the newest record of an asker alone is said on this way by this sender
-abbrev pub said_again : {A : Type 0} → Asker → Way → Option Cutting → List (Record A) → List (Record A)
+abbrev pub said_again : {A : Type 0} → Asker → Way → Option SenderState → List (Record A) → List (Record A)
 said_again a way sending [] = []
 said_again a way sending (r ∷ rs) =
     said_by (newest a rs) (is_of a r) way sending r rs (said_again a way sending rs)

@@ -6,7 +6,7 @@ ghost use Rattle.remembered.specs.Keeping.{HasNow, IsSet, IsSameMap};
 ghost use Rattle.remembered.specs.Keeping as map;
 
 use crate::record::Asker;
-use objects::Request;
+use primitives::Request;
 use services::Executor;
 use std::alloc::{AllocError, Allocator};
 use std::collections::VecDeque;

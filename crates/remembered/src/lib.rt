@@ -13,7 +13,7 @@
 #![tactic(auto)]
 
 mod keys;
-pub mod laws;
+mod laws;
 mod list;
 mod record;
 mod records;

@@ -8,9 +8,9 @@ ghost use Rattle.remembered.specs.Records.{later_or, some_if};
 use crate::record::{Asker, Record};
 use crate::records::Records;
 use npdu::Way;
-use objects::Request;
+use primitives::Request;
+use profile::lives;
 use segments::Sender;
-use segments::numbers::KEEP_MS;
 use services::Executor;
 use std::alloc::{AllocError, Allocator};
 
@@ -112,7 +112,7 @@ impl<A: Allocator + Copy> Records<A> for ListRecords<A> {
     fn begins_dead(&self, now: u64) -> bool {
         match self.list.first() {
             None => false,
-            Some(oldest) => oldest.at < now.saturating_sub(KEEP_MS),
+            Some(oldest) => !lives(oldest.at, now),
         }
     }
 

@@ -4,9 +4,9 @@ ghost use Rattle.std.specs.Prelude.{◌≡◌, IfOk, Option};
 ghost use Rattle.std.specs.Ordering.{is_eq};
 ghost use Rattle.remembered.specs.Records.{asker_cmp, said_on};
 
+use apdu::{AbortReason, ConfirmedService};
 use npdu::{Station, Way};
 use segments::Sender;
-use services::{AbortReason, ConfirmedService};
 use std::alloc::{AllocError, Allocator};
 use tags::Octets;
 

@@ -9,9 +9,9 @@ use crate::keys::{AskerKeys, key_in, run_with_key};
 use crate::record::{Asker, Record};
 use crate::records::Records;
 use npdu::Way;
-use objects::Request;
+use primitives::Request;
+use profile::lives;
 use segments::Sender;
-use segments::numbers::KEEP_MS;
 use services::Executor;
 use slab::Slab;
 use std::alloc::{AllocError, Allocator};
@@ -156,7 +156,7 @@ impl<A: Allocator + Copy> Records<A> for SlabRecords<A> {
     fn begins_dead(&self, now: u64) -> bool {
         match self.first() {
             None => false,
-            Some(oldest) => oldest.at < now.saturating_sub(KEEP_MS),
+            Some(oldest) => !lives(oldest.at, now),
         }
     }
 

@@ -7,18 +7,18 @@ ghost use Rattle.apdu.specs.Sizes.{apdu_code};
 
 use crate::input::{Input, TakesInputs, read_input, run_copy, try_input};
 use crate::told::{push_parcel, push_parcels, push_reply, told_or_nothing};
-use client::{Binding, Client, Told};
-use client_tsm::Outcome;
+use apdu::{MaxApdu, Segmentation};
+use endpoint::{Binding, Client, ClientTold};
 use npdu::{Mac, Parcel, Station, Target};
-use objects::Request;
-use segments::numbers::MAX_MOMENT_MS;
-use services::{MaxApdu, Segmentation};
+use primitives::Request;
+use profile::MAX_MOMENT_MS;
 use sheets::{
     Counts, Given, Part, Stop, number, push_mark, push_octets, refusal, request_in, run_number,
     run_text, run_word, two_words,
 };
 use std::alloc::{AllocError, Allocator, Global};
 use tags::{Fault, Octets};
+use transactions::{Outcome, TransactionOutcome};
 
 /// The address of the client, to which what is for it alone is sent.
 const OWN: Mac = Mac::Six([127, 0, 0, 1, 0xBA, 0xC2]);
@@ -48,7 +48,7 @@ pub(crate) fn open<A: Allocator + Copy>(alloc: A, word: &str) -> Result<Client<A
 
 /// Appends what came of a transaction: `tell 0 values enum 1`.
 fn push_outcome<A: Allocator>(
-    told: &client_tsm::Told<A>,
+    told: &TransactionOutcome<A>,
     out: &mut String,
 ) -> Result<(), AllocError> {
     push_mark(", ", out)?;
@@ -66,7 +66,7 @@ fn in_words<A: Allocator>(
     alloc: Global,
     from: Mac,
     now: u64,
-    came: Result<Told<A>, Fault>,
+    came: Result<ClientTold<A>, Fault>,
 ) -> Result<String, Stop> {
     let told = match came {
         Ok(told) => told,

@@ -4,10 +4,10 @@
 use crate::input::{Input, TakesInputs, read_input, run_copy, try_input};
 use crate::opened::table;
 use crate::told::{push_parcels, push_reply, told_or_nothing};
-use device::{Device, Told};
+use endpoint::{Device, DeviceTold};
 use npdu::Mac;
-use objects::Request;
-use segments::numbers::MAX_MOMENT_MS;
+use primitives::Request;
+use profile::MAX_MOMENT_MS;
 use sheets::{
     Counts, Given, Part, Stop, number, push_mark, request_in, run_number, run_text, run_word,
     two_words,
@@ -22,7 +22,7 @@ fn told<A: Allocator + Copy>(
     device: &mut Device<A>,
     now: u64,
     input: &Input<A>,
-) -> Result<Told<A>, Stop> {
+) -> Result<DeviceTold<A>, Stop> {
     if now > MAX_MOMENT_MS || now < device.moment() {
         return Err(Stop::Unread(Part::Number));
     }
@@ -38,7 +38,7 @@ fn in_words<A: Allocator + Copy>(
     alloc: Global,
     from: Mac,
     now: u64,
-    told: &Told<A>,
+    told: &DeviceTold<A>,
 ) -> Result<String, Stop> {
     let mut out = String::new(alloc);
     push_parcels(alloc, from, now, &told.said, &mut out)?;
@@ -47,7 +47,10 @@ fn in_words<A: Allocator + Copy>(
 }
 
 /// Appends what was executed, if a request was.
-fn push_executed<A: Allocator + Copy>(told: &Told<A>, out: &mut String) -> Result<(), AllocError> {
+fn push_executed<A: Allocator + Copy>(
+    told: &DeviceTold<A>,
+    out: &mut String,
+) -> Result<(), AllocError> {
     let Some(executed) = &told.executed else {
         return Ok(());
     };

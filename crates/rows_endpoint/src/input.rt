@@ -3,9 +3,9 @@
 //! Of a client also `MOMENT issue INSTANCE REQUEST` and `MOMENT who-is`, or `MOMENT who-is LOW HIGH`. Each allocation
 //! of an input is refused in turn: the same input then comes again.
 
+use apdu::Limits;
 use npdu::{Mac, Parcel, Target};
-use objects::Request;
-use services::Limits;
+use primitives::Request;
 use sheets::{
     Counts, Given, Part, Stop, differs, number, octets, request_in, run_refused, two_words,
 };

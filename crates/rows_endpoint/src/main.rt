@@ -16,8 +16,7 @@ mod network;
 mod opened;
 mod told;
 
-use client::Client;
-use device::Device;
+use endpoint::{Client, Device};
 use network::{managers, spreading};
 use sheets::{Bench, Counts, Given, Part, Report, Row, Stop, run_word, two_words};
 use std::alloc::{AllocError, Allocator};

@@ -1,9 +1,10 @@
 //! The device of the rows: number 10 on network 1 at 127.0.0.1:47811 or at address 10 of a bus, with Binary Value 1,
 //! Integer Value 1 at 7, and fourteen texts of 128 octets.
 
-use device::Device;
+use endpoint::Device;
 use npdu::{Mac, Station};
-use objects::{DataLink, SiteObject, SiteObjects, Table, ValueKind};
+use objects::{SiteObject, SiteObjects, Table, ValueKind};
+use profile::LinkKind;
 use sheets::{Part, Stop};
 use std::alloc::Allocator;
 use tags::{Items, Octets, Value};
@@ -50,7 +51,7 @@ fn number<A: Allocator + Copy>(
 }
 
 /// The objects of the device, on this link.
-fn site<A: Allocator + Copy>(alloc: A, data_link: DataLink) -> Result<SiteObjects<A>, Stop> {
+fn site<A: Allocator + Copy>(alloc: A, data_link: LinkKind) -> Result<SiteObjects<A>, Stop> {
     let mut objects = Items::new(alloc);
     objects.push(number(alloc, ValueKind::Binary, b"B1", Value::Enum(0))?)?;
     let integer = ValueKind::Integer { units: 95 };
@@ -72,7 +73,7 @@ fn site<A: Allocator + Copy>(alloc: A, data_link: DataLink) -> Result<SiteObject
 /// # Errors
 /// Want of memory.
 pub(crate) fn table<A: Allocator + Copy>(alloc: A) -> Result<Table<A>, Stop> {
-    Ok(Table::new(alloc, site(alloc, DataLink::BacnetIp)?)?)
+    Ok(Table::new(alloc, site(alloc, LinkKind::BacnetIp)?)?)
 }
 
 /// The device on this link.
@@ -81,8 +82,8 @@ pub(crate) fn table<A: Allocator + Copy>(alloc: A) -> Result<Table<A>, Stop> {
 /// `Unread` where the word is none of a link, `Memory`.
 pub(crate) fn open<A: Allocator + Copy>(alloc: A, link: &str) -> Result<Device<A>, Stop> {
     let (data_link, mac) = match link {
-        "bacnet-ip" => (DataLink::BacnetIp, Mac::Six([127, 0, 0, 1, 0xBA, 0xC3])),
-        "ms-tp" => (DataLink::MsTp, Mac::One(10)),
+        "bacnet-ip" => (LinkKind::BacnetIp, Mac::Six([127, 0, 0, 1, 0xBA, 0xC3])),
+        "ms-tp" => (LinkKind::MsTp, Mac::One(10)),
         _ => return Err(Stop::Unread(Part::Asked)),
     };
     let address = Station { net: 1, mac };

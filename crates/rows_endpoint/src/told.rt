@@ -3,7 +3,7 @@
 //! number. A parcel that isn't from the station's address, or not of that moment, is told so.
 
 use npdu::{Mac, Parcel, Target};
-use objects::Reply;
+use primitives::Reply;
 use sheets::{Stop, differs, push_mark, push_octets};
 use std::alloc::{AllocError, Allocator, Global};
 use tags::Items;

@@ -1,6 +1,6 @@
 //! Numbers of classes, codes, object types and properties, both ways: `class 2 -> Property`.
 
-use objects::{ErrorClass, ErrorCode, ObjectType, Property};
+use primitives::{ErrorClass, ErrorCode, ObjectType, Property};
 use sheets::{Counts, Part, Stop, differs, refusal, run_text, two_words};
 use std::alloc::Global;
 use std::fmt;

@@ -1,7 +1,8 @@
 //! Sites: `site NAME`, `device INSTANCE VENDOR LINK NAME`, and for each object
 //! `object TYPE INSTANCE NAME DESCRIPTION DEFAULT`; `crowd N` are as many Integer Values.
 
-use objects::{DataLink, SiteObject, SiteObjects, ValueKind};
+use objects::{SiteObject, SiteObjects, ValueKind};
+use profile::LinkKind;
 use sheets::{Part, Row, Stop, two_words};
 use std::alloc::Allocator;
 use tags::{Items, Octets, Value};
@@ -107,10 +108,10 @@ fn rename<A: Allocator + Copy>(
 }
 
 /// A data link.
-fn data_link(word: &str) -> Result<DataLink, Stop> {
+fn data_link(word: &str) -> Result<LinkKind, Stop> {
     match word {
-        "ip" => Ok(DataLink::BacnetIp),
-        "mstp" => Ok(DataLink::MsTp),
+        "ip" => Ok(LinkKind::BacnetIp),
+        "mstp" => Ok(LinkKind::MsTp),
         _ => Err(Stop::Unread(Part::Asked)),
     }
 }

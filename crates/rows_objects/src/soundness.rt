@@ -1,7 +1,7 @@
 //! Whether octets can spell a request or a reply: `write 5:1 85 null at 17 -> not sound`.
 
 use crate::text::is_reply;
-use objects::{
+use primitives::{
     ErrorClass, ErrorCode, ObjectRefs, ObjectResults, ObjectWrites, PropertyResult, Reply, Request,
 };
 use sheets::{Counts, Part, Stop, run_text, two_words};

@@ -4,7 +4,8 @@
 use crate::opening::{open_table, try_copies, try_site, with_refused};
 use crate::sites::Described;
 use crate::text::expanded;
-use objects::{Reply, Table};
+use objects::Table;
+use primitives::Reply;
 use sheets::{
     Counts, Given, Part, Report, Row, Stop, Trial, compare, differs, request_in, try_row, two_words,
 };

@@ -1,6 +1,6 @@
 //! Datagrams of the virtual link layer (Annex J), as `RegisterForeignDevice ttl 60`, and written again.
 
-use bvll::{Address, Bvll, DistributionEntry, Entry, ForeignDevice, Table};
+use bvll::{Address, Bvll, BvllTable, DistributionEntry, ForeignDevice, TableEntry};
 use sheets::{
     Counts, Given, Part, Stop, Trial, buffer, differs, octets, push_octets, push_written, refusal,
     run_octets, run_text, written_octets,
@@ -22,22 +22,32 @@ impl<'a> Trial<'a> for Datagrams {
         match &datagram {
             Bvll::WriteBroadcastDistributionTable(table) => {
                 let listed = entries(given.alloc, table)?;
-                let list = Bvll::WriteBroadcastDistributionTable(Table::Entries(listed.as_slice()));
+                let list = Bvll::WriteBroadcastDistributionTable(BvllTable::Entries(
+                    listed.as_slice(),
+                ));
                 push_again(given, octets, &list, &mut text)?;
             }
             Bvll::ReadBroadcastDistributionTableAck(table) => {
                 let listed = entries(given.alloc, table)?;
-                let list = Bvll::ReadBroadcastDistributionTableAck(Table::Entries(
+                let list = Bvll::ReadBroadcastDistributionTableAck(BvllTable::Entries(
                     listed.as_slice(),
                 ));
                 push_again(given, octets, &list, &mut text)?;
             }
             Bvll::ReadForeignDeviceTableAck(table) => {
                 let listed = entries(given.alloc, table)?;
-                let list = Bvll::ReadForeignDeviceTableAck(Table::Entries(listed.as_slice()));
+                let list = Bvll::ReadForeignDeviceTableAck(BvllTable::Entries(listed.as_slice()));
                 push_again(given, octets, &list, &mut text)?;
             }
-            _ => {}
+            Bvll::Result(_)
+            | Bvll::ReadBroadcastDistributionTable
+            | Bvll::ForwardedNpdu { .. }
+            | Bvll::RegisterForeignDevice { .. }
+            | Bvll::ReadForeignDeviceTable
+            | Bvll::DeleteForeignDeviceTableEntry(_)
+            | Bvll::DistributeBroadcastToNetwork(_)
+            | Bvll::OriginalUnicastNpdu(_)
+            | Bvll::OriginalBroadcastNpdu(_) => {}
         }
         Ok(text)
     }
@@ -60,7 +70,10 @@ fn push_again(
 }
 
 /// The entries of a table, one by one.
-fn entries<E: Entry + PartialEq>(alloc: Global, table: &Table<'_, E>) -> Result<Vec<E>, Stop> {
+fn entries<E: TableEntry + PartialEq>(
+    alloc: Global,
+    table: &BvllTable<'_, E>,
+) -> Result<Vec<E>, Stop> {
     let mut entries = Vec::new(alloc);
     for entry in table.iter() {
         if table.get(entries.len()) != Some(entry) {
@@ -112,7 +125,10 @@ fn push_npdu(npdu: &[u8], out: &mut String) -> Result<(), AllocError> {
 }
 
 /// Appends the number of entries of a distribution table, and each.
-fn push_peers(table: &Table<'_, DistributionEntry>, out: &mut String) -> Result<(), AllocError> {
+fn push_peers(
+    table: &BvllTable<'_, DistributionEntry>,
+    out: &mut String,
+) -> Result<(), AllocError> {
     write!(out, " {} entries", table.len())?;
     for entry in table.iter() {
         out.push_str(", ")?;
@@ -124,7 +140,7 @@ fn push_peers(table: &Table<'_, DistributionEntry>, out: &mut String) -> Result<
 }
 
 /// Appends the number of entries of a foreign device table, and each.
-fn push_devices(table: &Table<'_, ForeignDevice>, out: &mut String) -> Result<(), AllocError> {
+fn push_devices(table: &BvllTable<'_, ForeignDevice>, out: &mut String) -> Result<(), AllocError> {
     write!(out, " {} entries", table.len())?;
     for entry in table.iter() {
         out.push_str(", ")?;

@@ -74,7 +74,7 @@ fn octet_meaning(alloc: Global, kind: &str, number: u8) -> Result<String, Stop> 
     match kind {
         "refusal" => fault_name(alloc, number),
         "priority" => tried(alloc, Priority::try_from(number), number),
-        "router-reject" => tried(alloc, npdu::RejectReason::try_from(number), number),
+        "router-reject" => tried(alloc, npdu::NetworkRejectReason::try_from(number), number),
         "bvlc-function" => tried(alloc, Function::try_from(number), number),
         "frame-type" => {
             let frame_type = FrameType::from(number);

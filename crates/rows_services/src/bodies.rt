@@ -2,8 +2,9 @@
 //! `12 0C01400001 -> reject 5`. With `bare` in front the body is read while each allocation is refused.
 
 use crate::said::{bare, request_in_words};
-use objects::Request;
-use services::{RejectReason, decode_request, encode_request, service_of};
+use apdu::RejectReason;
+use primitives::Request;
+use services::{decode_request, encode_request, service_of};
 use sheets::{
     Counts, Given, Stop, Trial, buffer_in, differs, octets, push_written, run_octets, run_text,
     two_words, written_octets,

@@ -4,7 +4,9 @@
 //! front a reply is given, or a request runs, while each allocation is refused.
 
 use crate::said::reply_in_words;
-use objects::{DataLink, Request, SiteObject, SiteObjects, Table, ValueKind};
+use objects::{SiteObject, SiteObjects, Table, ValueKind};
+use primitives::Request;
+use profile::LinkKind;
 use services::{Executor, ObjectExecutor};
 use sheets::{
     Counts, Given, Part, Report, Row, Stop, Trial, compare, differs, request_in, run_text,
@@ -39,7 +41,7 @@ impl<A: Allocator + Copy> Opens<A> for ObjectExecutor<A> {
             name,
             instance,
             vendor,
-            data_link: DataLink::BacnetIp,
+            data_link: LinkKind::BacnetIp,
             objects,
         };
         Ok(ObjectExecutor {

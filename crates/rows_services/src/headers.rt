@@ -48,7 +48,14 @@ fn carried<A: Allocator + Copy>(
         | Bvll::DistributeBroadcastToNetwork(npdu)
         | Bvll::OriginalUnicastNpdu(npdu)
         | Bvll::OriginalBroadcastNpdu(npdu) => push_npdu(given, memory, npdu, &mut words)?,
-        _ => words.push_str("no npdu")?,
+        Bvll::Result(_)
+        | Bvll::WriteBroadcastDistributionTable(_)
+        | Bvll::ReadBroadcastDistributionTable
+        | Bvll::ReadBroadcastDistributionTableAck(_)
+        | Bvll::RegisterForeignDevice { .. }
+        | Bvll::ReadForeignDeviceTable
+        | Bvll::ReadForeignDeviceTableAck(_)
+        | Bvll::DeleteForeignDeviceTableEntry(_) => words.push_str("no npdu")?,
     }
     Ok(words)
 }

@@ -3,7 +3,7 @@
 //! on them, run on the rows of its `data/`.
 //!
 //! - `bodies`: bodies, and the requests that they spell or their Reject.
-//! - `answers`: answers, and the replies that they spell to their requests.
+//! - `replies`: answers, and the replies that they spell to their requests.
 //! - `kinds`: whether a reply is one to a request.
 //! - `executor`: what an executor replies and leaves.
 //! - `tool`: what `answer` and `explain` print; `said` has it in words.
@@ -16,13 +16,13 @@
 //! that owns a request in memory with a lifetime costs the proof ten times as much.
 #![tactic(auto)]
 
-mod answers;
 mod bodies;
 mod executor;
 mod headers;
 mod in_turn;
 mod kinds;
 mod lines;
+mod replies;
 mod said;
 mod tool;
 mod writers;
@@ -71,7 +71,7 @@ fn run_row(given: Given<'_>, name: &str, row: &Row<'_>) -> Result<Counts, Stop> 
     match name {
         "services_requests.txt" | "services_rejects.txt" => bodies::run(given, row.asked, wanted),
         "services_kinds_of_reply.txt" => kinds::run(given.alloc, row.asked, wanted),
-        "services_replies.txt" => answers::run(given, row.asked, wanted),
+        "services_replies.txt" => replies::run(given, row.asked, wanted),
         "headers_carried.txt" => headers::run(given, row.asked, wanted),
         "lines.txt" => lines::run(given.alloc, row.asked, wanted),
         "writers.txt" => writers::run(given.alloc, row.asked, wanted),

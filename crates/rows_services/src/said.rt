@@ -1,6 +1,6 @@
 //! What was printed, requests and replies, all in words, and words as a command line has them.
 
-use objects::{Reply, Request};
+use primitives::{Reply, Request};
 use sheets::{Stop, differs, number, octets};
 use std::alloc::{AllocError, Allocator, Global};
 use words::Words;

@@ -2,10 +2,10 @@
 //!
 //! - `asked`: whom a row's client asks, and long words.
 //! - `scene`: a client, and the steps of a row.
-//! - `effects`: what is said and told, in words.
+//! - `told`: what is said and told, in words.
 
 mod asked;
-mod effects;
 mod scene;
+mod told;
 
 pub(crate) use scene::run;

@@ -2,9 +2,10 @@
 
 use crate::entries::{entry_of, push_entry};
 use crate::forms::Form;
-use objects::{DataLink, Request, SiteObject, SiteObjects, Table, ValueKind};
+use objects::{SiteObject, SiteObjects, Table, ValueKind};
+use primitives::Request;
+use profile::{KEEP_MS, LinkKind, MAX_REMEMBERED};
 use remembered::Asker;
-use segments::numbers::{KEEP_MS, MAX_REMEMBERED};
 use services::{Executor, ObjectExecutor};
 use sheets::{Given, Stop, differs, request_in, two_words};
 use std::alloc::{AllocError, Allocator};
@@ -92,7 +93,7 @@ pub(crate) fn table<A: Allocator + Copy>(alloc: A) -> Result<Table<A>, Stop> {
         name: Items::from_slice(alloc, b"station")?,
         instance: 99,
         vendor: 260,
-        data_link: DataLink::BacnetIp,
+        data_link: LinkKind::BacnetIp,
         objects,
     };
     Ok(Table::new(alloc, site)?)

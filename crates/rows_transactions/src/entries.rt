@@ -3,9 +3,9 @@
 //! `error 91029128` or `abort 9`.
 
 use crate::askers::push_asker;
+use apdu::{AbortReason, ConfirmedService};
 use npdu::Way;
 use remembered::{Asker, Record, RememberedAnswer};
-use services::{AbortReason, ConfirmedService};
 use sheets::{Part, Stop, octets, push_octets, small, two_words};
 use std::alloc::{AllocError, Allocator};
 

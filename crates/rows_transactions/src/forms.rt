@@ -1,7 +1,7 @@
 //! Both forms of what remembers: a list, and records under keys.
 
 use npdu::Way;
-use objects::Request;
+use primitives::Request;
 use remembered::{Asker, ListRecords, Record, Records, SlabRecords};
 use segments::Sender;
 use services::ObjectExecutor;

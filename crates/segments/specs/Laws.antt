@@ -2,8 +2,8 @@
 use Rattle.std.specs.Prelude.{◌≡◌, ℕ, suc, ◌+◌, ◌*◌, ◌<◌, ◌≤◌, not, Bool, List, [], ◌∷◌, length, take, Some, slice_get}
 use Rattle.std.specs.List.{AllByRecursion, flat_map}
 use Rattle.segments.specs.Pieces.{PlainPiece, piece, pieces}
-use Rattle.segments.specs.Cutting.{Cutting, window_of}
-use Rattle.segments.specs.Joining.{Joining, nothing_joined, step_of, joins, whole_of}
+use Rattle.segments.specs.Sender.{SenderState, window_of}
+use Rattle.segments.specs.Receiver.{ReceiverState, nothing_joined, step_of, joins, whole_of}
 use Rattle.segments.specs.declared.step.Step.{Step}
 use Rattle.segments.specs.declared.step.Step.TheVariants.{Taken, Nak, Dropped, Full}
 
@@ -37,15 +37,15 @@ pub record Heard : Type 0 where
   pub says : PlainPiece
 
 -- what a receiver does on a segment that is heard
-abbrev pub step_by : Heard → Joining → Step
+abbrev pub step_by : Heard → ReceiverState → Step
 step_by h j = step_of h.at h.says.number h.says.has_more h.says.octets j
 
 -- the receiver after it
-abbrev pub after_one : Heard → Joining → Joining
+abbrev pub after_one : Heard → ReceiverState → ReceiverState
 after_one h j = (joins h.at h.says.number h.says.has_more h.says.octets j).state
 
 -- a receiver after segments, one after another
-abbrev pub after_all : List Heard → Joining → Joining
+abbrev pub after_all : List Heard → ReceiverState → ReceiverState
 after_all [] j = j
 after_all (h ∷ hs) j = after_all hs (after_one h j)
 
@@ -57,7 +57,7 @@ taken_by Dropped p ps = ps
 taken_by Full p ps = ps
 
 -- what it took of them
-abbrev pub taken : List Heard → Joining → List PlainPiece
+abbrev pub taken : List Heard → ReceiverState → List PlainPiece
 taken [] j = []
 taken (h ∷ hs) j = taken_by (step_by h j) h.says (taken hs (after_one h j))
 
@@ -72,7 +72,7 @@ are_ended before [] = before
 are_ended before (p ∷ ps) = are_ended (not p.has_more) ps
 
 -- what is joined is the concatenation in order of what was taken, numbered from 0, and whole at the last
-pub record IsJoined (ps : List PlainPiece) (j : Joining) : Type 0 where
+pub record IsJoined (ps : List PlainPiece) (j : ReceiverState) : Type 0 where
   pub octets : j.octets ≡ flat_map (λ p. p.octets) ps
   pub numbers : AreNumberedFrom 0 ps
   pub next : j.next ≡ length ps
@@ -91,10 +91,10 @@ pub record IsPiece (chunk : ℕ) (body : List ℕ) (p : PlainPiece) : Type 0 whe
 
 -- each piece that a sender says is one of the body
 abbrev pub WindowIsPieces : Type 0
-WindowIsPieces = (body : List ℕ) (c : Cutting) → AllByRecursion (IsPiece c.chunk body) (window_of body c)
+WindowIsPieces = (body : List ℕ) (c : SenderState) → AllByRecursion (IsPiece c.chunk body) (window_of body c)
 
 -- what is joined so far is the front of the body, and all of it where it is whole
-pub record IsFront (chunk : ℕ) (body : List ℕ) (j : Joining) : Type 0 where
+pub record IsFront (chunk : ℕ) (body : List ℕ) (j : ReceiverState) : Type 0 where
   pub octets : j.octets ≡ take (j.next * chunk) body
   pub whole : (octets : List ℕ) → whole_of j ≡ Some octets → octets ≡ body
 
@@ -102,9 +102,9 @@ pub record IsFront (chunk : ℕ) (body : List ℕ) (j : Joining) : Type 0 where
 abbrev pub NothingIsFront : Type 0
 NothingIsFront = (chunk window : ℕ) (body : List ℕ) → IsFront chunk body (nothing_joined window)
 
--- .. and a piece of the body, of at most 256, keeps it a front
+-- where a receiver has a front of a body, a piece of the body, of at most 256, keeps it a front
 abbrev pub JoinsKeepFront : Type 0
-JoinsKeepFront = (chunk : ℕ) (body : List ℕ) (h : Heard) (j : Joining) → 1 ≤ chunk → length (pieces chunk body) ≤ 256 →
+JoinsKeepFront = (chunk : ℕ) (body : List ℕ) (h : Heard) (j : ReceiverState) → 1 ≤ chunk → length (pieces chunk body) ≤ 256 →
     IsPiece chunk body h.says → IsFront chunk body j → IsFront chunk body (after_one h j)
 
 -- of pieces of one body, in whatever order they come and however often, the body is joined or nothing whole

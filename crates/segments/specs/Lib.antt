@@ -1,5 +1,4 @@
-pub mod Numbers
 pub mod Pieces
-pub mod Joining
-pub mod Cutting
+pub mod Receiver
+pub mod Sender
 pub mod Laws

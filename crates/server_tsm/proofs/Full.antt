@@ -5,7 +5,7 @@ use Rattle.std.proofs.lemmas.Bool.{leb-true}
 use Rattle.remembered.proofs.Living.{forgotten_are_dead}
 use Rattle.remembered.specs.Records.{AreAscending, forgotten, is_full, lives}
 use Rattle.remembered.specs.declared.record.Record.{Record}
-use Rattle.segments.specs.Numbers.{MAX_REMEMBERED}
+use Rattle.profile.specs.Limits.{MAX_REMEMBERED}
 
 both : (a b : Bool) → (a && b) ≡ true → (a ≡ true) × (b ≡ true)
 both true true e = (refl, refl)

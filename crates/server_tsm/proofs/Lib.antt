@@ -1,4 +1,3 @@
-pub mod Askers
 pub mod Places
 pub mod Timely
 pub mod Names

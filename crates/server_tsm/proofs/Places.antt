@@ -13,13 +13,15 @@ module _ {X : Type 0} where
   first_test p y x b e is = ap p (same_one y x e) ∙ is
 
   -- one that passes stays
-  pub filter_keeps : (p : X → Bool) (xs : List X) (i : ℕ) (x : X) → slice_get xs i ≡ Some x → p x ≡ true → take (suc i) xs ++ filter p (drop (suc i) xs) ≡ take i xs ++ filter p (drop i xs)
+  pub filter_keeps : (p : X → Bool) (xs : List X) (i : ℕ) (x : X) → slice_get xs i ≡ Some x → p x ≡ true →
+      take (suc i) xs ++ filter p (drop (suc i) xs) ≡ take i xs ++ filter p (drop i xs)
   filter_keeps p [] i x e is = absurd (cc e)
   filter_keeps p (y ∷ xs) zero x e is = rw (first_test p y x true e is) refl
   filter_keeps p (y ∷ xs) (suc i) x e is = ap (λ (zs : List X). y ∷ zs) (filter_keeps p xs i x e is)
 
   -- one that doesn't is removed
-  pub filter_removes : (p : X → Bool) (xs : List X) (i : ℕ) (x : X) → slice_get xs i ≡ Some x → p x ≡ false → take i (remove xs i) ++ filter p (drop i (remove xs i)) ≡ take i xs ++ filter p (drop i xs)
+  pub filter_removes : (p : X → Bool) (xs : List X) (i : ℕ) (x : X) → slice_get xs i ≡ Some x → p x ≡ false →
+      take i (remove xs i) ++ filter p (drop i (remove xs i)) ≡ take i xs ++ filter p (drop i xs)
   filter_removes p [] i x e is = absurd (cc e)
   filter_removes p (y ∷ xs) zero x e is = rw (first_test p y x false e is) refl
   filter_removes p (y ∷ xs) (suc i) x e is = ap (λ (zs : List X). y ∷ zs) (filter_removes p xs i x e is)
@@ -38,17 +40,20 @@ module _ {X : Type 0} where
 
 module _ {X Y : Type 0} where
   -- what the next one gives, and those behind it
-  pub flat_step : (f : X → List Y) (before : List Y) (xs : List X) (i : ℕ) (x : X) → slice_get xs i ≡ Some x → (before ++ f x) ++ flat_map f (drop (i + 1) xs) ≡ before ++ flat_map f (drop i xs)
+  pub flat_step : (f : X → List Y) (before : List Y) (xs : List X) (i : ℕ) (x : X) → slice_get xs i ≡ Some x →
+      (before ++ f x) ++ flat_map f (drop (i + 1) xs) ≡ before ++ flat_map f (drop i xs)
   flat_step f before xs i x e =
       let next : suc i ≡ i + 1 = omega arith in
       rw (← next) (append_assoc before (f x) (flat_map f (drop (suc i) xs)) ∙ ap (λ (zs : List X). before ++ flat_map f zs) (sym (drop_one xs i x e)))
 
-  pub flat_step_ok : {U F : Type 0} (r : Result U F) (f : X → List Y) (before after : List Y) (xs : List X) (i : ℕ) (x : X) → slice_get xs i ≡ Some x → OnOk r (after ≡ before ++ f x) → OnOk r (after ++ flat_map f (drop (i + 1) xs) ≡ before ++ flat_map f (drop i xs))
+  pub flat_step_ok : {U F : Type 0} (r : Result U F) (f : X → List Y) (before after : List Y) (xs : List X) (i : ℕ) (x : X) → slice_get xs i ≡ Some x →
+      OnOk r (after ≡ before ++ f x) → OnOk r (after ++ flat_map f (drop (i + 1) xs) ≡ before ++ flat_map f (drop i xs))
   flat_step_ok (Ok u) f before after xs i x e is = ap (λ (zs : List Y). zs ++ flat_map f (drop (i + 1) xs)) is ∙ flat_step f before xs i x e
   flat_step_ok (Err v) f before after xs i x e is = tt
 
   -- nothing where there is none
-  pub flat_none : (f : X → List Y) (before : List Y) (xs : List X) (i : ℕ) → slice_get xs i ≡ None → before ++ flat_map f (drop (i + 1) xs) ≡ before ++ flat_map f (drop i xs)
+  pub flat_none : (f : X → List Y) (before : List Y) (xs : List X) (i : ℕ) → slice_get xs i ≡ None →
+      before ++ flat_map f (drop (i + 1) xs) ≡ before ++ flat_map f (drop i xs)
   flat_none f before xs i e =
       let next : suc i ≡ i + 1 = omega arith in
       rw (← next) (ap (λ (zs : List X). before ++ flat_map f zs) (drop_more xs i e ∙ sym (drop_none xs i e)))

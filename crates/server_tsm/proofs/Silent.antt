@@ -6,13 +6,13 @@ use Rattle.remembered.specs.Records.{lives}
 use Rattle.remembered.specs.declared.record.Record.{Record}
 use Rattle.segments.specs.declared.step.Turn.{Turn}
 use Rattle.segments.specs.declared.step.Turn.TheVariants.{Waits, Sends, Ends}
-use Rattle.server_tsm.specs.Answering.{answered_by}
+use Rattle.server_answers.specs.Answering.{answered_by}
 use Rattle.server_tsm.specs.Hearing.{ack_heard, plans}
 use Rattle.server_tsm.specs.Laws.{AckOfDeadIsDropped, IsSaidOfLiving, StaysTimely, WokenLive}
 use Rattle.server_tsm.specs.Steps.{IsFinished}
-use Rattle.server_tsm.specs.Waking.{again, said_at, said_of, turn_by, turn_where}
+use Rattle.server_tsm.specs.Waking.{again, said_at_turn, said_on_wake, turn_by, turn_where}
 use Rattle.server_tsm.proofs.Timely.{timely_later, timely_said, timely_woken, timely_executed}
-use Rattle.server_tsm.specs.declared.plan.Change.TheVariants.{Stays, Says, Gathers, GivesUp, Executes, Wakes}
+use Rattle.server_answers.specs.declared.plan.ServerChange.TheVariants.{Stays, Says, Gathers, GivesUp, Executes, Wakes}
 
 module _ {Y : Type 0} where
   all_append : (P : Y → Type 0) (xs ys : List Y) → AllByRecursion P xs → AllByRecursion P ys → AllByRecursion P (xs ++ ys)
@@ -24,24 +24,27 @@ module _ {Y : Type 0} where
   all_places P (y ∷ ys) h = (h zero y refl, all_places P ys (λ k z e. h (suc k) z e))
 
 module _ {X Y : Type 0} where
-  all_flat : (P : Y → Type 0) (f : X → List Y) (xs : List X) → ((k : ℕ) (x : X) → slice_get xs k ≡ Some x → AllByRecursion P (f x)) → AllByRecursion P (flat_map f xs)
+  all_flat : (P : Y → Type 0) (f : X → List Y) (xs : List X) → ((k : ℕ) (x : X) → slice_get xs k ≡ Some x → AllByRecursion P (f x)) →
+      AllByRecursion P (flat_map f xs)
   all_flat P f [] h = tt
   all_flat P f (x ∷ xs) h = all_append P (f x) (flat_map f xs) (h zero x refl) (all_flat P f xs (λ k y e. h (suc k) y e))
 
 module _ {A : Type 0} where
-  said_living : (now k : ℕ) (rs : List (Record A)) (r : Record A) (t : Turn) → slice_get rs k ≡ Some r → lives now r ≡ true → AllByRecursion (IsSaidOfLiving now rs) (said_at t now r)
+  said_living : (now k : ℕ) (rs : List (Record A)) (r : Record A) (t : Turn) → slice_get rs k ≡ Some r → lives now r ≡ true →
+      AllByRecursion (IsSaidOfLiving now rs) (said_at_turn t now r)
   said_living now k rs r Waits there living = tt
   said_living now k rs r Sends there living =
       all_places (IsSaidOfLiving now rs) (answered_by (again now r.sending) r)
       (λ place s e. record { r = r; k = k; there = there; living = living; sending = again now r.sending; place = place; is = e })
   said_living now k rs r Ends there living = tt
 
-  said_where : (now k : ℕ) (rs : List (Record A)) (r : Record A) (b : Bool) → slice_get rs k ≡ Some r → lives now r ≡ b → AllByRecursion (IsSaidOfLiving now rs) (said_at (turn_where b now r.sending) now r)
+  said_where : (now k : ℕ) (rs : List (Record A)) (r : Record A) (b : Bool) → slice_get rs k ≡ Some r → lives now r ≡ b →
+      AllByRecursion (IsSaidOfLiving now rs) (said_at_turn (turn_where b now r.sending) now r)
   said_where now k rs r true there living = said_living now k rs r (turn_by r.sending now) there living
   said_where now k rs r false there living = tt
 
   pub woken_live : WokenLive A
-  woken_live now rs = all_flat (IsSaidOfLiving now rs) (said_of now) rs (λ k r e. said_where now k rs r (lives now r) e refl)
+  woken_live now rs = all_flat (IsSaidOfLiving now rs) (said_on_wake now) rs (λ k r e. said_where now k rs r (lives now r) e refl)
 
   pub ack_of_dead_is_dropped : AckOfDeadIsDropped A
   ack_of_dead_is_dropped now id number window negative from st plan none p =

@@ -5,10 +5,10 @@ use Rattle.npdu.specs.declared.mac.Way.{Way}
 use Rattle.remembered.specs.Records.{AreAscending, AreFrom, forgotten, is_of, lives, newest, said_again, said_by}
 use Rattle.remembered.specs.declared.record.Asker.{Asker}
 use Rattle.remembered.specs.declared.record.Record.{Record}
-use Rattle.segments.specs.Cutting.{Cutting}
+use Rattle.segments.specs.Sender.{SenderState}
 use Rattle.server_tsm.specs.Server.{AreTimely, AreUpTo, stamped}
-use Rattle.server_tsm.specs.Waking.{all_said_so, said_so}
-use Rattle.server_tsm.specs.declared.plan.Saying.{Saying}
+use Rattle.server_tsm.specs.Waking.{after_sayings, after_saying}
+use Rattle.server_answers.specs.declared.plan.Saying.{Saying}
 
 module _ {A : Type 0} where
   -- records with the same moments, one by one
@@ -21,12 +21,13 @@ module _ {A : Type 0} where
   same_self [] = tt
   same_self (r ∷ rs) = (refl, same_self rs)
 
-  said_same_by : (o : Option (Record A)) (b : Bool) (way : Way) (sending : Option Cutting) (r : Record A) (rs rest : List (Record A)) → SameMoments rs rest → SameMoments (r ∷ rs) (said_by o b way sending r rs rest)
+  said_same_by : (o : Option (Record A)) (b : Bool) (way : Way) (sending : Option SenderState) (r : Record A) (rs rest : List (Record A)) →
+      SameMoments rs rest → SameMoments (r ∷ rs) (said_by o b way sending r rs rest)
   said_same_by (Some x) b way sending r rs rest same = (refl, same)
   said_same_by None true way sending r rs rest same = (refl, same_self rs)
   said_same_by None false way sending r rs rest same = (refl, same_self rs)
 
-  said_same : (a : Asker) (way : Way) (sending : Option Cutting) (rs : List (Record A)) → SameMoments rs (said_again a way sending rs)
+  said_same : (a : Asker) (way : Way) (sending : Option SenderState) (rs : List (Record A)) → SameMoments rs (said_again a way sending rs)
   said_same a way sending [] = tt
   said_same a way sending (r ∷ rs) = said_same_by (newest a rs) (is_of a r) way sending r rs (said_again a way sending rs) (said_same a way sending rs)
 
@@ -62,11 +63,13 @@ module _ {A : Type 0} where
   timely_later m n rs l t = timely_same m n rs rs l (same_self rs) t
 
   -- another sending
-  pub timely_said : (m n : ℕ) (a : Asker) (way : Way) (sending : Option Cutting) (rs : List (Record A)) → m ≤ n → AreTimely m rs → AreTimely n (said_again a way sending rs)
+  pub timely_said : (m n : ℕ) (a : Asker) (way : Way) (sending : Option SenderState) (rs : List (Record A)) → m ≤ n → AreTimely m rs →
+      AreTimely n (said_again a way sending rs)
   timely_said m n a way sending rs l t = timely_same m n rs (said_again a way sending rs) l (said_same a way sending rs) t
 
   -- fewer
-  forgotten_if : (m now : ℕ) (b : Bool) (r : Record A) (rs rest : List (Record A)) → AreTimely m (r ∷ rs) → AreTimely m rest → AreTimely m (if b then r ∷ rs else rest)
+  forgotten_if : (m now : ℕ) (b : Bool) (r : Record A) (rs rest : List (Record A)) → AreTimely m (r ∷ rs) → AreTimely m rest →
+      AreTimely m (if b then r ∷ rs else rest)
   forgotten_if m now true r rs rest t u = t
   forgotten_if m now false r rs rest t u = u
 
@@ -76,11 +79,11 @@ module _ {A : Type 0} where
       forgotten_if m now (lives now r) r rs (forgotten now rs) t (timely_forgotten m now rs (record { ascending = t.ascending.1; past = t.past.1 }))
 
   -- a wake
-  timely_all_said : (m n : ℕ) (xs : List Saying) (rs : List (Record A)) → m ≤ n → AreTimely m rs → AreTimely n (all_said_so xs rs)
+  timely_all_said : (m n : ℕ) (xs : List Saying) (rs : List (Record A)) → m ≤ n → AreTimely m rs → AreTimely n (after_sayings xs rs)
   timely_all_said m n [] rs l t = timely_later m n rs l t
-  timely_all_said m n (x ∷ xs) rs l t = timely_all_said n n xs (said_so x rs) (omega arith) (timely_said m n x.asker x.way x.sending rs l t)
+  timely_all_said m n (x ∷ xs) rs l t = timely_all_said n n xs (after_saying x rs) (omega arith) (timely_said m n x.asker x.way x.sending rs l t)
 
-  pub timely_woken : (m now : ℕ) (xs : List Saying) (rs : List (Record A)) → m ≤ now → AreTimely m rs → AreTimely now (all_said_so xs (forgotten now rs))
+  pub timely_woken : (m now : ℕ) (xs : List Saying) (rs : List (Record A)) → m ≤ now → AreTimely m rs → AreTimely now (after_sayings xs (forgotten now rs))
   timely_woken m now xs rs l t = timely_all_said m now xs (forgotten now rs) l (timely_forgotten m now rs t)
 
   -- one more, executed now

@@ -13,27 +13,28 @@ use Rattle.primitives.specs.declared.plain_data.Reply.{Reply}
 use Rattle.remembered.specs.Records.{is_full, remembered, said_on, some_if}
 use Rattle.remembered.specs.declared.record.Asker.{Asker}
 use Rattle.remembered.specs.declared.record.Record.{Record}
-use Rattle.segments.specs.Cutting.{Cutting, Turned, has_ended, hears}
-use Rattle.segments.specs.Joining.{Joining, granted_window, joins, nothing_joined}
-use Rattle.segments.specs.Numbers.{MAX_ASSEMBLIES, MAX_OCTETS}
+use Rattle.segments.specs.Sender.{SenderState, Turned, has_ended, hears}
+use Rattle.segments.specs.Receiver.{ReceiverState, granted_window, joins, nothing_joined}
+use Rattle.profile.specs.Limits.{MAX_GATHERINGS, MAX_SERVICE_DATA_OCTETS}
 use Rattle.segments.specs.declared.step.Step.{Step}
 use Rattle.segments.specs.declared.step.Step.TheVariants.{Taken, Nak, Dropped, Full}
 use Rattle.segments.specs.declared.step.Turn.{Turn}
 use Rattle.segments.specs.declared.step.Turn.TheVariants as turn
 use Rattle.services.specs.Asked.{replied}
-use Rattle.server_tsm.specs.Answering.{answered_by, record_of}
-use Rattle.server_tsm.specs.Limits.{begun}
-use Rattle.server_tsm.specs.Plan.{Plan}
-use Rattle.server_tsm.specs.Server.{ServerTsmState, gathers_still, is_for}
+use Rattle.server_answers.specs.Answering.{answered_by, record_of}
+use Rattle.server_answers.specs.Limits.{begun}
+use Rattle.server_answers.specs.Plan.{ServerPlan, quiet}
+use Rattle.server_answers.specs.Gathering.{gathers_still, is_for}
+use Rattle.server_tsm.specs.Server.{ServerTsmState}
 use Rattle.server_tsm.specs.Waking.{saying_by}
-use Rattle.server_tsm.specs.declared.asked.AnswerLimits.{AnswerLimits}
-use Rattle.server_tsm.specs.declared.asked.Asked.{Asked}
-use Rattle.server_tsm.specs.declared.asked.Origin.{Origin}
-use Rattle.server_tsm.specs.declared.assembly.Assembly.{Assembly}
-use Rattle.server_tsm.specs.declared.plan.Change.{Change}
-use Rattle.server_tsm.specs.declared.plan.Change.TheVariants.{Stays, Says, Gathers, GivesUp, Executes}
-use Rattle.server_tsm.specs.declared.said.Said.{Said}
-use Rattle.server_tsm.specs.declared.said.Said.TheVariants as said
+use Rattle.server_answers.specs.declared.asked.AnswerLimits.{AnswerLimits}
+use Rattle.server_answers.specs.declared.asked.Asked.{Asked}
+use Rattle.server_answers.specs.declared.asked.Origin.{Origin}
+use Rattle.server_answers.specs.declared.gathering.RequestGathering.{RequestGathering}
+use Rattle.server_answers.specs.declared.plan.ServerChange.{ServerChange}
+use Rattle.server_answers.specs.declared.plan.ServerChange.TheVariants.{Stays, Says, Gathers, GivesUp, Executes}
+use Rattle.server_answers.specs.declared.said.ServerSaid.{ServerSaid}
+use Rattle.server_answers.specs.declared.said.ServerSaid.TheVariants as said
 
 -- what an APDU says to a server: a request whole, or a segment of one, of a service; that segments of the answer came;
 -- that the transaction is over; or nothing (20.1)
@@ -85,47 +86,43 @@ heard_of a = record { invoke_id = invoke_id_of a; message = message_of a }
 abbrev pub asker_of : Origin → Heard → Asker
 asker_of from h = record { station = from.station; invoke_id = h.invoke_id }
 
--- nothing is said or executed, and this changes
-abbrev pub quiet : {A : Type 0} → Change A → Plan A
-quiet change = record { said = []; told = None; change = change }
-
 -- an Abort is said behind this, and this changes (5.4.5.1, 5.4.5.2)
-abbrev pub aborting : {A : Type 0} → List (Said A) → AbortReason → Asked → Change A → Plan A
+abbrev pub aborting : {A : Type 0} → List (ServerSaid A) → AbortReason → Asked → ServerChange A → ServerPlan A
 aborting says reason asked change =
-    record { said = says ++ said.Abort asked.way asked.asker.invoke_id reason ∷ []; told = None; change = change }
+    record { said = says ++ said.Abort asked.way asked.asker.invoke_id reason ∷ []; executed = None; change = change }
 
 -- a request that came whole. says: what is said of its last segment
 pub record Whole (A : Type 0) : Type 0 where
   pub asked : Asked
   pub octets : List ℕ
-  pub says : List (Said A)
+  pub says : List (ServerSaid A)
 
 -- what an input comes to before any service data are read
 pub data Reached (A : Type 0) : Type 0 where
-  plans : Plan A → Reached A
+  plans : ServerPlan A → Reached A
   completes : Whole A → Reached A
 
 -- an answer is being said in segments (5.4.5.4)
-abbrev pub is_sending : ℕ → Option Cutting → Bool
+abbrev pub is_sending : ℕ → Option SenderState → Bool
 is_sending now None = false
 is_sending now (Some c) = not (has_ended now c)
 
 -- an answer that goes on so is said on this way
-abbrev pub said_with : {A : Type 0} → Option Cutting → Way → Record A → Plan A
-said_with sending way r =
+abbrev pub answer_plan : {A : Type 0} → Option SenderState → Way → Record A → ServerPlan A
+answer_plan sending way r =
     record {
       said = answered_by sending (said_on way sending r);
-      told = None;
+      executed = None;
       change = Says (saying_by sending (said_on way sending r));
     }
 
--- a request whose answer is remembered: while segments of it are said it is dropped, else it is said again
-abbrev pub repeated_if : {A : Type 0} → (is_sending : Bool) → ℕ → Way → Record A → Plan A
+-- a request whose answer is remembered is dropped where segments of that are being said, else that is said again
+abbrev pub repeated_if : {A : Type 0} → (is_sending : Bool) → ℕ → Way → Record A → ServerPlan A
 repeated_if true now way r = quiet Stays
-repeated_if false now way r = said_with (begun now r.chunk r.answer) way r
+repeated_if false now way r = answer_plan (begun now r.chunk r.answer) way r
 
--- .. so (5.4.5.1)
-abbrev pub repeated : {A : Type 0} → ℕ → Way → Record A → Plan A
+-- a request whose answer is remembered: while segments of it are said it is dropped, else it is said again (5.4.5.1)
+abbrev pub repeated : {A : Type 0} → ℕ → Way → Record A → ServerPlan A
 repeated now way r = repeated_if (is_sending now r.sending) now way r
 
 -- one with too many octets is aborted
@@ -135,7 +132,7 @@ completed_if false w = completes w
 
 -- a request came whole, and no answer of it is remembered (5.4.5.1, 5.4.5.2)
 abbrev pub completed : {A : Type 0} → Whole A → Reached A
-completed w = completed_if (nat_lt MAX_OCTETS (length w.octets)) w
+completed w = completed_if (nat_lt MAX_SERVICE_DATA_OCTETS (length w.octets)) w
 
 -- a request in one APDU (5.4.5.1)
 abbrev pub whole_heard : {A : Type 0} → Option (Record A) → ℕ → Asked → List ℕ → Reached A
@@ -143,33 +140,34 @@ whole_heard (Some r) now asked octets = plans (repeated now asked.way r)
 whole_heard None now asked octets = completed (record { asked = asked; octets = octets; says = [] })
 
 -- a SegmentACK of the request (20.1.6)
-abbrev pub ack_said : {A : Type 0} → (negative : Bool) → ℕ → Joining → Asked → Said A
-ack_said negative number j asked = said.SegmentAck asked.way negative asked.asker.invoke_id number j.window
+abbrev pub request_ack : {A : Type 0} → (negative : Bool) → ℕ → ReceiverState → Asked → ServerSaid A
+request_ack negative number j asked = said.SegmentAck asked.way negative asked.asker.invoke_id number j.window
 
 -- a SegmentACK, where one is due (5.4.5.2)
-abbrev pub ack_if : {A : Type 0} → Option ℕ → Joining → Asked → List (Said A)
+abbrev pub ack_if : {A : Type 0} → Option ℕ → ReceiverState → Asked → List (ServerSaid A)
 ack_if None j asked = []
-ack_if (Some number) j asked = ack_said false number j asked ∷ []
+ack_if (Some number) j asked = request_ack false number j asked ∷ []
 
 -- the request came so far, and this is said (5.4.5.2)
-abbrev pub gathered : {A : Type 0} → ℕ → List (Said A) → Asked → Joining → Plan A
+abbrev pub gathered : {A : Type 0} → ℕ → List (ServerSaid A) → Asked → ReceiverState → ServerPlan A
 gathered now says asked j =
-    record { said = says; told = None; change = Gathers (record { asked = asked; receiver = j; at = now }) }
+    record { said = says; executed = None; change = Gathers (record { asked = asked; receiver = j; at = now }) }
 
 -- a segment was taken: more follow, or the request is whole (5.4.5.2)
-abbrev pub taken_if : {A : Type 0} → (more : Bool) → ℕ → List (Said A) → Asked → Joining → Reached A
+abbrev pub taken_if : {A : Type 0} → (more : Bool) → ℕ → List (ServerSaid A) → Asked → ReceiverState → Reached A
 taken_if true now says asked j = plans (gathered now says asked j)
 taken_if false now says asked j = completed (record { asked = asked; octets = j.octets; says = says })
 
--- .. by what the receiver does with it; one that would pass a limit gives the request up, with an Abort (5.4.5.2)
-abbrev pub joined_by : {A : Type 0} → Step → (more : Bool) → ℕ → Asked → Joining → Reached A
+-- a segment comes to this by what the receiver does with it; one that would pass a limit gives the request up, with an
+-- Abort (5.4.5.2)
+abbrev pub joined_by : {A : Type 0} → Step → (more : Bool) → ℕ → Asked → ReceiverState → Reached A
 joined_by (Taken ack) more now asked j = taken_if more now (ack_if ack j asked) asked j
-joined_by (Nak number) more now asked j = plans (gathered now (ack_said true number j asked ∷ []) asked j)
+joined_by (Nak number) more now asked j = plans (gathered now (request_ack true number j asked ∷ []) asked j)
 joined_by Dropped more now asked j = plans (gathered now [] asked j)
 joined_by Full more now asked j = plans (aborting [] BufferOverflow asked (GivesUp asked.asker))
 
 -- a segment joins what came so far (5.4.5.2)
-abbrev pub joined : {A : Type 0} → ℕ → Asked → Joining → Segment → List ℕ → Reached A
+abbrev pub joined : {A : Type 0} → ℕ → Asked → ReceiverState → Segment → List ℕ → Reached A
 joined now asked j s octets =
     let x = joins now s.sequence_number s.more_follows octets j in
     joined_by x.step s.more_follows now asked x.state
@@ -180,7 +178,7 @@ of_service true reached = reached
 of_service false reached = plans (quiet Stays)
 
 -- who asked in segments, as the first of them said it, but for the way of the last
-abbrev pub asked_on : {A : Type 0} → Way → Assembly A → Asked
+abbrev pub asked_on : {A : Type 0} → Way → RequestGathering A → Asked
 asked_on way a = record a.asked { way = way }
 
 -- the first segment begins, where there is a place; all others are dropped (5.4.5.1)
@@ -189,53 +187,55 @@ begins_if false is_crowded now asked s octets = plans (quiet Stays)
 begins_if true true now asked s octets = plans (aborting [] OutOfResources asked Stays)
 begins_if true false now asked s octets = joined now asked (nothing_joined (granted_window s.window)) s octets
 
--- MAX_ASSEMBLIES requests are being assembled
-abbrev pub is_crowded : {A : Type 0} → ℕ → List (Assembly A) → Bool
-is_crowded now xs = nat_le MAX_ASSEMBLIES (length (filter (gathers_still now) xs))
+-- MAX_GATHERINGS requests are being gathered
+abbrev pub is_crowded : {A : Type 0} → ℕ → List (RequestGathering A) → Bool
+is_crowded now xs = nat_le MAX_GATHERINGS (length (filter (gathers_still now) xs))
 
 -- a segment of a request, of which this came so far (5.4.5.1, 5.4.5.2)
-abbrev pub part_joined : {A : Type 0} → Option (Assembly A) → ℕ → Asked → Segment → List ℕ → List (Assembly A) →
-    Reached A
+abbrev pub part_joined : {A : Type 0} → Option (RequestGathering A) → ℕ → Asked → Segment → List ℕ →
+    List (RequestGathering A) → Reached A
 part_joined (Some a) now asked s octets xs =
     of_service (asked.service == a.asked.service) (joined now (asked_on asked.way a) a.receiver s octets)
 part_joined None now asked s octets xs = begins_if (s.sequence_number == 0) (is_crowded now xs) now asked s octets
 
--- what is still assembled
-abbrev pub still : {A : Type 0} → ℕ → Option (Assembly A) → Option (Assembly A)
+-- what is still gathered
+abbrev pub still : {A : Type 0} → ℕ → Option (RequestGathering A) → Option (RequestGathering A)
 still now None = None
 still now (Some a) = some_if (gathers_still now a) a
 
 -- what came of a request of this asker, unless it is too old (5.4.5.2)
-abbrev pub assembled : {A : Type 0} → ℕ → Asker → List (Assembly A) → Option (Assembly A)
-assembled now asker xs = still now (find (is_for asker) xs)
+abbrev pub gathering_of : {A : Type 0} → ℕ → Asker → List (RequestGathering A) → Option (RequestGathering A)
+gathering_of now asker xs = still now (find (is_for asker) xs)
 
 -- a segment of a request: its answer may be remembered (5.4.5.1, 5.4.5.2)
-abbrev pub part_heard : {A : Type 0} → Option (Record A) → ℕ → Asked → Segment → List ℕ → List (Assembly A) → Reached A
+abbrev pub part_heard : {A : Type 0} → Option (Record A) → ℕ → Asked → Segment → List ℕ →
+    List (RequestGathering A) → Reached A
 part_heard (Some r) now asked s octets xs = plans (repeated now asked.way r)
-part_heard None now asked s octets xs = part_joined (assembled now asked.asker xs) now asked s octets xs
+part_heard None now asked s octets xs = part_joined (gathering_of now asked.asker xs) now asked s octets xs
 
 -- a SegmentACK of the answer, by what the sender does on it (5.4.5.4)
-abbrev pub turned_by : {A : Type 0} → Turn → Cutting → Way → Record A → Plan A
+abbrev pub turned_by : {A : Type 0} → Turn → SenderState → Way → Record A → ServerPlan A
 turned_by turn.Waits c way r = quiet Stays
-turned_by turn.Sends c way r = said_with (Some c) way r
+turned_by turn.Sends c way r = answer_plan (Some c) way r
 turned_by turn.Ends c way r = quiet (Says (saying_by None (said_on way None r)))
 
--- .. with what it leaves of the sender
-abbrev pub turned : {A : Type 0} → Turned → Way → Record A → Plan A
+-- a SegmentACK of the answer, by what the sender does on it and what it is then (5.4.5.4)
+abbrev pub turned : {A : Type 0} → Turned → Way → Record A → ServerPlan A
 turned t way r = turned_by t.turn t.state way r
 
 -- a SegmentACK of an answer that goes on so (5.4.5.4)
-abbrev pub ack_taken : {A : Type 0} → Option Cutting → ℕ → (number window : ℕ) → Bool → Way → Record A → Plan A
+abbrev pub ack_taken : {A : Type 0} → Option SenderState → ℕ → (number window : ℕ) → Bool → Way → Record A →
+    ServerPlan A
 ack_taken None now number window negative way r = quiet Stays
 ack_taken (Some c) now number window negative way r = turned (hears now number window negative c) way r
 
 -- a SegmentACK of an answer, where it is remembered (5.4.5.4)
-abbrev pub ack_heard : {A : Type 0} → Option (Record A) → ℕ → (number window : ℕ) → Bool → Way → Plan A
+abbrev pub ack_heard : {A : Type 0} → Option (Record A) → ℕ → (number window : ℕ) → Bool → Way → ServerPlan A
 ack_heard None now number window negative way = quiet Stays
 ack_heard (Some r) now number window negative way = ack_taken r.sending now number window negative way r
 
--- an Abort of the client ends the saying of the answer, which stays remembered, or the assembling (5.4.5)
-abbrev pub given_up : {A : Type 0} → Option (Record A) → Asker → Plan A
+-- an Abort of the client ends the saying of the answer, which stays remembered, or the gathering (5.4.5)
+abbrev pub given_up : {A : Type 0} → Option (Record A) → Asker → ServerPlan A
 given_up None asker = quiet (GivesUp asker)
 given_up (Some r) asker = quiet (Says (saying_by None r))
 
@@ -256,7 +256,7 @@ asked_by from asker limits service = record { asker = asker; way = from.way; lim
 abbrev pub request_heard : {A : Type 0} → Option Segment → ℕ → Asked → List ℕ → ServerTsmState A → Reached A
 request_heard None now asked octets st = whole_heard (remembered now asked.asker st.records) now asked octets
 request_heard (Some s) now asked octets st =
-    part_heard (remembered now asked.asker st.records) now asked s octets st.assemblies
+    part_heard (remembered now asked.asker st.records) now asked s octets st.gatherings
 
 -- what a message of this asker comes to (5.4.5)
 abbrev pub reached_by : {A : Type 0} → Message → ℕ → Origin → Asker → ServerTsmState A → Reached A
@@ -273,53 +273,54 @@ abbrev pub reached : {A : Type 0} → ℕ → Origin → Heard → ServerTsmStat
 reached now from h st = reached_by h.message now from (asker_of from h) st
 
 -- a request is rejected behind this (18.9)
-abbrev pub rejecting : {A : Type 0} → List (Said A) → RejectReason → Asked → Plan A
+abbrev pub rejecting : {A : Type 0} → List (ServerSaid A) → RejectReason → Asked → ServerPlan A
 rejecting says reason asked =
     record {
       said = says ++ said.Reject asked.way asked.asker.invoke_id reason ∷ [];
-      told = None;
+      executed = None;
       change = GivesUp asked.asker;
     }
 
 -- an answer is said behind this and remembered, and the request executed (5.4.5.3)
-abbrev pub answering : {A : Type 0} → List (Said A) → Request A → Reply A → Record A → Plan A
+abbrev pub answering : {A : Type 0} → List (ServerSaid A) → Request A → Reply A → Record A → ServerPlan A
 answering says request reply r =
     record {
       said = says ++ answered_by r.sending r;
-      told = Some (record { asker = r.asker; request = request; reply = reply });
+      executed = Some (record { asker = r.asker; request = request; reply = reply });
       change = Executes request r;
     }
 
--- .. with this reply
-abbrev pub executing : {A : Type 0} → ℕ → List (Said A) → Asked → Request A → Reply A → ServerTsmState A → Plan A
+-- a request is executed with this reply, and its answer said behind this (5.4.5.3)
+abbrev pub executing : {A : Type 0} → ℕ → List (ServerSaid A) → Asked → Request A → Reply A → ServerTsmState A →
+    ServerPlan A
 executing now says asked request reply st =
     answering says request reply (record_of now st.max_apdu asked request reply)
 
--- .. where there is a place for its answer; else it is aborted (5.4.5.1)
-abbrev pub executing_if : {A : Type 0} → (is_full : Bool) → ℕ → List (Said A) → Asked → Request A → ServerTsmState A →
-    Plan A
+-- a request is executed where there is a place for its answer; else it is aborted (5.4.5.1)
+abbrev pub executing_if : {A : Type 0} → (is_full : Bool) → ℕ → List (ServerSaid A) → Asked → Request A →
+    ServerTsmState A → ServerPlan A
 executing_if true now says asked request st = aborting says OutOfResources asked (GivesUp asked.asker)
 executing_if false now says asked request st = executing now says asked request (replied st.table request) st
 
 -- a request that came whole: it is rejected or executed by what its service data mean
-abbrev pub finished_by : {A : Type 0} → Result (Request A) RejectReason → ℕ → List (Said A) → Asked →
-    ServerTsmState A → Plan A
+abbrev pub finished_by : {A : Type 0} → Result (Request A) RejectReason → ℕ → List (ServerSaid A) → Asked →
+    ServerTsmState A → ServerPlan A
 finished_by (Err reason) now says asked st = rejecting says reason asked
 finished_by (Ok request) now says asked st = executing_if (is_full now st.records) now says asked request st
 
--- .. where something was found in them
+-- a request that came whole, where something was found in its service data; else nothing is said or executed
 abbrev pub finished_with : {A : Type 0} → Option (Result (Request A) RejectReason) → ℕ → Whole A → ServerTsmState A →
-    Plan A
+    ServerPlan A
 finished_with None now w st = quiet Stays
 finished_with (Some found) now w st = finished_by found now w.says w.asked st
 
--- .. and the other half, where this is what the service data of a whole request mean
+-- the other half of the step, where this is what the service data of a whole request mean
 abbrev pub finished : {A : Type 0} → ℕ → Reached A → Option (Result (Request A) RejectReason) → ServerTsmState A →
-    Plan A
+    ServerPlan A
 finished now (plans plan) found st = plan
 finished now (completes w) found st = finished_with found now w st
 
 -- what is said, executed and left of what a server hears, where this is what the service data of a whole request mean
 abbrev pub planned : {A : Type 0} → ℕ → Origin → Heard → Option (Result (Request A) RejectReason) → ServerTsmState A →
-    Plan A
+    ServerPlan A
 planned now from h found st = finished now (reached now from h st) found st

@@ -1,7 +1,3 @@
-pub mod Limits
-pub mod Said
-pub mod Answering
-pub mod Plan
 pub mod Waking
 pub mod Server
 pub mod Hearing

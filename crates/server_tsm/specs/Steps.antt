@@ -4,17 +4,17 @@ use Rattle.apdu.specs.declared.numbers.RejectReason.{RejectReason}
 use Rattle.primitives.specs.declared.plain_data.Request.{Request}
 use Rattle.services.specs.Request.{RejectsRequest, SpellsRequest}
 use Rattle.server_tsm.specs.Hearing.{Heard, Reached, Whole, plans, completes, reached, finished}
-use Rattle.server_tsm.specs.Plan.{Plan}
+use Rattle.server_answers.specs.Plan.{ServerPlan}
 use Rattle.server_tsm.specs.Server.{ServerTsmState, committed}
-use Rattle.server_tsm.specs.declared.asked.Origin.{Origin}
-use Rattle.server_tsm.specs.declared.plan.Effects.{Effects}
+use Rattle.server_answers.specs.declared.asked.Origin.{Origin}
+use Rattle.server_answers.specs.declared.plan.ServerTold.{ServerTold}
 
 -- this is what service data mean: a request, or why they are rejected (15, 18.9)
 abbrev pub Means : (A : Type 0) → (service : ℕ) → List ℕ → Result (Request A) RejectReason → Type 0
 Means A service octets (Ok request) = SpellsRequest service octets request
 Means A service octets (Err reason) = RejectsRequest A reason service octets
 
--- .. where something was found in them
+-- this is what the service data of a whole request mean, where something was found in them
 abbrev pub IsMeant : {A : Type 0} → Whole A → Option (Result (Request A) RejectReason) → Type 0
 IsMeant w None = ⊥
 IsMeant {A} w (Some found) = Means A w.asked.service w.octets found
@@ -25,23 +25,24 @@ IsFound (plans plan) found = found ≡ None
 IsFound (completes w) found = IsMeant w found
 
 -- the plan is what an input comes to, with what was found in a whole request
-pub record IsFinished {A : Type 0} (now : ℕ) (r : Reached A) (st : ServerTsmState A) (plan : Plan A) : Type 0 where
+pub record IsFinished {A : Type 0} (now : ℕ) (r : Reached A) (st : ServerTsmState A) (plan : ServerPlan A) :
+    Type 0 where
   pub found : Option (Result (Request A) RejectReason)
   pub means : IsFound r found
   pub is : plan ≡ finished now r found st
 
 -- the plan is that of the server, for what it hears from there at this moment
-abbrev pub IsPlan : {A : Type 0} → ℕ → Origin → Heard → ServerTsmState A → Plan A → Type 0
+abbrev pub IsPlan : {A : Type 0} → ℕ → Origin → Heard → ServerTsmState A → ServerPlan A → Type 0
 IsPlan now from h st plan = IsFinished now (reached now from h st) st plan
 
 -- what is said and executed of a plan
-abbrev pub effects_of : {A : Type 0} → Plan A → Effects A
-effects_of plan = record { said = plan.said; told = plan.told }
+abbrev pub told_of_plan : {A : Type 0} → ServerPlan A → ServerTold A
+told_of_plan plan = record { said = plan.said; executed = plan.executed }
 
 -- this is what the server says and executes, and what it leaves, where it hears that from there at this moment
-pub record IsStep {A : Type 0} (now : ℕ) (from : Origin) (h : Heard) (st : ServerTsmState A) (effects : Effects A)
-    (left : ServerTsmState A) : Type 0 where
-  pub plan : Plan A
+pub record IsStep {A : Type 0} (now : ℕ) (from : Origin) (h : Heard) (st : ServerTsmState A)
+    (server_told : ServerTold A) (left : ServerTsmState A) : Type 0 where
+  pub plan : ServerPlan A
   pub planned : IsPlan now from h st plan
-  pub effects_are : effects ≡ effects_of plan
+  pub told_is : server_told ≡ told_of_plan plan
   pub left_is : left ≡ committed now plan.change st

@@ -2,11 +2,11 @@
 
 ghost use Rattle.std.specs.Prelude.{◌≡◌, ◌≤◌, ◌==◌, IfOk, Some, length, option_copied};
 ghost use Rattle.npdu.specs.declared.mac.Way.{Way};
-ghost use Rattle.segments.specs.Numbers.{MAX_OCTETS};
+ghost use Rattle.profile.specs.Limits.{MAX_SERVICE_DATA_OCTETS};
 ghost use Rattle.server_tsm.specs.Hearing.{
   aborting,
   ack_if,
-  ack_said,
+  request_ack,
   asked_by,
   asked_on,
   gathered,
@@ -15,21 +15,19 @@ ghost use Rattle.server_tsm.specs.Hearing.{
   rejecting,
 };
 
-use crate::answering::{kept_answer, list_answer, recorded};
-use crate::asked::{AnswerLimits, Asked, Origin};
-use crate::assembling::{assembled, is_crowded};
-use crate::assembly::Assembly;
-use crate::limits::{answer_chunk, fitted};
-use crate::plan::{Change, Effects, Executed, Plan};
-use crate::said::Said;
+use crate::gatherings::{gathering_of, is_crowded};
 use crate::sending::{Ack, ack_heard, given_up, repeated};
 use crate::server::ServerTsm;
-use objects::{Reply, Request};
+use apdu::{AbortReason, Apdu, RejectReason, Segment};
+use primitives::{Reply, Request};
+use profile::{MAX_SERVICE_DATA_OCTETS, has_no_place, lives};
 use remembered::{Asker, Record, Records};
-use segments::numbers::MAX_OCTETS;
 use segments::{Receiver, Step, granted_window};
-use server_rules::{has_no_place, lives};
-use services::{AbortReason, Apdu, Executor, RejectReason, Segment, decode_request};
+use server_answers::{
+    AnswerLimits, Asked, Executed, Origin, RequestGathering, ServerChange, ServerPlan, ServerSaid,
+    ServerTold, answer_chunk, fitted, kept_answer, push_window, recorded,
+};
+use services::{Executor, decode_request};
 use std::alloc::{AllocError, Allocator};
 use tags::Items;
 
@@ -64,67 +62,67 @@ fn asked_by(origin: &Origin, asker: Asker, limits: AnswerLimits, service: u8) ->
 /// An Abort is said behind this, and this changes.
 fn aborting<A: Allocator + Copy>(
     alloc: A,
-    mut said: Items<Said<A>, A>,
+    mut said: Items<ServerSaid<A>, A>,
     reason: AbortReason,
     asked: &Asked,
-    change: Change<A>,
-) -> Result<Plan<A>, AllocError>
+    change: ServerChange<A>,
+) -> Result<ServerPlan<A>, AllocError>
     ensures { IfOk result (λ plan. plan ≡ aborting said reason asked.now change) }
 {
-    said.push(Said::Abort {
+    said.push(ServerSaid::Abort {
         way: asked.way,
         invoke_id: asked.asker.invoke_id,
         reason,
     })?;
-    Plan::changing(alloc, said, change)
+    ServerPlan::changing(alloc, said, change)
 }
 
 /// A request is rejected, behind this.
 fn rejecting<A: Allocator + Copy>(
     alloc: A,
-    mut said: Items<Said<A>, A>,
+    mut said: Items<ServerSaid<A>, A>,
     reason: RejectReason,
     asked: &Asked,
-) -> Result<Plan<A>, AllocError>
+) -> Result<ServerPlan<A>, AllocError>
     ensures { IfOk result (λ plan. plan ≡ rejecting said reason asked.now) }
 {
-    said.push(Said::Reject {
+    said.push(ServerSaid::Reject {
         way: asked.way,
         invoke_id: asked.asker.invoke_id,
         reason,
     })?;
-    Plan::changing(alloc, said, Change::GivesUp(asked.asker))
+    ServerPlan::changing(alloc, said, ServerChange::GivesUp(asked.asker))
 }
 
 /// An answer is said behind this and remembered, and the request executed.
 fn answering<A: Allocator + Copy>(
     alloc: A,
-    mut said: Items<Said<A>, A>,
+    mut said: Items<ServerSaid<A>, A>,
     request: Request<A>,
     reply: Reply<A>,
     entry: Record<A>,
-) -> Result<Plan<A>, AllocError>
+) -> Result<ServerPlan<A>, AllocError>
     ensures { IfOk result (λ plan. plan ≡ answering said request reply entry) }
 {
-    list_answer(alloc, &entry, &mut said)?;
+    push_window(alloc, &entry, &mut said)?;
     let executed = Executed {
         asker: entry.asker,
         request,
         reply,
     };
-    Plan::executing(alloc, said, executed, entry)
+    ServerPlan::executing(alloc, said, executed, entry)
 }
 
 /// A SegmentACK of the request.
-fn ack_said<A: Allocator>(
+fn request_ack<A: Allocator>(
     negative: bool,
     sequence_number: u8,
     receiver: &Receiver<A>,
     asked: &Asked,
-) -> Said<A>
-    ensures { result ≡ ack_said negative sequence_number receiver.now asked.now }
+) -> ServerSaid<A>
+    ensures { result ≡ request_ack negative sequence_number receiver.now asked.now }
 {
-    Said::SegmentAck {
+    ServerSaid::SegmentAck {
         way: asked.way,
         negative,
         invoke_id: asked.asker.invoke_id,
@@ -139,12 +137,12 @@ fn ack_if<A: Allocator + Copy>(
     number: Option<u8>,
     receiver: &Receiver<A>,
     asked: &Asked,
-) -> Result<Items<Said<A>, A>, AllocError>
+) -> Result<Items<ServerSaid<A>, A>, AllocError>
     ensures { IfOk result (λ said. said ≡ ack_if number receiver.now asked.now) }
 {
     let mut said = Items::new(alloc);
     if let Some(number) = number {
-        said.push(ack_said(false, number, receiver, asked))?;
+        said.push(request_ack(false, number, receiver, asked))?;
     }
     Ok(said)
 }
@@ -153,28 +151,28 @@ fn ack_if<A: Allocator + Copy>(
 fn gathered<A: Allocator + Copy>(
     alloc: A,
     now: u64,
-    said: Items<Said<A>, A>,
+    said: Items<ServerSaid<A>, A>,
     asked: &Asked,
     receiver: Receiver<A>,
-) -> Result<Plan<A>, AllocError>
+) -> Result<ServerPlan<A>, AllocError>
     ensures { IfOk result (λ plan. plan ≡ gathered now said asked.now receiver) }
 {
-    let assembly = Assembly {
+    let gathering = RequestGathering {
         asked: *asked,
         receiver,
         at: now,
     };
-    Plan::changing(alloc, said, Change::Gathers(assembly))
+    ServerPlan::changing(alloc, said, ServerChange::Gathers(gathering))
 }
 
 impl<E: Executor<A> + Drop, A: Allocator + Copy> ServerTsm<E, A> {
     ghost use Rattle.std.specs.Prelude.{◌≡◌, ◌≤◌, ◌^◌, ◌==◌, IfOk, OnErr, Some, Ok, Err, length, option_copied};
     ghost use Rattle.primitives.specs.Sound.{IsSoundRequest};
     ghost use Rattle.remembered.specs.Records.{is_full, remembered};
-    ghost use Rattle.segments.specs.Numbers.{MAX_OCTETS};
+    ghost use Rattle.profile.specs.Limits.{MAX_SERVICE_DATA_OCTETS};
     ghost use Rattle.services.specs.Asked.{replied};
     ghost use Rattle.server_tsm.specs.Hearing.{
-      assembled,
+      gathering_of,
       begins_if,
       completed,
       executing,
@@ -191,6 +189,7 @@ impl<E: Executor<A> + Drop, A: Allocator + Copy> ServerTsm<E, A> {
       whole_heard,
     };
     ghost use Rattle.server_tsm.specs.Steps.{IsFinished, IsPlan, IsStep};
+    ghost use Rattle.profile.specs.Times.{MAX_MOMENT_MS};
 
     /// The answer to this asker that is remembered and lives.
     fn remembered(&self, now: u64, asker: Asker) -> Option<&Record<A>>
@@ -217,8 +216,8 @@ impl<E: Executor<A> + Drop, A: Allocator + Copy> ServerTsm<E, A> {
         now: u64,
         asked: &Asked,
         request: Request<A>,
-        said: Items<Said<A>, A>,
-    ) -> Result<Plan<A>, AllocError>
+        said: Items<ServerSaid<A>, A>,
+    ) -> Result<ServerPlan<A>, AllocError>
         requires { IsSoundRequest request }
         ensures { IfOk result (λ plan. plan ≡
             executing now said asked.now request (replied self.now.table request) self.now) }
@@ -240,15 +239,15 @@ impl<E: Executor<A> + Drop, A: Allocator + Copy> ServerTsm<E, A> {
         now: u64,
         asked: &Asked,
         found: Result<Request<A>, RejectReason>,
-        said: Items<Said<A>, A>,
-    ) -> Result<Plan<A>, AllocError>
+        said: Items<ServerSaid<A>, A>,
+    ) -> Result<ServerPlan<A>, AllocError>
         requires { IfOk found IsSoundRequest }
         ensures { IfOk result (λ plan. plan ≡ finished_by found now said asked.now self.now) }
     {
         match found {
             Err(reason) => rejecting(self.alloc, said, reason, asked),
             Ok(_) if self.is_full(now) => {
-                let change = Change::GivesUp(asked.asker);
+                let change = ServerChange::GivesUp(asked.asker);
                 aborting(self.alloc, said, AbortReason::OutOfResources, asked, change)
             }
             Ok(request) => self.executing(now, asked, request, said),
@@ -261,13 +260,13 @@ impl<E: Executor<A> + Drop, A: Allocator + Copy> ServerTsm<E, A> {
         now: u64,
         asked: &Asked,
         octets: &[u8],
-        said: Items<Said<A>, A>,
-    ) -> Result<Plan<A>, AllocError>
+        said: Items<ServerSaid<A>, A>,
+    ) -> Result<ServerPlan<A>, AllocError>
         ensures { IfOk result (IsFinished now
             (completed (record { asked = asked.now; octets = octets.now; says = said })) self.now) }
     {
-        if octets.len() > MAX_OCTETS {
-            let change = Change::GivesUp(asked.asker);
+        if octets.len() > MAX_SERVICE_DATA_OCTETS {
+            let change = ServerChange::GivesUp(asked.asker);
             return aborting(self.alloc, said, AbortReason::BufferOverflow, asked, change);
         }
         let found = decode_request(self.alloc, asked.service, octets)?;
@@ -275,7 +274,12 @@ impl<E: Executor<A> + Drop, A: Allocator + Copy> ServerTsm<E, A> {
     }
 
     /// A request in one APDU.
-    fn whole_heard(&self, now: u64, asked: &Asked, octets: &[u8]) -> Result<Plan<A>, AllocError>
+    fn whole_heard(
+        &self,
+        now: u64,
+        asked: &Asked,
+        octets: &[u8],
+    ) -> Result<ServerPlan<A>, AllocError>
         ensures { IfOk result (IsFinished now
             (whole_heard (remembered now asked.now.asker self.now.records) now asked.now octets.now) self.now) }
     {
@@ -293,7 +297,7 @@ impl<E: Executor<A> + Drop, A: Allocator + Copy> ServerTsm<E, A> {
         more: bool,
         asked: &Asked,
         receiver: Receiver<A>,
-    ) -> Result<Plan<A>, AllocError>
+    ) -> Result<ServerPlan<A>, AllocError>
         ensures { IfOk result (IsFinished now (joined_by step more now asked.now receiver) self.now) }
     {
         match step {
@@ -306,12 +310,12 @@ impl<E: Executor<A> + Drop, A: Allocator + Copy> ServerTsm<E, A> {
             }
             Step::Nak(number) => {
                 let mut said = Items::new(self.alloc);
-                said.push(ack_said(true, number, &receiver, asked))?;
+                said.push(request_ack(true, number, &receiver, asked))?;
                 gathered(self.alloc, now, said, asked, receiver)
             }
             Step::Dropped => gathered(self.alloc, now, Items::new(self.alloc), asked, receiver),
             Step::Full => {
-                let change = Change::GivesUp(asked.asker);
+                let change = ServerChange::GivesUp(asked.asker);
                 aborting(
                     self.alloc,
                     Items::new(self.alloc),
@@ -331,7 +335,7 @@ impl<E: Executor<A> + Drop, A: Allocator + Copy> ServerTsm<E, A> {
         mut receiver: Receiver<A>,
         segment: &Segment,
         octets: &[u8],
-    ) -> Result<Plan<A>, AllocError>
+    ) -> Result<ServerPlan<A>, AllocError>
         ensures { IfOk result (IsFinished now (joined now asked.now receiver segment.now octets.now) self.now) }
     {
         let more = segment.more_follows;
@@ -346,22 +350,22 @@ impl<E: Executor<A> + Drop, A: Allocator + Copy> ServerTsm<E, A> {
         asked: &Asked,
         segment: &Segment,
         octets: &[u8],
-    ) -> Result<Plan<A>, AllocError>
+    ) -> Result<ServerPlan<A>, AllocError>
         ensures { IfOk result (IsFinished now
-            (begins_if (segment.now.sequence_number == 0) (is_crowded now self.now.assemblies) now asked.now segment.now
+            (begins_if (segment.now.sequence_number == 0) (is_crowded now self.now.gatherings) now asked.now segment.now
             octets.now) self.now) }
     {
         if segment.sequence_number != 0 {
-            return Ok(Plan::nothing());
+            return Ok(ServerPlan::nothing());
         }
-        if is_crowded(self.assemblies.as_slice(), now) {
+        if is_crowded(self.gatherings.as_slice(), now) {
             let said = Items::new(self.alloc);
             return aborting(
                 self.alloc,
                 said,
                 AbortReason::OutOfResources,
                 asked,
-                Change::Stays,
+                ServerChange::Stays,
             );
         }
         let receiver = Receiver::new(self.alloc, granted_window(segment.window));
@@ -372,22 +376,22 @@ impl<E: Executor<A> + Drop, A: Allocator + Copy> ServerTsm<E, A> {
     fn continued(
         &self,
         now: u64,
-        assembly: &Assembly<A>,
+        gathering: &RequestGathering<A>,
         asked: &Asked,
         segment: &Segment,
         octets: &[u8],
-    ) -> Result<Plan<A>, AllocError>
+    ) -> Result<ServerPlan<A>, AllocError>
         ensures { IfOk result (IsFinished now
-            (part_joined (Some assembly.now) now asked.now segment.now octets.now self.now.assemblies) self.now) }
+            (part_joined (Some gathering.now) now asked.now segment.now octets.now self.now.gatherings) self.now) }
     {
-        if asked.service != assembly.asked.service {
-            return Ok(Plan::nothing());
+        if asked.service != gathering.asked.service {
+            return Ok(ServerPlan::nothing());
         }
         let asked = Asked {
             way: asked.way,
-            ..assembly.asked
+            ..gathering.asked
         };
-        self.joined(now, &asked, assembly.receiver.copy()?, segment, octets)
+        self.joined(now, &asked, gathering.receiver.copy()?, segment, octets)
     }
 
     /// A segment of a request whose answer is not remembered.
@@ -397,13 +401,13 @@ impl<E: Executor<A> + Drop, A: Allocator + Copy> ServerTsm<E, A> {
         asked: &Asked,
         segment: &Segment,
         octets: &[u8],
-    ) -> Result<Plan<A>, AllocError>
+    ) -> Result<ServerPlan<A>, AllocError>
         ensures { IfOk result (IsFinished now
-            (part_joined (assembled now asked.now.asker self.now.assemblies) now asked.now segment.now octets.now
-            self.now.assemblies) self.now) }
+            (part_joined (gathering_of now asked.now.asker self.now.gatherings) now asked.now segment.now octets.now
+            self.now.gatherings) self.now) }
     {
-        match assembled(self.assemblies.as_slice(), now, asked.asker) {
-            Some(assembly) => self.continued(now, assembly, asked, segment, octets),
+        match gathering_of(self.gatherings.as_slice(), now, asked.asker) {
+            Some(gathering) => self.continued(now, gathering, asked, segment, octets),
             None => self.begun(now, asked, segment, octets),
         }
     }
@@ -415,10 +419,10 @@ impl<E: Executor<A> + Drop, A: Allocator + Copy> ServerTsm<E, A> {
         asked: &Asked,
         segment: &Segment,
         octets: &[u8],
-    ) -> Result<Plan<A>, AllocError>
+    ) -> Result<ServerPlan<A>, AllocError>
         ensures { IfOk result (IsFinished now
             (part_heard (remembered now asked.now.asker self.now.records) now asked.now segment.now octets.now
-            self.now.assemblies) self.now) }
+            self.now.gatherings) self.now) }
     {
         match self.remembered(now, asked.asker) {
             Some(entry) => repeated(self.alloc, now, asked.way, entry),
@@ -434,13 +438,13 @@ impl<E: Executor<A> + Drop, A: Allocator + Copy> ServerTsm<E, A> {
         asked: &Asked,
         segment: Option<Segment>,
         octets: &[u8],
-    ) -> Result<Plan<A>, AllocError>
+    ) -> Result<ServerPlan<A>, AllocError>
         ensures { IfOk result (IsFinished now
             (unless (is_deaf now by_broadcast self.now) (request_heard segment now asked.now octets.now self.now))
             self.now) }
     {
         if by_broadcast || now < self.quiet_until {
-            return Ok(Plan::nothing());
+            return Ok(ServerPlan::nothing());
         }
         match segment {
             None => self.whole_heard(now, asked, octets),
@@ -453,7 +457,12 @@ impl<E: Executor<A> + Drop, A: Allocator + Copy> ServerTsm<E, A> {
     ///
     /// # Errors
     /// Want of memory.
-    pub fn plan(&self, origin: &Origin, apdu: &Apdu<'_>, now: u64) -> Result<Plan<A>, AllocError>
+    pub fn plan(
+        &self,
+        origin: &Origin,
+        apdu: &Apdu<'_>,
+        now: u64,
+    ) -> Result<ServerPlan<A>, AllocError>
         ensures { IfOk result (IsPlan now origin.now (heard_of apdu.now) self.now) }
     {
         let asker = Asker {
@@ -497,7 +506,7 @@ impl<E: Executor<A> + Drop, A: Allocator + Copy> ServerTsm<E, A> {
             Apdu::Abort { server: false, .. } => {
                 given_up(self.alloc, self.remembered(now, asker), asker)
             }
-            _ => Ok(Plan::nothing()),
+            _ => Ok(ServerPlan::nothing()),
         }
     }
 
@@ -510,10 +519,10 @@ impl<E: Executor<A> + Drop, A: Allocator + Copy> ServerTsm<E, A> {
         origin: &Origin,
         apdu: &Apdu<'_>,
         now: u64,
-    ) -> Result<Effects<A>, AllocError>
-        requires greatest { now ≤ 2 ^ 62 }
+    ) -> Result<ServerTold<A>, AllocError>
+        requires greatest { now ≤ MAX_MOMENT_MS }
         requires order { self.old.moment ≤ now }
-        ensures step { IfOk result (λ effects. IsStep now origin.now (heard_of apdu.now) self.old effects self.new) }
+        ensures step { IfOk result (λ told. IsStep now origin.now (heard_of apdu.now) self.old told self.new) }
         ensures unchanged { OnErr result (self.new ≡ self.old) }
     {
         let plan = self.plan(origin, apdu, now)?;

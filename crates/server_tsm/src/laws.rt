@@ -42,7 +42,7 @@ pub fn repeat_is_said_again<A: Allocator>()
     ensures nothing { RememberedIsNotExecuted A }
 {}
 
-/// A request is aborted for want of resources only where 64 answers live, or 16 requests are assembled; and no such
+/// A request is aborted for want of resources only where 64 answers live, or 16 requests are gathered; and no such
 /// Abort is remembered as its answer.
 pub fn busy_is_full<A: Allocator>()
     ensures busy { BusyIsFull A }

@@ -9,31 +9,57 @@
 //! - `server`: the server, and what changes of it.
 //! - `hearing`, `sending`, `waking`: an APDU that is heard, an answer in segments, a wake: what is planned, and the
 //!   whole step.
-//! - `answering`, `limits`: what is answered to a request, how long an answer may be, and how it is cut.
-//! - `asked`, `assembling`: who asks, and the segments of a request.
-//! - `said`, `plan`: what is said, executed and changed.
+//! - `gatherings`: the requests of which segments came.
 //! - `laws`: what holds of any server, for the proofs of the layers above.
+//!
+//! What is answered, and the plans, are of `server_answers`; their types are given on from here.
+//!
+//! The states of 5.4.5 for one asker, which is a station and an invoke ID:
+//!
+//! ```text
+//!          +------+  the first segment   +-------------------+
+//!     +--->| IDLE |--------------------->| SEGMENTED_REQUEST |
+//!     |    |      |<---------------------|                   |
+//!     |    +------+   too old, or Abort  +-------------------+
+//!     |       | a whole request                    | the last segment
+//!     |       v                                    v
+//!     |    +-------------------------------------------------+
+//!     |<---|                 AWAIT_RESPONSE                  |   rejected, or aborted
+//!     |    +-------------------------------------------------+
+//!     |       | executed: it is            | executed: it is answered
+//!     |       | answered whole             | in segments
+//!     |       v                            v
+//!     |    +------------+   a repeat     +--------------------+
+//!     |    | remembered |--------------->| SEGMENTED_RESPONSE |
+//!     |    |            |<---------------|                    |   acknowledged, Abort, or no more retries
+//!     |    +------------+                +--------------------+
+//!     |       |                            |
+//!     +-------+----------------------------+   too old: so long after its execution
+//! ```
+//!
+//! What our state has of an asker in each:
+//!
+//! - IDLE: no record and no gathering.
+//! - SEGMENTED_REQUEST: one of the `gatherings`.
+//! - AWAIT_RESPONSE: nothing; it is passed through within one call, since objects reply at once.
+//! - SEGMENTED_RESPONSE: one of the `records`, whose `sending` is `Some`.
+//! - remembered, which is IDLE to the standard: one of the `records`, whose `sending` is `None`; a repeat of a request
+//!   whose answer goes whole is answered from there, and leaves it so.
 #![tactic(auto)]
 
-mod answering;
-mod asked;
-mod assembling;
-mod assembly;
+mod gatherings;
 mod hearing;
-pub mod laws;
-mod limits;
-mod plan;
-mod said;
+mod laws;
 mod sending;
 mod server;
 mod waking;
 
-pub use asked::{AnswerLimits, Asked, Origin};
-pub use assembly::Assembly;
 pub use laws::{
     answer_is_whole, busy_is_full, dead_is_silent, deaf_does_nothing, one_plan,
     repeat_is_said_again, stays_timely, whole_is_executed,
 };
-pub use plan::{Change, Effects, Executed, Plan, Saying, Spoken};
-pub use said::{Said, write_whole};
 pub use server::ServerTsm;
+pub use server_answers::{
+    AnswerLimits, Asked, Executed, Origin, RequestGathering, Saying, ServerChange, ServerPlan,
+    ServerPlanSaid, ServerSaid, ServerTold, write_whole,
+};

@@ -3,23 +3,25 @@
 ghost use Rattle.std.specs.Prelude.{◌≡◌, IfOk, None, option_copied};
 ghost use Rattle.remembered.specs.Records.{said_on};
 ghost use Rattle.server_tsm.specs.Hearing.{ack_heard, ack_taken, given_up, is_sending};
-ghost use Rattle.server_tsm.specs.Hearing.{quiet, repeated, said_with, turned_by};
+ghost use Rattle.server_answers.specs.Plan.{quiet};
+ghost use Rattle.server_tsm.specs.Hearing.{repeated, answer_plan, turned_by};
 ghost use Rattle.server_tsm.specs.Waking.{saying_by};
 
-use crate::answering::answer;
-use crate::limits::begun;
-use crate::plan::{Change, Plan, Saying};
 use npdu::Way;
 use remembered::{Asker, Record};
 use segments::{Sender, Turn};
+use server_answers::{Saying, ServerChange, ServerPlan, begun, push_answer};
 use std::alloc::{AllocError, Allocator};
 use tags::Items;
 
 /// Nothing is said or executed, and this changes.
-fn quiet<A: Allocator + Copy>(alloc: A, change: Change<A>) -> Result<Plan<A>, AllocError>
+fn quiet<A: Allocator + Copy>(
+    alloc: A,
+    change: ServerChange<A>,
+) -> Result<ServerPlan<A>, AllocError>
     ensures { IfOk result (λ plan. plan ≡ quiet change) }
 {
-    Plan::changing(alloc, Items::new(alloc), change)
+    ServerPlan::changing(alloc, Items::new(alloc), change)
 }
 
 /// Whether an answer is being said in segments.
@@ -33,22 +35,22 @@ fn is_sending(now: u64, sending: Option<Sender>) -> bool
 }
 
 /// An answer is said on this way, by what goes on sending it, or whole.
-fn said_with<A: Allocator + Copy>(
+fn answer_plan<A: Allocator + Copy>(
     alloc: A,
     sending: Option<Sender>,
     way: Way,
     entry: &Record<A>,
-) -> Result<Plan<A>, AllocError>
-    ensures { IfOk result (λ plan. plan ≡ said_with sending way entry.now) }
+) -> Result<ServerPlan<A>, AllocError>
+    ensures { IfOk result (λ plan. plan ≡ answer_plan sending way entry.now) }
 {
     let mut said = Items::new(alloc);
-    answer(alloc, &sending, way, entry, &mut said)?;
+    push_answer(alloc, &sending, way, entry, &mut said)?;
     let saying = Saying {
         asker: entry.asker,
         way,
         sending,
     };
-    Plan::changing(alloc, said, Change::Says(saying))
+    ServerPlan::changing(alloc, said, ServerChange::Says(saying))
 }
 
 /// A request came whose answer is remembered: while segments of it are said it is dropped, else it is said again.
@@ -57,20 +59,20 @@ pub(crate) fn repeated<A: Allocator + Copy>(
     now: u64,
     way: Way,
     entry: &Record<A>,
-) -> Result<Plan<A>, AllocError>
+) -> Result<ServerPlan<A>, AllocError>
     ensures { IfOk result (λ plan. plan ≡ repeated now way entry.now) }
 {
     if is_sending(now, entry.sending) {
-        return Ok(Plan::nothing());
+        return Ok(ServerPlan::nothing());
     }
-    said_with(alloc, begun(now, entry.chunk, &entry.answer), way, entry)
+    answer_plan(alloc, begun(now, entry.chunk, &entry.answer), way, entry)
 }
 
 /// Nothing more of an answer is said.
-fn ended<A: Allocator>(way: Way, entry: &Record<A>) -> Change<A>
-    ensures { result ≡ Change.Says (saying_by None (said_on way None entry.now)) }
+fn ended<A: Allocator>(way: Way, entry: &Record<A>) -> ServerChange<A>
+    ensures { result ≡ ServerChange.Says (saying_by None (said_on way None entry.now)) }
 {
-    Change::Says(Saying {
+    ServerChange::Says(Saying {
         asker: entry.asker,
         way,
         sending: None,
@@ -84,12 +86,12 @@ fn turned_by<A: Allocator + Copy>(
     sender: Sender,
     way: Way,
     entry: &Record<A>,
-) -> Result<Plan<A>, AllocError>
+) -> Result<ServerPlan<A>, AllocError>
     ensures { IfOk result (λ plan. plan ≡ turned_by turn sender way entry.now) }
 {
     match turn {
-        Turn::Waits => Ok(Plan::nothing()),
-        Turn::Sends => said_with(alloc, Some(sender), way, entry),
+        Turn::Waits => Ok(ServerPlan::nothing()),
+        Turn::Sends => answer_plan(alloc, Some(sender), way, entry),
         Turn::Ends => quiet(alloc, ended(way, entry)),
     }
 }
@@ -101,12 +103,12 @@ fn ack_taken<A: Allocator + Copy>(
     ack: Ack,
     way: Way,
     entry: &Record<A>,
-) -> Result<Plan<A>, AllocError>
+) -> Result<ServerPlan<A>, AllocError>
     ensures { IfOk result (λ plan. plan ≡
         ack_taken entry.now.sending now ack.number ack.window ack.negative way entry.now) }
 {
     match entry.sending {
-        None => Ok(Plan::nothing()),
+        None => Ok(ServerPlan::nothing()),
         Some(mut sender) => {
             let turn = sender.on_ack(ack.number, ack.window, ack.negative, now);
             turned_by(alloc, turn, sender, way, entry)
@@ -144,26 +146,26 @@ pub(crate) fn ack_heard<A: Allocator + Copy>(
     now: u64,
     ack: Ack,
     way: Way,
-) -> Result<Plan<A>, AllocError>
+) -> Result<ServerPlan<A>, AllocError>
     ensures { IfOk result (λ plan. plan ≡
         ack_heard (option_copied found.entry) now ack.number ack.window ack.negative way) }
 {
     match found {
-        None => Ok(Plan::nothing()),
+        None => Ok(ServerPlan::nothing()),
         Some(entry) => ack_taken(alloc, now, ack, way, entry),
     }
 }
 
-/// An Abort of the client ends the saying of the answer, which stays remembered, or the assembling.
+/// An Abort of the client ends the saying of the answer, which stays remembered, or the gathering.
 pub(crate) fn given_up<A: Allocator + Copy>(
     alloc: A,
     found: Option<&Record<A>>,
     asker: Asker,
-) -> Result<Plan<A>, AllocError>
+) -> Result<ServerPlan<A>, AllocError>
     ensures { IfOk result (λ plan. plan ≡ given_up (option_copied found.entry) asker) }
 {
     match found {
-        None => quiet(alloc, Change::GivesUp(asker)),
+        None => quiet(alloc, ServerChange::GivesUp(asker)),
         Some(entry) => quiet(alloc, ended(entry.way, entry)),
     }
 }

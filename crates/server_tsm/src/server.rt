@@ -2,16 +2,17 @@
 
 ghost use Rattle.std.specs.Prelude.{◌≡◌, ◌<◌, ◌∷◌, ◌++◌, []};
 ghost use Rattle.std.specs.Prelude.{vec_capacity, vec_len};
-ghost use Rattle.server_tsm.specs.Waking.{all_said_so};
+ghost use Rattle.server_tsm.specs.Waking.{after_sayings};
 
-use crate::answering::list_whole;
-use crate::assembling::{copied, keep_gathered};
-use crate::assembly::Assembly;
-use crate::plan::{Change, Deed, Effects, Executed, Held, Parts, Plan, Saying};
-use objects::Request;
+use crate::gatherings::{copied, keep_gathered};
+use apdu::MaxApdu;
+use primitives::Request;
 use remembered::{Asker, Record, Records, SlabRecords};
-use server_rules::restart;
-use services::{Executor, MaxApdu};
+use server_answers::{
+    Executed, Planned, RequestGathering, Saying, ServerChange, ServerPlan, ServerTold, push_whole,
+    restart,
+};
+use services::Executor;
 use std::alloc::{AllocError, Allocator};
 use std::marker::Model;
 use tags::Items;
@@ -21,7 +22,7 @@ use tags::Items;
 pub struct ServerTsm<E: Executor<A> + Drop, A: Allocator> {
     pub(crate) alloc: A,
     pub(crate) records: SlabRecords<A>,
-    pub(crate) assemblies: Vec<Assembly<A>, A>,
+    pub(crate) gatherings: Vec<RequestGathering<A>, A>,
     pub(crate) executor: E,
     pub(crate) max_apdu: MaxApdu,
     pub(crate) quiet_until: u64,
@@ -35,7 +36,7 @@ impl<E: Executor<A> + Drop, A: Allocator> Model for ServerTsm<E, A> {
 
     ghost view = { λ s. record {
       records = s.records;
-      assemblies = s.assemblies.items;
+      gatherings = s.gatherings.items;
       table = E.table_of s.executor;
       max_apdu = s.max_apdu;
       quiet_until = s.quiet_until;
@@ -55,7 +56,7 @@ fn push_reserved<T: Drop, A: Allocator>(list: &mut Vec<T, A>, item: T)
 
 /// Answers are said so, one after another.
 fn say_all<A: Allocator + Copy>(records: &mut SlabRecords<A>, sayings: &[Saying])
-    ensures { records.new ≡ all_said_so sayings.now records.old }
+    ensures { records.new ≡ after_sayings sayings.now records.old }
 {
     for saying in sayings {
         records.replace(saying.asker, saying.way, saying.sending);
@@ -65,9 +66,9 @@ fn say_all<A: Allocator + Copy>(records: &mut SlabRecords<A>, sayings: &[Saying]
 #[tactic(auto, using(crate::proofs::Timely::timely_rules))]
 impl<E: Executor<A> + Drop, A: Allocator + Copy> ServerTsm<E, A> {
     ghost use Rattle.std.specs.Prelude.{◌≡◌, ◌≤◌, ◌^◌, IfOk, OnOk, OnErr, None};
-    ghost use Rattle.server_tsm.specs.Plan.{changed_by, executed_by};
     ghost use Rattle.server_tsm.specs.Server.{committed, new_server, restarted};
-    ghost use Rattle.server_tsm.specs.Steps.{effects_of};
+    ghost use Rattle.server_tsm.specs.Steps.{told_of_plan};
+    ghost use Rattle.profile.specs.Times.{MAX_MOMENT_MS};
 
     /// A server that has executed nothing, on the objects of this executor, whose memory will be that of `alloc`.
     /// Its link carries APDUs of at most this size. It takes no memory.
@@ -77,7 +78,7 @@ impl<E: Executor<A> + Drop, A: Allocator + Copy> ServerTsm<E, A> {
         ServerTsm {
             alloc,
             records: SlabRecords::new(alloc),
-            assemblies: Vec::new(alloc),
+            gatherings: Vec::new(alloc),
             executor,
             max_apdu,
             quiet_until: 0,
@@ -109,7 +110,7 @@ impl<E: Executor<A> + Drop, A: Allocator + Copy> ServerTsm<E, A> {
         Ok(ServerTsm {
             alloc: self.alloc,
             records: self.records.copy()?,
-            assemblies: copied(self.alloc, self.assemblies.as_slice())?,
+            gatherings: copied(self.alloc, self.gatherings.as_slice())?,
             executor: self.executor.copy()?,
             max_apdu: self.max_apdu,
             quiet_until: self.quiet_until,
@@ -118,14 +119,14 @@ impl<E: Executor<A> + Drop, A: Allocator + Copy> ServerTsm<E, A> {
     }
 
     /// Restarts at the moment `now`, in milliseconds, with the objects of this executor: it forgets all that it
-    /// remembers and assembles, and takes no request for 13000. It takes no memory, and says nothing.
+    /// remembers and gathers, and takes no request for 13000. It takes no memory, and says nothing.
     pub fn restart(&mut self, executor: E, now: u64)
-        requires greatest { now ≤ 2 ^ 62 }
+        requires greatest { now ≤ MAX_MOMENT_MS }
         requires order { self.old.moment ≤ now }
         ensures { self.new ≡ restarted now (E.table_of executor) self.old }
     {
         self.records.clear();
-        self.assemblies.clear();
+        self.gatherings.clear();
         restart(&mut self.executor, &mut self.quiet_until, executor, now);
         self.moment = now;
     }
@@ -136,77 +137,85 @@ impl<E: Executor<A> + Drop, A: Allocator + Copy> ServerTsm<E, A> {
     ///
     /// # Errors
     /// Want of memory, where a request is executed or came so far. The server is then as it was.
-    pub fn commit(&mut self, plan: Plan<A>, now: u64) -> Result<Option<Executed<A>>, AllocError>
-        requires greatest { now ≤ 2 ^ 62 }
+    pub fn commit(
+        &mut self,
+        plan: ServerPlan<A>,
+        now: u64,
+    ) -> Result<Option<Executed<A>>, AllocError>
+        requires greatest { now ≤ MAX_MOMENT_MS }
         requires order { self.old.moment ≤ now }
         ensures done { OnOk result (self.new ≡ committed now plan.change self.old) }
-        ensures told { IfOk result (λ told. told ≡ plan.told) }
+        ensures told { IfOk result (λ told. told ≡ plan.executed) }
         ensures unchanged { OnErr result (self.new ≡ self.old) }
     {
-        match plan.held {
-            Held::Nothing => {
+        match plan.into_planned() {
+            None => {
                 self.moment = now;
                 Ok(None)
             }
-            Held::Planned(parts) => self.carry_out(Box::into_inner(parts).deed, now),
-        }
-    }
-
-    /// Does what was planned, and answers what is said and executed.
-    pub(crate) fn take(&mut self, plan: Plan<A>, now: u64) -> Result<Effects<A>, AllocError>
-        requires greatest { now ≤ 2 ^ 62 }
-        requires order { self.old.moment ≤ now }
-        ensures effects { IfOk result (λ effects. effects ≡ effects_of plan) }
-        ensures left { OnOk result (self.new ≡ committed now plan.change self.old) }
-        ensures unchanged { OnErr result (self.new ≡ self.old) }
-    {
-        let Held::Planned(parts) = plan.held else {
-            self.moment = now;
-            return Ok(Effects {
-                said: Items::new(self.alloc),
-                told: None,
-            });
-        };
-        let Parts { mut said, deed } = Box::into_inner(parts);
-        list_whole(self.alloc, deed.whole(), &mut said)?;
-        let told = self.carry_out(deed, now)?;
-        Ok(Effects { said, told })
-    }
-
-    /// Does a deed, and answers the request that was executed.
-    fn carry_out(&mut self, deed: Deed<A>, now: u64) -> Result<Option<Executed<A>>, AllocError>
-        requires greatest { now ≤ 2 ^ 62 }
-        requires order { self.old.moment ≤ now }
-        ensures done { OnOk result (self.new ≡ committed now (changed_by deed) self.old) }
-        ensures told { IfOk result (λ told. told ≡ executed_by deed) }
-        ensures unchanged { OnErr result (self.new ≡ self.old) }
-    {
-        match deed {
-            Deed::Changes(change) => {
+            Some(Planned::Changes(_, change)) => {
                 self.change(change, now)?;
                 Ok(None)
             }
-            Deed::Executes(executed, entry) => {
+            Some(Planned::Executes(_, executed, entry)) => {
                 self.execute(&executed.request, entry, now)?;
                 Ok(Some(executed))
             }
         }
     }
 
+    /// Does what was planned, and answers what is said and executed.
+    pub(crate) fn take(
+        &mut self,
+        plan: ServerPlan<A>,
+        now: u64,
+    ) -> Result<ServerTold<A>, AllocError>
+        requires greatest { now ≤ MAX_MOMENT_MS }
+        requires order { self.old.moment ≤ now }
+        ensures told { IfOk result (λ told. told ≡ told_of_plan plan) }
+        ensures left { OnOk result (self.new ≡ committed now plan.change self.old) }
+        ensures unchanged { OnErr result (self.new ≡ self.old) }
+    {
+        match plan.into_planned() {
+            None => {
+                self.moment = now;
+                Ok(ServerTold {
+                    said: Items::new(self.alloc),
+                    executed: None,
+                })
+            }
+            Some(Planned::Changes(said, change)) => {
+                self.change(change, now)?;
+                Ok(ServerTold {
+                    said,
+                    executed: None,
+                })
+            }
+            Some(Planned::Executes(mut said, executed, entry)) => {
+                push_whole(self.alloc, &entry, &mut said)?;
+                self.execute(&executed.request, entry, now)?;
+                Ok(ServerTold {
+                    said,
+                    executed: Some(executed),
+                })
+            }
+        }
+    }
+
     /// Makes a change.
-    fn change(&mut self, change: Change<A>, now: u64) -> Result<(), AllocError>
-        requires greatest { now ≤ 2 ^ 62 }
+    fn change(&mut self, change: ServerChange<A>, now: u64) -> Result<(), AllocError>
+        requires greatest { now ≤ MAX_MOMENT_MS }
         requires order { self.old.moment ≤ now }
         ensures done { OnOk result (self.new ≡ committed now change self.old) }
         ensures unchanged { OnErr result (self.new ≡ self.old) }
     {
         match change {
-            Change::Stays => self.moment = now,
-            Change::Says(saying) => self.say(saying, now),
-            Change::Gathers(assembly) => self.gather(assembly, now)?,
-            Change::GivesUp(asker) => self.give_up(asker, now),
-            Change::Executes(request, entry) => self.execute(&request, entry, now)?,
-            Change::Wakes(sayings) => self.wake(sayings.as_slice(), now),
+            ServerChange::Stays => self.moment = now,
+            ServerChange::Says(saying) => self.say(saying, now),
+            ServerChange::Gathers(gathering) => self.gather(gathering, now)?,
+            ServerChange::GivesUp(asker) => self.give_up(asker, now),
+            ServerChange::Executes(request, entry) => self.execute(&request, entry, now)?,
+            ServerChange::Wakes(sayings) => self.wake(sayings.as_slice(), now),
         }
         Ok(())
     }
@@ -214,7 +223,7 @@ impl<E: Executor<A> + Drop, A: Allocator + Copy> ServerTsm<E, A> {
     /// An answer is said so.
     fn say(&mut self, saying: Saying, now: u64)
         requires { self.old.moment ≤ now }
-        ensures { self.new ≡ committed now (Change.Says saying) self.old }
+        ensures { self.new ≡ committed now (ServerChange.Says saying) self.old }
     {
         self.records
             .replace(saying.asker, saying.way, saying.sending);
@@ -222,14 +231,14 @@ impl<E: Executor<A> + Drop, A: Allocator + Copy> ServerTsm<E, A> {
     }
 
     /// A request came so far.
-    fn gather(&mut self, assembly: Assembly<A>, now: u64) -> Result<(), AllocError>
+    fn gather(&mut self, gathering: RequestGathering<A>, now: u64) -> Result<(), AllocError>
         requires { self.old.moment ≤ now }
-        ensures done { OnOk result (self.new ≡ committed now (Change.Gathers assembly) self.old) }
+        ensures done { OnOk result (self.new ≡ committed now (ServerChange.Gathers gathering) self.old) }
         ensures unchanged { OnErr result (self.new ≡ self.old) }
     {
-        self.assemblies.reserve(1)?;
-        keep_gathered(&mut self.assemblies, now, Some(assembly.asked.asker));
-        push_reserved(&mut self.assemblies, assembly);
+        self.gatherings.reserve(1)?;
+        keep_gathered(&mut self.gatherings, now, Some(gathering.asked.asker));
+        push_reserved(&mut self.gatherings, gathering);
         self.moment = now;
         Ok(())
     }
@@ -237,9 +246,9 @@ impl<E: Executor<A> + Drop, A: Allocator + Copy> ServerTsm<E, A> {
     /// What came of a request of this asker is given up.
     fn give_up(&mut self, asker: Asker, now: u64)
         requires { self.old.moment ≤ now }
-        ensures { self.new ≡ committed now (Change.GivesUp asker) self.old }
+        ensures { self.new ≡ committed now (ServerChange.GivesUp asker) self.old }
     {
-        keep_gathered(&mut self.assemblies, now, Some(asker));
+        keep_gathered(&mut self.gatherings, now, Some(asker));
         self.moment = now;
     }
 
@@ -252,14 +261,14 @@ impl<E: Executor<A> + Drop, A: Allocator + Copy> ServerTsm<E, A> {
         now: u64,
     ) -> Result<(), AllocError>
         requires { self.old.moment ≤ now }
-        ensures done { OnOk result (self.new ≡ committed now (Change.Executes request.now kept) self.old) }
+        ensures done { OnOk result (self.new ≡ committed now (ServerChange.Executes request.now kept) self.old) }
         ensures unchanged { OnErr result (self.new ≡ self.old) }
     {
         kept.at = now;
         let asker = kept.asker;
         self.records.execute(kept, &mut self.executor, request)?;
         self.records.forget_dead(now);
-        keep_gathered(&mut self.assemblies, now, Some(asker));
+        keep_gathered(&mut self.gatherings, now, Some(asker));
         self.moment = now;
         Ok(())
     }
@@ -267,11 +276,11 @@ impl<E: Executor<A> + Drop, A: Allocator + Copy> ServerTsm<E, A> {
     /// What is too old is forgotten, and answers are said so. It takes no memory.
     fn wake(&mut self, sayings: &[Saying], now: u64)
         requires { self.old.moment ≤ now }
-        ensures { self.new ≡ committed now (Change.Wakes sayings.now) self.old }
+        ensures { self.new ≡ committed now (ServerChange.Wakes sayings.now) self.old }
     {
         self.records.forget_dead(now);
         say_all(&mut self.records, sayings);
-        keep_gathered(&mut self.assemblies, now, None);
+        keep_gathered(&mut self.gatherings, now, None);
         self.moment = now;
     }
 }

@@ -2,15 +2,13 @@
 
 ghost use Rattle.std.specs.Prelude.{◌≡◌, ◌++◌, ◌+◌, OnOk, drop};
 ghost use Rattle.std.specs.List.{flat_map};
-ghost use Rattle.server_tsm.specs.Waking.{again, said_of, saying_of, turn_of};
+ghost use Rattle.server_tsm.specs.Waking.{again, said_on_wake, saying_on_wake, turn_of};
 
-use crate::answering::answer;
-use crate::plan::{Change, Effects, Plan, Saying};
-use crate::said::Said;
 use crate::server::ServerTsm;
+use profile::lives;
 use remembered::{Record, Records, SlabRecords};
 use segments::{Sender, Turn};
-use server_rules::lives;
+use server_answers::{Saying, ServerChange, ServerPlan, ServerSaid, ServerTold, push_answer};
 use services::Executor;
 use std::alloc::{AllocError, Allocator};
 use tags::Items;
@@ -47,17 +45,17 @@ fn wake_one<A: Allocator + Copy>(
     alloc: A,
     now: u64,
     entry: &Record<A>,
-    said: &mut Items<Said<A>, A>,
+    said: &mut Items<ServerSaid<A>, A>,
     sayings: &mut Items<Saying, A>,
 ) -> Result<(), AllocError>
-    ensures said { OnOk result (said.new ≡ said.old ++ said_of now entry.now) }
-    ensures sayings { OnOk result (sayings.new ≡ sayings.old ++ saying_of now entry.now) }
+    ensures said { OnOk result (said.new ≡ said.old ++ said_on_wake now entry.now) }
+    ensures sayings { OnOk result (sayings.new ≡ sayings.old ++ saying_on_wake now entry.now) }
 {
     let sending = match turn_of(entry, now) {
         Turn::Waits => return Ok(()),
         Turn::Sends => {
             let sending = again(&entry.sending, now);
-            answer(alloc, &sending, entry.way, entry, said)?;
+            push_answer(alloc, &sending, entry.way, entry, said)?;
             sending
         }
         Turn::Ends => None,
@@ -76,13 +74,13 @@ fn wake_at<A: Allocator + Copy>(
     now: u64,
     records: &SlabRecords<A>,
     place: usize,
-    said: &mut Items<Said<A>, A>,
+    said: &mut Items<ServerSaid<A>, A>,
     sayings: &mut Items<Saying, A>,
 ) -> Result<(), AllocError>
-    ensures said { OnOk result (said.new ++ flat_map (said_of now) (drop (place + 1) records.now) ≡
-        said.old ++ flat_map (said_of now) (drop place records.now)) }
-    ensures sayings { OnOk result (sayings.new ++ flat_map (saying_of now) (drop (place + 1) records.now) ≡
-        sayings.old ++ flat_map (saying_of now) (drop place records.now)) }
+    ensures said { OnOk result (said.new ++ flat_map (said_on_wake now) (drop (place + 1) records.now) ≡
+        said.old ++ flat_map (said_on_wake now) (drop place records.now)) }
+    ensures sayings { OnOk result (sayings.new ++ flat_map (saying_on_wake now) (drop (place + 1) records.now) ≡
+        sayings.old ++ flat_map (saying_on_wake now) (drop place records.now)) }
 {
     match records.at(place) {
         None => Ok(()),
@@ -93,15 +91,16 @@ fn wake_at<A: Allocator + Copy>(
 impl<E: Executor<A> + Drop, A: Allocator + Copy> ServerTsm<E, A> {
     ghost use Rattle.std.specs.Prelude.{◌≡◌, ◌≤◌, ◌^◌, IfOk, OnOk, OnErr};
     ghost use Rattle.server_tsm.specs.Server.{committed};
-    ghost use Rattle.server_tsm.specs.Steps.{effects_of};
+    ghost use Rattle.server_tsm.specs.Steps.{told_of_plan};
     ghost use Rattle.server_tsm.specs.Waking.{woken};
+    ghost use Rattle.profile.specs.Times.{MAX_MOMENT_MS};
 
     /// What is said and left where the server wakes at the moment `now`, in milliseconds: windows of answers, in
     /// order of execution.
     ///
     /// # Errors
     /// Want of memory.
-    pub fn plan_tick(&self, now: u64) -> Result<Plan<A>, AllocError>
+    pub fn plan_tick(&self, now: u64) -> Result<ServerPlan<A>, AllocError>
         ensures { IfOk result (λ plan. plan ≡ woken now self.now.records) }
     {
         let mut said = Items::new(self.alloc);
@@ -116,17 +115,17 @@ impl<E: Executor<A> + Drop, A: Allocator + Copy> ServerTsm<E, A> {
                 &mut sayings,
             )?;
         }
-        Plan::changing(self.alloc, said, Change::Wakes(sayings))
+        ServerPlan::changing(self.alloc, said, ServerChange::Wakes(sayings))
     }
 
     /// Wakes at the moment `now`, in milliseconds, and answers what is said.
     ///
     /// # Errors
     /// Want of memory. The server is then as it was.
-    pub fn on_tick(&mut self, now: u64) -> Result<Effects<A>, AllocError>
-        requires greatest { now ≤ 2 ^ 62 }
+    pub fn on_tick(&mut self, now: u64) -> Result<ServerTold<A>, AllocError>
+        requires greatest { now ≤ MAX_MOMENT_MS }
         requires order { self.old.moment ≤ now }
-        ensures effects { IfOk result (λ effects. effects ≡ effects_of (woken now self.old.records)) }
+        ensures told { IfOk result (λ told. told ≡ told_of_plan (woken now self.old.records)) }
         ensures left { OnOk result (self.new ≡ committed now (woken now self.old.records).change self.old) }
         ensures unchanged { OnErr result (self.new ≡ self.old) }
     {

@@ -9,11 +9,12 @@ use Rattle.primitives.specs.declared.plain_data.Reply.{Reply}
 use Rattle.primitives.specs.declared.plain_data.Reply.TheVariants.{Values, Many, Done, Error, ErrorAt}
 use Rattle.apdu.specs.declared.service_error.ObjectPropertyReference.{ObjectPropertyReference}
 use Rattle.apdu.specs.declared.service_error.ServiceError.{ServiceError}
-use Rattle.service_rules.specs.declared.answer.Answer.{Answer}
-use Rattle.service_rules.specs.declared.answer.Answer.TheVariants as answer
-use Rattle.services.specs.Contents.{PlainAnswer, simple, complex, failed, answer_contents, reply_contents, SpellsContents, ReplyOfContents, EqualContents, OneMeaning, ReplyIsMeant, MeaningReadsBack, GoesInContents}
+use Rattle.answers.specs.declared.answer.Answer.{Answer}
+use Rattle.answers.specs.declared.answer.Answer.TheVariants as answer
+use Rattle.services.specs.Contents.{PlainAnswer, simple, complex, failed, answer_contents, reply_contents, SpellsContents, ReplyOfContents, EqualContents}
+use Rattle.services.specs.Contents.{OneMeaning, ReplyIsMeant, MeaningReadsBack, GoesInContents}
 use Rattle.services.specs.Reply.{SpellsAnswer}
-use Rattle.service_rules.specs.Answer.{SpellsFailure, failed_at}
+use Rattle.answers.specs.Answer.{SpellsFailure, failed_at}
 use Rattle.services.proofs.CanonicalAnswer.{ack_in}
 use Rattle.services.proofs.OneAnswer.{one_ack, one_failure}
 
@@ -47,7 +48,8 @@ one_spelled request (failed class code first) x y s t = one_failure (record { cl
 pub one_meaning : {A : Type 0} → OneMeaning A
 one_meaning request c x y s t = one_spelled request c x y s.spelled t.spelled
 
-meant : {A : Type 0} (request : Request A) (x : Reply A) → IsSoundRequest request → IsSoundReply x → IsAnswerTo request x → SpellsContents request (reply_contents request x) x
+meant : {A : Type 0} (request : Request A) (x : Reply A) → IsSoundRequest request → IsSoundReply x → IsAnswerTo request x →
+    SpellsContents request (reply_contents request x) x
 meant request Done q s h = refl
 meant request (Error class code) q s h = (refl, refl, refl)
 meant request (ErrorAt class code object property index) q s h = (refl, refl, refl)
@@ -67,9 +69,11 @@ failed_is : (c d : ErrorClass) (e f : ErrorCode) (a b : Option ObjectPropertyRef
 failed_is c d e f a b p q r =
     ap (λ (x : ErrorClass). failed_as x e a) p ∙ ap (λ (y : ErrorCode). failed_as d y a) q ∙ ap (λ (z : Option ObjectPropertyReference). failed_as d f z) r
 
-error_contents : {A : Type 0} (request : Request A) (x : Reply A) (e : ServiceError) → SpellsFailure e x → answer_contents (answer.Error e) ≡ reply_contents request x
+error_contents : {A : Type 0} (request : Request A) (x : Reply A) (e : ServiceError) → SpellsFailure e x →
+    answer_contents (answer.Error e) ≡ reply_contents request x
 error_contents request (Error class code) e s = failed_is e.class class e.code code e.first_failed None s.0 s.1 s.2
-error_contents request (ErrorAt class code object property index) e s = failed_is e.class class e.code code e.first_failed (failed_at object property index) s.0 s.1 s.2
+error_contents request (ErrorAt class code object property index) e s =
+    failed_is e.class class e.code code e.first_failed (failed_at object property index) s.0 s.1 s.2
 error_contents request x e s = absurd s
 
 pub goes_in_contents : {A : Type 0} → GoesInContents A

@@ -7,7 +7,8 @@ use Rattle.tags.specs.Refusal.{IsBadNumber}
 use Rattle.tags.proofs.OneTag.{one_front_tag, tag_shortens, no_tag_at_end}
 use Rattle.apdu.specs.declared.numbers.RejectReason.{RejectReason}
 use Rattle.apdu.specs.declared.numbers.RejectReason.TheVariants.{InvalidTag, MissingRequiredParameter}
-use Rattle.services.specs.Fields.{NoContents, NoOpening, NoClosing, IsOtherTag, TakesNumber, RejectsOpening, RejectsBehind, opening_tag, RejectsTag, RejectsContents}
+use Rattle.services.specs.Fields.{NoContents, NoOpening, NoClosing, IsOtherTag, TakesNumber, RejectsOpening, RejectsBehind, opening_tag, RejectsTag}
+use Rattle.services.specs.Fields.{RejectsContents}
 
 pub false_is_not_true : false ≡ true → ⊥
 false_is_not_true e = cc
@@ -19,14 +20,17 @@ some_octets (b ∷ rest) h = omega arith
 pub no_contents_of_none : (octets : List ℕ) (number : ℕ) → NoTag octets → NoContents octets number
 no_contents_of_none octets number lacks = record { none = λ inner rest u. lacks.none u.0 rest (context number (contents inner)) u.1 u.2 }
 
-pub no_contents_of_other : (octets : List ℕ) (t : PlainTag) (next : List ℕ) (number : ℕ) → TakesTag octets t next → IsOtherTag t number → NoContents octets number
-no_contents_of_other octets t next number taken is = record { none = λ inner rest u. is.other inner (one_front_tag octets t (context number (contents inner)) next rest taken u).tag }
+pub no_contents_of_other : (octets : List ℕ) (t : PlainTag) (next : List ℕ) (number : ℕ) → TakesTag octets t next → IsOtherTag t number →
+    NoContents octets number
+no_contents_of_other octets t next number taken is =
+    record { none = λ inner rest u. is.other inner (one_front_tag octets t (context number (contents inner)) next rest taken u).tag }
 
 -- where a tag stands, octets do
 pub some_of_tag : (octets : List ℕ) (t : PlainTag) (rest : List ℕ) → TakesTag octets t rest → 0 < length octets
 some_of_tag octets t rest taken = let short = tag_shortens octets t rest taken in omega (arith, short)
 
-pub other_contents : (octets : List ℕ) (t : PlainTag) (next : List ℕ) (number : ℕ) → TakesTag octets t next → IsOtherTag t number → (0 < length octets) × NoContents octets number
+pub other_contents : (octets : List ℕ) (t : PlainTag) (next : List ℕ) (number : ℕ) → TakesTag octets t next → IsOtherTag t number → (0 < length octets) ×
+    NoContents octets number
 other_contents octets t next number taken is = (some_of_tag octets t next taken, no_contents_of_other octets t next number taken is)
 
 -- where no tag stands, no contents do
@@ -48,7 +52,8 @@ pub ruleset number_laws = (bad_number)
 pub no_opening_of_none : (octets : List ℕ) (number : ℕ) → NoTag octets → NoOpening octets number
 no_opening_of_none octets number lacks = record { none = λ rest u. lacks.none u.0 rest (context number opening) u.1 u.2 }
 
-pub no_opening_of_other : (octets : List ℕ) (t : PlainTag) (next : List ℕ) (number : ℕ) → TakesTag octets t next → (t ≡ context number opening → ⊥) → NoOpening octets number
+pub no_opening_of_other : (octets : List ℕ) (t : PlainTag) (next : List ℕ) (number : ℕ) → TakesTag octets t next → (t ≡ context number opening → ⊥) →
+    NoOpening octets number
 no_opening_of_other octets t next number taken is = record { none = λ rest u. is (one_front_tag octets t (context number opening) next rest taken u).tag }
 
 pub tag_rejects_opening : (reason : RejectReason) (octets : List ℕ) (number : ℕ) → RejectsTag reason octets → RejectsOpening reason octets number
@@ -68,11 +73,14 @@ tag_rejects_behind reason octets number list h = opening_tag None octets (absent
     absent reason octets number h = absurd h
 
 -- another tag than both
-pub other_behind : (octets : List ℕ) (t : PlainTag) (next : List ℕ) (number list : ℕ) → TakesTag octets t next → IsOtherTag t number → (t ≡ context list opening → ⊥) → RejectsBehind InvalidTag octets number list
+pub other_behind : (octets : List ℕ) (t : PlainTag) (next : List ℕ) (number list : ℕ) → TakesTag octets t next → IsOtherTag t number →
+    (t ≡ context list opening → ⊥) → RejectsBehind InvalidTag octets number list
 other_behind octets t next number list taken is isnt =
-    opening_tag None octets (no_contents_of_other octets t next number taken is, refl) (some_of_tag octets t next taken, no_opening_of_other octets t next list taken isnt)
+    opening_tag None octets (no_contents_of_other octets t next number taken is, refl)
+    (some_of_tag octets t next taken, no_opening_of_other octets t next list taken isnt)
 
-pub number_taken : (octets : List ℕ) (t : PlainTag) (rest : List ℕ) (number : ℕ) (inner : List ℕ) (n : ℕ) → TakesTag octets t rest → t ≡ context number (contents inner) → SpellsUnsigned inner n → TakesNumber octets number n rest
+pub number_taken : (octets : List ℕ) (t : PlainTag) (rest : List ℕ) (number : ℕ) (inner : List ℕ) (n : ℕ) → TakesTag octets t rest →
+    t ≡ context number (contents inner) → SpellsUnsigned inner n → TakesNumber octets number n rest
 number_taken octets t rest number inner n taken e is = record { inner = inner; tag = subst (λ (x : PlainTag). TakesTag octets x rest) e taken; said = is }
 
 pub ruleset behind_laws = (no_contents_of_other)
@@ -82,7 +90,8 @@ pub ruleset last_laws = (some_octets)
 pub no_closing_of_none : (octets : List ℕ) (number : ℕ) → NoTag octets → NoClosing octets number
 no_closing_of_none octets number lacks = record { none = λ rest u. lacks.none u.0 rest (context number closing) u.1 u.2 }
 
-pub no_closing_of_other : (octets : List ℕ) (t : PlainTag) (next : List ℕ) (number : ℕ) → TakesTag octets t next → (t ≡ context number closing → ⊥) → NoClosing octets number
+pub no_closing_of_other : (octets : List ℕ) (t : PlainTag) (next : List ℕ) (number : ℕ) → TakesTag octets t next → (t ≡ context number closing → ⊥) →
+    NoClosing octets number
 no_closing_of_other octets t next number taken is = record { none = λ rest u. is (one_front_tag octets t (context number closing) next rest taken u).tag }
 
 pub tag_rejects_closing : (reason : RejectReason) (octets : List ℕ) (number : ℕ) → RejectsTag reason octets → NoClosing octets number

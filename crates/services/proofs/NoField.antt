@@ -45,8 +45,10 @@ bad_number_not_taken octets k n a h t =
       | inr lt ↦ omega (arith, same, lt, t.said.few)
     ]
 
-pub object_not_taken : (reason : RejectReason) (octets : List ℕ) (k : ℕ) (o : ObjectId) (a : List ℕ) → RejectsObject reason octets k → TakesObject octets k o a → ⊥
-object_not_taken InvalidParameterDataType octets k o a h t = let one = one_contents octets k h.inner t.inner h.rest a h.taken t.tag in h.bad (ap length one.0 ∙ t.said.four)
+pub object_not_taken : (reason : RejectReason) (octets : List ℕ) (k : ℕ) (o : ObjectId) (a : List ℕ) → RejectsObject reason octets k →
+    TakesObject octets k o a → ⊥
+object_not_taken InvalidParameterDataType octets k o a h t = let one = one_contents octets k h.inner t.inner h.rest a h.taken t.tag in
+    h.bad (ap length one.0 ∙ t.said.four)
 object_not_taken InvalidTag octets k o a h t = h.1.none t.inner a t.tag
 object_not_taken MissingRequiredParameter octets k o a h t = no_tag_here octets (context k (contents t.inner)) a h t.tag
 object_not_taken reason octets k o a h t = absurd h
@@ -61,7 +63,8 @@ pub bad_option : (octets : List ℕ) (k : ℕ) (n : Option ℕ) (a : List ℕ) �
 bad_option octets k None a h t = t.0.none h.inner h.rest h.taken
 bad_option octets k (Some n) a h t = bad_number_not_taken octets k n a h t
 
-pub option_not_taken : (reason : RejectReason) (octets : List ℕ) (k : ℕ) (n : Option ℕ) (a : List ℕ) → RejectsOption reason octets k → TakesOption octets k n a → ⊥
+pub option_not_taken : (reason : RejectReason) (octets : List ℕ) (k : ℕ) (n : Option ℕ) (a : List ℕ) → RejectsOption reason octets k →
+    TakesOption octets k n a → ⊥
 option_not_taken InvalidParameterDataType octets k n a h t = bad_option octets k n a h t
 option_not_taken reason octets k n a h t = absurd h
 
@@ -71,7 +74,8 @@ last_not_taken InvalidParameterDataType octets k (Some n) a h t = bad_number_not
 last_not_taken InvalidTag octets k None a h t = let none : length octets ≡ 0 = ap length t.0 in omega (arith, none, h.0)
 last_not_taken InvalidTag octets k (Some n) a h t = h.1.none t.tag.0 a (context k (contents t.inner)) t.tag.1 t.tag.2
 last_not_taken TooManyArguments octets k None a h t = no_tag_here octets h.tag h.rest t.0 h.taken
-last_not_taken TooManyArguments octets k (Some n) a h t = h.other.other t.inner (one_front_tag octets h.tag (context k (contents t.inner)) h.rest a h.taken t.tag).tag
+last_not_taken TooManyArguments octets k (Some n) a h t =
+    h.other.other t.inner (one_front_tag octets h.tag (context k (contents t.inner)) h.rest a h.taken t.tag).tag
 last_not_taken reason octets k n a h t = absurd h
 
 pub end_not_taken : (reason : RejectReason) (octets : List ℕ) → RejectsEnd reason octets → octets ≡ [] → ⊥
@@ -83,7 +87,8 @@ opening_not_taken InvalidTag octets k a h t = h.1.none a t
 opening_not_taken MissingRequiredParameter octets k a h t = no_tag_here octets (context k opening) a h t
 opening_not_taken reason octets k a h t = absurd h
 
-pub behind_not_taken : (reason : RejectReason) (octets : List ℕ) (k : ℕ) (n : Option ℕ) (l : ℕ) (a : List ℕ) → RejectsBehind reason octets k l → OpensBehind octets k n l a → ⊥
+pub behind_not_taken : (reason : RejectReason) (octets : List ℕ) (k : ℕ) (n : Option ℕ) (l : ℕ) (a : List ℕ) → RejectsBehind reason octets k l →
+    OpensBehind octets k n l a → ⊥
 behind_not_taken reason octets k n l a (option h) t = option_not_taken reason octets k n t.at h t.option_taken
 behind_not_taken reason octets k n l a (opening_tag m at u h) t =
     let one = one_option octets k m n at t.at u t.option_taken in
@@ -104,8 +109,14 @@ list_stuck Takes Ends one apart octets (x ∷ xs) (y ∷ ys) at bt b more ends s
     let h = one octets x y s.0 t.0 s.1 t.1 in
     list_stuck Takes Ends one apart s.0 xs ys at bt b more ends s.2 (subst (λ (z : List ℕ). TakesEach Takes z ys bt) (sym h.1) t.2) f
 
-pub value_not_taken : {A : Type 0} (reason : RejectReason) (octets : List ℕ) (k : ℕ) (v : Value A) (a : List ℕ) → RejectsValue reason octets k → TakesValue octets v a → ⊥
-value_not_taken {A} InvalidTag octets k v a h t = elim h.0 [ inl r ↦ (refused_is_no_value A Short octets r).none t.front a v t.spelled t.parts | inr r ↦ (refused_is_no_value A BadTag octets r).none t.front a v t.spelled t.parts ]
+pub value_not_taken : {A : Type 0} (reason : RejectReason) (octets : List ℕ) (k : ℕ) (v : Value A) (a : List ℕ) → RejectsValue reason octets k →
+    TakesValue octets v a → ⊥
+value_not_taken {A} InvalidTag octets k v a h t =
+    elim h.0 [
+      | inl r ↦ (refused_is_no_value A Short octets r).none t.front a v t.spelled t.parts
+      | inr r ↦ (refused_is_no_value A BadTag octets r).none
+          t.front a v t.spelled t.parts
+    ]
 value_not_taken {A} InvalidParameterDataType octets k v a h t = (refused_is_no_value A BadLength octets h).none t.front a v t.spelled t.parts
 value_not_taken reason octets k v a h t = absurd h
 
@@ -121,7 +132,8 @@ closing_not_taken InvalidTag octets k a h t = h.1.none a t
 closing_not_taken InvalidParameterDataType octets k a h t = closing_is_well_formed octets k a h t
 closing_not_taken reason octets k a h t = absurd h
 
-pub inside_not_taken : {A : Type 0} (reason : RejectReason) (octets : List ℕ) (k : ℕ) (vs : List (Value A)) (a : List ℕ) → RejectsInside A reason octets k → TakesInside octets k vs a → ⊥
+pub inside_not_taken : {A : Type 0} (reason : RejectReason) (octets : List ℕ) (k : ℕ) (vs : List (Value A)) (a : List ℕ) → RejectsInside A reason octets k →
+    TakesInside octets k vs a → ⊥
 inside_not_taken reason octets k vs a h t =
     list_stuck TakesValue (λ (o : List ℕ) (c : List ℕ). TakesClosing o k c) one_front_value (λ o v c d x y. value_no_closing o v k c d x y)
     octets h.values vs h.at t.at a

@@ -15,7 +15,8 @@ use Rattle.services.specs.Fields.{TakesNumber, TakesOption, TakesClosing, TakesE
 use Rattle.services.specs.Multiple.{OpensList, RejectsList}
 use Rattle.services.specs.Requests.{TakesWrite, RejectsWrite}
 use Rattle.services.specs.Reply.{reading_tag, TakesReadingInside, TakesReading, TakesIndexed, TakesResult, TakesResultList, TakesResults}
-use Rattle.services.specs.ReplySteps.{NoReadAck, NoErrorInside, NoReadingUnder, NoIndexed, TakesNextResult, NoNextResult, NoResult, NoResultList, NoResults, NoManyAck}
+use Rattle.services.specs.ReplySteps.{NoReadAck, NoErrorInside, NoReadingUnder, NoIndexed, TakesNextResult, NoNextResult, NoResult, NoResultList, NoResults}
+use Rattle.services.specs.ReplySteps.{NoManyAck}
 use Rattle.apdu.specs.ServiceError.{OnlyClassAndCode, NoClassAndCode}
 use Rattle.services.proofs.FieldLaws.{no_contents_of_other, no_contents_of_none}
 use Rattle.services.proofs.Lists.{takes_more, all_more}
@@ -23,23 +24,32 @@ use Rattle.services.proofs.NoField.{inside_not_taken, end_not_taken, list_stuck}
 use Rattle.services.proofs.NoRequest.{write_not_taken, list_not_opened}
 use Rattle.services.proofs.OneField.{one_option, one_number, contents_no_closing}
 use Rattle.services.proofs.OneRequest.{IsEnd, one_write, one_opened}
-use Rattle.services.proofs.OneReply.{Reading, Ends, opens_one_way, one_result, result_no_closing, one_results, results_no_end, result_shortens, results_shortens}
+use Rattle.services.proofs.OneReply.{Reading, Ends, opens_one_way, one_result, result_no_closing, one_results, results_no_end, result_shortens}
+use Rattle.services.proofs.OneReply.{results_shortens}
 
 -- ---- ReadProperty
 
-pub ack_is_no_write : (A : Type 0) (reason : RejectReason) (octets : List ℕ) (o : ObjectId) (p : ℕ) (i : Option ℕ) → RejectsWrite A reason octets → NoReadAck A octets o p i
+pub ack_is_no_write : (A : Type 0) (reason : RejectReason) (octets : List ℕ) (o : ObjectId) (p : ℕ) (i : Option ℕ) → RejectsWrite A reason octets →
+    NoReadAck A octets o p i
 ack_is_no_write A reason octets o p i h = record { none = λ values t. write_not_taken reason octets o p i values [] h t }
 
-pub ack_goes_on : {A : Type 0} (reason : RejectReason) (octets : List ℕ) (o : ObjectId) (p : ℕ) (i : Option ℕ) (vs : List (Value A)) (rest : List ℕ) (q : ObjectId) (n : ℕ) (j : Option ℕ) → TakesWrite octets q n j vs rest → RejectsEnd reason rest → NoReadAck A octets o p i
-ack_goes_on reason octets o p i vs rest q n j t h = record { none = λ values u. end_not_taken reason rest h (one_write octets q o n p j i vs values rest [] t u).rest }
+pub ack_goes_on : {A : Type 0} (reason : RejectReason) (octets : List ℕ) (o : ObjectId) (p : ℕ) (i : Option ℕ) (vs : List (Value A)) (rest : List ℕ)
+    (q : ObjectId) (n : ℕ) (j : Option ℕ) → TakesWrite octets q n j vs rest → RejectsEnd reason rest → NoReadAck A octets o p i
+ack_goes_on reason octets o p i vs rest q n j t h =
+    record { none = λ values u. end_not_taken reason rest h (one_write octets q o n p j i vs values rest [] t u).rest }
 
 -- another object, property or index
-pub other_ack : {A : Type 0} (octets : List ℕ) (o : ObjectId) (p : ℕ) (i : Option ℕ) (vs : List (Value A)) (rest : List ℕ) (q : ObjectId) (n : ℕ) (j : Option ℕ) → TakesWrite octets q n j vs rest → (q ≡ o → n ≡ p → j ≡ i → ⊥) → NoReadAck A octets o p i
-other_ack octets o p i vs rest q n j t h = record { none = λ values u. let one = one_write octets q o n p j i vs values rest [] t u in h one.object one.property one.index }
+pub other_ack : {A : Type 0} (octets : List ℕ) (o : ObjectId) (p : ℕ) (i : Option ℕ) (vs : List (Value A)) (rest : List ℕ) (q : ObjectId) (n : ℕ)
+    (j : Option ℕ) → TakesWrite octets q n j vs rest → (q ≡ o → n ≡ p → j ≡ i → ⊥) → NoReadAck A octets o p i
+other_ack octets o p i vs rest q n j t h =
+    record { none = λ values u. let one = one_write octets q o n p j i vs values rest [] t u in h one.object one.property one.index }
 
-pub ack_taken : {A : Type 0} (octets : List ℕ) (o : ObjectId) (p : ℕ) (i : Option ℕ) (vs : List (Value A)) (rest : List ℕ) (q : ObjectId) (n : ℕ) (j : Option ℕ) → TakesWrite octets q n j vs rest → q ≡ o → n ≡ p → j ≡ i → rest ≡ [] → TakesWrite octets o p i vs []
+pub ack_taken : {A : Type 0} (octets : List ℕ) (o : ObjectId) (p : ℕ) (i : Option ℕ) (vs : List (Value A)) (rest : List ℕ) (q : ObjectId) (n : ℕ)
+    (j : Option ℕ) → TakesWrite octets q n j vs rest → q ≡ o → n ≡ p → j ≡ i → rest ≡ [] → TakesWrite octets o p i vs []
 ack_taken octets o p i vs rest q n j t e f g h =
-    subst (λ (z : List ℕ). TakesWrite octets o p i vs z) h (subst (λ (k : Option ℕ). TakesWrite octets o p k vs rest) g (subst (λ (m : ℕ). TakesWrite octets o m j vs rest) f (subst (λ (x : ObjectId). TakesWrite octets x n j vs rest) e t)))
+    subst (λ (z : List ℕ). TakesWrite octets o p i vs z) h
+    (subst (λ (k : Option ℕ). TakesWrite octets o p k vs rest) g
+    (subst (λ (m : ℕ). TakesWrite octets o m j vs rest) f (subst (λ (x : ObjectId). TakesWrite octets x n j vs rest) e t)))
 
 -- ---- class and code
 
@@ -54,12 +64,17 @@ no_error_unclosed octets c d at only h = record {
 
 -- ---- what was read of a property
 
-no_values_here : {A : Type 0} (reason : RejectReason) (octets : List ℕ) (v : Reading A) (rest : List ℕ) → RejectsInside A reason octets 4 → 4 ≡ reading_tag v → TakesReadingInside octets v rest → ⊥
+no_values_here : {A : Type 0} (reason : RejectReason) (octets : List ℕ) (v : Reading A) (rest : List ℕ) → RejectsInside A reason octets 4 →
+    4 ≡ reading_tag v → TakesReadingInside octets v rest → ⊥
 no_values_here reason octets (Ok vs) rest h e t = inside_not_taken reason octets 4 vs rest h t
 no_values_here reason octets (Err f) rest h e t = omega (arith, e)
 
-pub no_values_under : (A : Type 0) (reason : RejectReason) (t : PlainTag) (octets : List ℕ) → t ≡ context 4 opening → RejectsInside A reason octets 4 → NoReadingUnder A t octets
-no_values_under A reason t octets e h = record { none = λ v rest u. no_values_here reason octets v rest h (opens_one_way 4 (reading_tag v) (sym e ∙ u.opens)) u.taken }
+pub no_values_under : (A : Type 0) (reason : RejectReason) (t : PlainTag) (octets : List ℕ) → t ≡ context 4 opening → RejectsInside A reason octets 4 →
+    NoReadingUnder A t octets
+no_values_under A reason t octets e h = record {
+  none =
+      λ v rest u. no_values_here reason octets v rest h (opens_one_way 4 (reading_tag v) (sym e ∙ u.opens)) u.taken;
+}
 
 abbrev NoReading : Type 0 → List ℕ → Type 0
 NoReading A octets = (v : Reading A) (rest : List ℕ) → TakesReading octets v rest → ⊥
@@ -81,13 +96,16 @@ no_indexed_behind A octets i at t h = record {
 pub no_indexed_of_none : (A : Type 0) (octets : List ℕ) → NoTag octets → NoIndexed A octets
 no_indexed_of_none A octets h = no_indexed_behind A octets None octets (no_contents_of_none octets 3 h, refl) (no_reading_of_none A octets h)
 
-pub no_indexed_without : (A : Type 0) (octets : List ℕ) (t : PlainTag) (behind : List ℕ) → TakesTag octets t behind → IsOtherTag t 3 → NoReadingUnder A t behind → NoIndexed A octets
-no_indexed_without A octets t behind taken other h = no_indexed_behind A octets None octets (no_contents_of_other octets t behind 3 taken other, refl) (no_reading_under A octets t behind taken h)
+pub no_indexed_without : (A : Type 0) (octets : List ℕ) (t : PlainTag) (behind : List ℕ) → TakesTag octets t behind → IsOtherTag t 3 →
+    NoReadingUnder A t behind → NoIndexed A octets
+no_indexed_without A octets t behind taken other h =
+    no_indexed_behind A octets None octets (no_contents_of_other octets t behind 3 taken other, refl) (no_reading_under A octets t behind taken h)
 
 pub no_indexed_cut : (A : Type 0) (octets : List ℕ) (n : ℕ) (at : List ℕ) → TakesNumber octets 3 n at → NoTag at → NoIndexed A octets
 no_indexed_cut A octets n at t h = no_indexed_behind A octets (Some n) at t (no_reading_of_none A at h)
 
-pub no_indexed_with : (A : Type 0) (octets : List ℕ) (n : ℕ) (at : List ℕ) (t : PlainTag) (behind : List ℕ) → TakesNumber octets 3 n at → TakesTag at t behind → NoReadingUnder A t behind → NoIndexed A octets
+pub no_indexed_with : (A : Type 0) (octets : List ℕ) (n : ℕ) (at : List ℕ) (t : PlainTag) (behind : List ℕ) → TakesNumber octets 3 n at →
+    TakesTag at t behind → NoReadingUnder A t behind → NoIndexed A octets
 no_indexed_with A octets n at t behind u taken h = no_indexed_behind A octets (Some n) at u (no_reading_under A at t behind taken h)
 
 -- ---- lists of results
@@ -99,11 +117,13 @@ next_of_none octets h (Some p) rest t = (no_contents_of_none octets 2 h).none t.
 pub no_next_of_none : (octets : List ℕ) → NoTag octets → NoNextResult octets
 no_next_of_none octets h = record { none = next_of_none octets h }
 
-next_of_other : (octets : List ℕ) (t : PlainTag) (behind : List ℕ) → TakesTag octets t behind → (t ≡ context 1 closing → ⊥) → IsOtherTag t 2 → (next : Option ℕ) (rest : List ℕ) → TakesNextResult octets next rest → ⊥
+next_of_other : (octets : List ℕ) (t : PlainTag) (behind : List ℕ) → TakesTag octets t behind → (t ≡ context 1 closing → ⊥) → IsOtherTag t 2 →
+    (next : Option ℕ) (rest : List ℕ) → TakesNextResult octets next rest → ⊥
 next_of_other octets t behind taken unclosed other None rest u = unclosed (one_front_tag octets t (context 1 closing) behind rest taken u).tag
 next_of_other octets t behind taken unclosed other (Some p) rest u = (no_contents_of_other octets t behind 2 taken other).none u.inner rest u.tag
 
-pub no_next_of_other : (octets : List ℕ) (t : PlainTag) (behind : List ℕ) → TakesTag octets t behind → (t ≡ context 1 closing → ⊥) → IsOtherTag t 2 → NoNextResult octets
+pub no_next_of_other : (octets : List ℕ) (t : PlainTag) (behind : List ℕ) → TakesTag octets t behind → (t ≡ context 1 closing → ⊥) → IsOtherTag t 2 →
+    NoNextResult octets
 no_next_of_other octets t behind taken unclosed other = record { none = next_of_other octets t behind taken unclosed other }
 
 pub no_result_next : (A : Type 0) (octets : List ℕ) → NoNextResult octets → NoResult A octets
@@ -111,7 +131,9 @@ no_result_next A octets h = record { none = λ r rest t. h.none (Some r.property
 
 pub no_result_behind : (A : Type 0) (octets : List ℕ) (p : ℕ) (at : List ℕ) → TakesNumber octets 2 p at → NoIndexed A at → NoResult A octets
 no_result_behind A octets p at taken h = record {
-  none = λ r rest t. h.none r.index r.result rest (subst (λ (z : List ℕ). TakesIndexed z r.index r.result rest) (sym (one_number octets 2 p r.property at t.behind_property taken t.property_taken).1) t.reading_taken);
+  none = λ r rest t. h.none r.index r.result rest
+      (subst (λ (z : List ℕ). TakesIndexed z r.index r.result rest) (sym (one_number octets 2 p r.property at t.behind_property taken t.property_taken).1)
+      t.reading_taken);
   unclosed = λ rest t. contents_no_closing octets 2 1 taken.inner at rest taken.tag t;
 }
 
@@ -124,14 +146,16 @@ pub record ResultsBefore {A : Type 0} (start : List ℕ) (rs : List (PropertyRes
 pub results_begin : (A : Type 0) (start : List ℕ) → ResultsBefore {A = A} start [] start
 results_begin A start = record { taken = refl; room = omega arith; sound = λ lt. tt }
 
-pub results_go_on : {A : Type 0} (start here next : List ℕ) (rs : List (PropertyResult A)) (r : PropertyResult A) → ResultsBefore start rs here → TakesResult here r next → (length here < 2 ^ 31 → IsSoundResult r) → ResultsBefore start (rs ++ r ∷ []) next
+pub results_go_on : {A : Type 0} (start here next : List ℕ) (rs : List (PropertyResult A)) (r : PropertyResult A) → ResultsBefore start rs here →
+    TakesResult here r next → (length here < 2 ^ 31 → IsSoundResult r) → ResultsBefore start (rs ++ r ∷ []) next
 results_go_on start here next rs r b t h = record {
   taken = takes_more TakesResult start here next rs r b.taken t;
   room = let lt = result_shortens here r next t in omega (arith, b.room, lt);
   sound = λ lt. all_more IsSoundResult rs r (b.sound lt) (h (omega (arith, b.room, lt)));
 }
 
-pub results_end : {A : Type 0} (start here rest : List ℕ) (rs : List (PropertyResult A)) → ResultsBefore start rs here → TakesClosing here 1 rest → TakesResultList start rs rest
+pub results_end : {A : Type 0} (start here rest : List ℕ) (rs : List (PropertyResult A)) → ResultsBefore start rs here → TakesClosing here 1 rest →
+    TakesResultList start rs rest
 results_end start here rest rs b closed = record { at = here; taken = b.taken; closed = closed }
 
 pub results_stop : {A : Type 0} (start here : List ℕ) (rs : List (PropertyResult A)) → ResultsBefore start rs here → NoResult A here → NoResultList A start
@@ -150,7 +174,8 @@ no_results_unopened A reason octets h = record { none = λ r rest t. list_not_op
 pub no_results_inside : (A : Type 0) (octets : List ℕ) (o : ObjectId) (inside : List ℕ) → OpensList octets o inside → NoResultList A inside → NoResults A octets
 no_results_inside A octets o inside opened h = record {
   none = λ r rest t.
-      h.none r.results rest (subst (λ (z : List ℕ). TakesResultList z r.results rest) (sym (one_opened octets o r.object inside t.inside opened t.opened).1) t.results_taken);
+      h.none r.results rest (subst (λ (z : List ℕ). TakesResultList z r.results rest) (sym (one_opened octets o r.object inside t.inside opened t.opened).1)
+      t.results_taken);
 }
 
 -- the objects that were read, and what is left
@@ -162,14 +187,16 @@ pub record ManyBefore {A : Type 0} (start : List ℕ) (rs : List (ObjectResults 
 pub many_begin : (A : Type 0) (start : List ℕ) → ManyBefore {A = A} start [] start
 many_begin A start = record { taken = refl; room = omega arith; sound = λ lt. tt }
 
-pub many_go_on : {A : Type 0} (start here next : List ℕ) (rs : List (ObjectResults A)) (r : ObjectResults A) → ManyBefore start rs here → TakesResults here r next → (length here < 2 ^ 31 → IsSoundResults r) → ManyBefore start (rs ++ r ∷ []) next
+pub many_go_on : {A : Type 0} (start here next : List ℕ) (rs : List (ObjectResults A)) (r : ObjectResults A) → ManyBefore start rs here →
+    TakesResults here r next → (length here < 2 ^ 31 → IsSoundResults r) → ManyBefore start (rs ++ r ∷ []) next
 many_go_on start here next rs r b t h = record {
   taken = takes_more TakesResults start here next rs r b.taken t;
   room = let lt = results_shortens here r next t in omega (arith, b.room, lt);
   sound = λ lt. all_more IsSoundResults rs r (b.sound lt) (h (omega (arith, b.room, lt)));
 }
 
-pub many_stop : {A : Type 0} (start here : List ℕ) (rs : List (ObjectResults A)) → ManyBefore start rs here → (here ≡ [] → ⊥) → NoResults A here → NoManyAck A start
+pub many_stop : {A : Type 0} (start here : List ℕ) (rs : List (ObjectResults A)) → ManyBefore start rs here → (here ≡ [] → ⊥) → NoResults A here →
+    NoManyAck A start
 many_stop start here rs b some h = record {
   none = λ qs t.
       list_stuck TakesResults IsEnd one_results results_no_end start rs qs here [] [] h.none (λ a e. some e.0) b.taken t (refl, refl);

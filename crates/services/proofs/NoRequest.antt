@@ -56,7 +56,8 @@ use Rattle.services.specs.Multiple.{
   SpellsWriteMultiple,
   RejectsWriteMultiple,
 }
-use Rattle.services.specs.Request.{request_service, SpellsBody, SpellsRequest, OnlyRequest, NoRequest, RejectsRequest, unknown, read, read_many, write, write_many}
+use Rattle.services.specs.Request.{request_service, SpellsBody, SpellsRequest, OnlyRequest, NoRequest, RejectsRequest, unknown, read, read_many, write}
+use Rattle.services.specs.Request.{write_many}
 use Rattle.services.proofs.OneField.{one_object, one_number, one_option, one_last, one_behind, one_property, one_inside, contents_no_closing, no_tag_here}
 use Rattle.services.proofs.NoField.{
   bad_number_not_taken,
@@ -87,13 +88,15 @@ use Rattle.services.proofs.OneRequest.{
 
 -- ---- ReadProperty and WriteProperty
 
-pub property_not_taken : (reason : RejectReason) (octets : List ℕ) (o : ObjectId) (n : ℕ) (a : List ℕ) → RejectsProperty reason octets → TakesProperty octets o n a → ⊥
+pub property_not_taken : (reason : RejectReason) (octets : List ℕ) (o : ObjectId) (n : ℕ) (a : List ℕ) → RejectsProperty reason octets →
+    TakesProperty octets o n a → ⊥
 property_not_taken reason octets o n a (at_object h) t = object_not_taken reason octets 0 o t.behind_object h t.object_taken
 property_not_taken reason octets o n a (at_property p at u h) t =
     let one = one_object octets 0 p o at t.behind_object u t.object_taken in
     number_not_taken reason at 1 n a h (subst (λ (z : List ℕ). TakesNumber z 1 n a) (sym one.1) t.property_taken)
 
-pub read_not_spelled : (reason : RejectReason) (body : List ℕ) (o : ObjectId) (n : ℕ) (i : Option ℕ) → RejectsReadProperty reason body → SpellsReadProperty body o n i → ⊥
+pub read_not_spelled : (reason : RejectReason) (body : List ℕ) (o : ObjectId) (n : ℕ) (i : Option ℕ) → RejectsReadProperty reason body →
+    SpellsReadProperty body o n i → ⊥
 read_not_spelled reason body o n i (at_property h) s = property_not_taken reason body o n s.behind_property h s.property_taken
 read_not_spelled reason body o n i (at_index p q at u h) s =
     let one = one_property body p o q n at s.behind_property u s.property_taken in
@@ -103,7 +106,8 @@ read_not_spelled reason body o n i (at_end p q j at rest u l h) s =
     let two = one_last at 2 j i rest [] l (subst (λ (z : List ℕ). TakesLast z 2 i []) (sym one.2) s.index_taken) in
     end_not_taken reason rest h two.1
 
-pub write_not_taken : {A : Type 0} (reason : RejectReason) (octets : List ℕ) (o : ObjectId) (n : ℕ) (i : Option ℕ) (vs : List (Value A)) (a : List ℕ) → RejectsWrite A reason octets → TakesWrite octets o n i vs a → ⊥
+pub write_not_taken : {A : Type 0} (reason : RejectReason) (octets : List ℕ) (o : ObjectId) (n : ℕ) (i : Option ℕ) (vs : List (Value A)) (a : List ℕ) →
+    RejectsWrite A reason octets → TakesWrite octets o n i vs a → ⊥
 write_not_taken reason octets o n i vs a (at_property h) t = property_not_taken reason octets o n t.behind_property h t.property_taken
 write_not_taken reason octets o n i vs a (at_index p q at u h) t =
     let one = one_property octets p o q n at t.behind_property u t.property_taken in
@@ -118,7 +122,8 @@ tail_not_taken reason octets k (at_priority h) t s = last_not_taken reason octet
 tail_not_taken reason octets k (at_range n rest l h) t s = h.bad (subst (λ (z : Option ℕ). IsSoundPriority z) (sym (one_last octets 4 n k rest [] l t).0) s)
 tail_not_taken reason octets k (at_end n rest l q h) t s = end_not_taken reason rest h (one_last octets 4 n k rest [] l t).1
 
-pub write_not_spelled : {A : Type 0} (reason : RejectReason) (body : List ℕ) (o : ObjectId) (n : ℕ) (i : Option ℕ) (vs : List (Value A)) (k : Option ℕ) → RejectsWriteProperty A reason body → SpellsWriteProperty body o n i vs k → ⊥
+pub write_not_spelled : {A : Type 0} (reason : RejectReason) (body : List ℕ) (o : ObjectId) (n : ℕ) (i : Option ℕ) (vs : List (Value A)) (k : Option ℕ) →
+    RejectsWriteProperty A reason body → SpellsWriteProperty body o n i vs k → ⊥
 write_not_spelled reason body o n i vs k (at_write h) s = write_not_taken reason body o n i vs s.behind_values h s.write_taken
 write_not_spelled reason body o n i vs k (at_tail p q j ws at u h) s =
     let one = one_write body p o q n j i ws vs at s.behind_values u s.write_taken in
@@ -153,15 +158,19 @@ next_not_closed InvalidParameterDataType octets a h t = contents_no_closing octe
 next_not_closed reason octets a h t = absurd h
 
 -- nothing else follows in a list than one more property or its end
-pub references_stuck : (octets : List ℕ) (rs qs : List PropertyReference) (at bt b : List ℕ) → ((r : PropertyReference) (a : List ℕ) → TakesReference at r a → ⊥) → ((a : List ℕ) → TakesClosing at 1 a → ⊥) → TakesEach TakesReference octets rs at → TakesEach TakesReference octets qs bt → TakesClosing bt 1 b → ⊥
+pub references_stuck : (octets : List ℕ) (rs qs : List PropertyReference) (at bt b : List ℕ) →
+    ((r : PropertyReference) (a : List ℕ) → TakesReference at r a → ⊥) → ((a : List ℕ) → TakesClosing at 1 a → ⊥) → TakesEach TakesReference octets rs at →
+    TakesEach TakesReference octets qs bt → TakesClosing bt 1 b → ⊥
 references_stuck octets rs qs at bt b more ends s t f =
     list_stuck TakesReference (λ (o : List ℕ) (c : List ℕ). TakesClosing o 1 c) one_reference reference_no_closing octets rs qs at bt b more ends s t f
 
-pub references_not_taken : (reason : RejectReason) (inside : List ℕ) (qs : List PropertyReference) (bt b : List ℕ) → RejectsReferences reason inside → TakesEach TakesReference inside qs bt → TakesClosing bt 1 b → qs ≢ [] → ⊥
+pub references_not_taken : (reason : RejectReason) (inside : List ℕ) (qs : List PropertyReference) (bt b : List ℕ) → RejectsReferences reason inside →
+    TakesEach TakesReference inside qs bt → TakesClosing bt 1 b → qs ≢ [] → ⊥
 references_not_taken reason inside [] bt b (m.at_first h) t f some = some refl
 references_not_taken reason inside (q ∷ qs) bt b (m.at_first h) t f some = first_not_taken reason inside q.property t.1.behind_property h t.1.property_taken
 references_not_taken reason inside qs bt b (m.at_next rs at more s h) t f some =
-    references_stuck inside rs qs at bt b (λ r a u. next_not_taken reason at r.property u.behind_property h u.property_taken) (λ a u. next_not_closed reason at a h u) s t f
+    references_stuck inside rs qs at bt b (λ r a u. next_not_taken reason at r.property u.behind_property h u.property_taken)
+    (λ a u. next_not_closed reason at a h u) s t f
 references_not_taken reason inside qs bt b (m.at_index rs at p behind s u h) t f some =
     references_stuck inside rs qs at bt b
     (λ r a v.
@@ -169,17 +178,20 @@ references_not_taken reason inside qs bt b (m.at_index rs at p behind s u h) t f
     option_not_taken reason behind 1 r.index a h (subst (λ (z : List ℕ). TakesOption z 1 r.index a) (sym one.1) v.index_taken))
     (λ a v. contents_no_closing at 0 1 u.inner behind a u.tag v) s t f
 
-pub refs_not_taken : {A : Type 0} (reason : RejectReason) (octets : List ℕ) (r : ObjectRefs A) (a : List ℕ) → RejectsRefs reason octets → TakesRefs octets r a → ⊥
+pub refs_not_taken : {A : Type 0} (reason : RejectReason) (octets : List ℕ) (r : ObjectRefs A) (a : List ℕ) → RejectsRefs reason octets →
+    TakesRefs octets r a → ⊥
 refs_not_taken reason octets r a (m.at_list h) t = list_not_opened reason octets r.object t.inside h t.opened
 refs_not_taken reason octets r a (m.at_references o inside u h) t =
     let one = one_opened octets o r.object inside t.inside u t.opened in
-    references_not_taken reason inside r.refs t.behind_references a h (subst (λ (z : List ℕ). TakesEach TakesReference z r.refs t.behind_references) (sym one.1) t.references_taken) t.closed t.some
+    references_not_taken reason inside r.refs t.behind_references a h
+    (subst (λ (z : List ℕ). TakesEach TakesReference z r.refs t.behind_references) (sym one.1) t.references_taken) t.closed t.some
 
 -- a body that is read up to where an object must stand and none does, does not end
 pub body_stuck : {X : Type 0} (Takes : List ℕ → X → List ℕ → Type 0)
     → ((o : List ℕ) (x y : X) (a b : List ℕ) → Takes o x a → Takes o y b → (x ≡ y) × (a ≡ b))
     → ((o : List ℕ) (x : X) (a b : List ℕ) → Takes o x a → IsEnd o b → ⊥)
-    → (body : List ℕ) (xs ys : List X) (at : List ℕ) → ((x : X) (a : List ℕ) → Takes at x a → ⊥) → MustStand xs at → TakesEach Takes body xs at → ys ≢ [] → TakesEach Takes body ys [] → ⊥
+    → (body : List ℕ) (xs ys : List X) (at : List ℕ) → ((x : X) (a : List ℕ) → Takes at x a → ⊥) → MustStand xs at → TakesEach Takes body xs at → ys ≢ [] →
+    TakesEach Takes body ys [] → ⊥
 body_stuck Takes one apart body [] [] at none must s some t = some refl
 body_stuck Takes one apart body [] (y ∷ ys) at none must s some t = none y t.0 (subst (λ (z : List ℕ). Takes z y t.0) s t.1)
 body_stuck Takes one apart body (x ∷ xs) ys at none must s some t =
@@ -189,13 +201,16 @@ body_stuck Takes one apart body (x ∷ xs) ys at none must s some t =
     not_nil : {Y : Type 0} (x : Y) (xs : List Y) → x ∷ xs ≡ [] → ⊥
     not_nil x xs e = cc
 
-pub read_many_not_spelled : {A : Type 0} (reason : RejectReason) (body : List ℕ) (asked : List (ObjectRefs A)) → RejectsReadMultiple A reason body → SpellsReadMultiple body asked → ⊥
+pub read_many_not_spelled : {A : Type 0} (reason : RejectReason) (body : List ℕ) (asked : List (ObjectRefs A)) → RejectsReadMultiple A reason body →
+    SpellsReadMultiple body asked → ⊥
 read_many_not_spelled reason body asked h s =
     body_stuck TakesRefs one_refs refs_no_end body h.before asked h.at (λ r a u. refs_not_taken reason h.at r a h.rejected u) h.must h.taken s.some s.taken
 
 -- ---- WritePropertyMultiple
 
-pub behind_property_not_taken : {A : Type 0} (reason : RejectReason) (behind : List ℕ) (w : PropertyWrite A) (inside b a : List ℕ) → RejectsBehindProperty A reason behind → OpensBehind behind 1 w.index 2 inside → TakesInside inside 2 w.values b → TakesOption b 3 w.priority a → IsSoundPriority w.priority → ⊥
+pub behind_property_not_taken : {A : Type 0} (reason : RejectReason) (behind : List ℕ) (w : PropertyWrite A) (inside b a : List ℕ) →
+    RejectsBehindProperty A reason behind → OpensBehind behind 1 w.index 2 inside → TakesInside inside 2 w.values b → TakesOption b 3 w.priority a →
+    IsSoundPriority w.priority → ⊥
 behind_property_not_taken reason behind w inside b a (m.at_opening h) o v p s = behind_not_taken reason behind 1 w.index 2 inside h o
 behind_property_not_taken reason behind w inside b a (m.at_values i c l h) o v p s =
     let one = one_behind behind 1 i w.index 2 c inside l o in
@@ -210,15 +225,20 @@ behind_property_not_taken reason behind w inside b a (m.at_range i c vs at n res
     let three = one_option at 3 n w.priority rest a q (subst (λ (z : List ℕ). TakesOption z 3 w.priority a) (sym two.1) p) in
     h.bad (subst (λ (z : Option ℕ). IsSoundPriority z) (sym three.0) s)
 
-pub writes_stuck : {A : Type 0} (octets : List ℕ) (ws us : List (PropertyWrite A)) (at bt b : List ℕ) → ((w : PropertyWrite A) (a : List ℕ) → TakesPropertyWrite at w a → ⊥) → ((a : List ℕ) → TakesClosing at 1 a → ⊥) → TakesEach TakesPropertyWrite octets ws at → TakesEach TakesPropertyWrite octets us bt → TakesClosing bt 1 b → ⊥
+pub writes_stuck : {A : Type 0} (octets : List ℕ) (ws us : List (PropertyWrite A)) (at bt b : List ℕ) →
+    ((w : PropertyWrite A) (a : List ℕ) → TakesPropertyWrite at w a → ⊥) → ((a : List ℕ) → TakesClosing at 1 a → ⊥) →
+    TakesEach TakesPropertyWrite octets ws at → TakesEach TakesPropertyWrite octets us bt → TakesClosing bt 1 b → ⊥
 writes_stuck octets ws us at bt b more ends s t f =
-    list_stuck TakesPropertyWrite (λ (o : List ℕ) (c : List ℕ). TakesClosing o 1 c) one_property_write property_write_no_closing octets ws us at bt b more ends s t f
+    list_stuck TakesPropertyWrite (λ (o : List ℕ) (c : List ℕ). TakesClosing o 1 c) one_property_write property_write_no_closing octets ws us at bt b more
+    ends s t f
 
-pub write_list_not_taken : {A : Type 0} (reason : RejectReason) (inside : List ℕ) (us : List (PropertyWrite A)) (bt b : List ℕ) → RejectsWriteList A reason inside → TakesEach TakesPropertyWrite inside us bt → TakesClosing bt 1 b → us ≢ [] → ⊥
+pub write_list_not_taken : {A : Type 0} (reason : RejectReason) (inside : List ℕ) (us : List (PropertyWrite A)) (bt b : List ℕ) →
+    RejectsWriteList A reason inside → TakesEach TakesPropertyWrite inside us bt → TakesClosing bt 1 b → us ≢ [] → ⊥
 write_list_not_taken reason inside [] bt b (m.at_first h) t f some = some refl
 write_list_not_taken reason inside (u ∷ us) bt b (m.at_first h) t f some = first_not_taken reason inside u.property t.1.behind_property h t.1.property_taken
 write_list_not_taken reason inside us bt b (m.at_next ws at more s h) t f some =
-    writes_stuck inside ws us at bt b (λ w a u. next_not_taken reason at w.property u.behind_property h u.property_taken) (λ a u. next_not_closed reason at a h u) s t f
+    writes_stuck inside ws us at bt b (λ w a u. next_not_taken reason at w.property u.behind_property h u.property_taken)
+    (λ a u. next_not_closed reason at a h u) s t f
 write_list_not_taken reason inside us bt b (m.at_write ws at p behind s u h) t f some =
     writes_stuck inside ws us at bt b
     (λ w a v.
@@ -227,19 +247,24 @@ write_list_not_taken reason inside us bt b (m.at_write ws at p behind s u h) t f
     (subst (λ (z : List ℕ). OpensBehind z 1 w.index 2 v.inside) (sym one.1) v.opened) v.values_taken v.priority_taken v.in_range)
     (λ a v. contents_no_closing at 0 1 u.inner behind a u.tag v) s t f
 
-pub writes_not_taken : {A : Type 0} (reason : RejectReason) (octets : List ℕ) (w : ObjectWrites A) (a : List ℕ) → RejectsWrites A reason octets → TakesWrites octets w a → ⊥
+pub writes_not_taken : {A : Type 0} (reason : RejectReason) (octets : List ℕ) (w : ObjectWrites A) (a : List ℕ) → RejectsWrites A reason octets →
+    TakesWrites octets w a → ⊥
 writes_not_taken reason octets w a (m.at_list h) t = list_not_opened reason octets w.object t.inside h t.opened
 writes_not_taken reason octets w a (m.at_writes o inside u h) t =
     let one = one_opened octets o w.object inside t.inside u t.opened in
-    write_list_not_taken reason inside w.writes t.behind_writes a h (subst (λ (z : List ℕ). TakesEach TakesPropertyWrite z w.writes t.behind_writes) (sym one.1) t.writes_taken) t.closed t.some
+    write_list_not_taken reason inside w.writes t.behind_writes a h
+    (subst (λ (z : List ℕ). TakesEach TakesPropertyWrite z w.writes t.behind_writes) (sym one.1) t.writes_taken) t.closed t.some
 
-pub write_many_not_spelled : {A : Type 0} (reason : RejectReason) (body : List ℕ) (asked : List (ObjectWrites A)) → RejectsWriteMultiple A reason body → SpellsWriteMultiple body asked → ⊥
+pub write_many_not_spelled : {A : Type 0} (reason : RejectReason) (body : List ℕ) (asked : List (ObjectWrites A)) → RejectsWriteMultiple A reason body →
+    SpellsWriteMultiple body asked → ⊥
 write_many_not_spelled reason body asked h s =
-    body_stuck TakesWrites one_writes writes_no_end body h.before asked h.at (λ w a u. writes_not_taken reason h.at w a h.rejected u) h.must h.taken s.some s.taken
+    body_stuck TakesWrites one_writes writes_no_end body h.before asked h.at (λ w a u. writes_not_taken reason h.at w a h.rejected u) h.must h.taken s.some
+    s.taken
 
 -- ---- a request
 
-pub body_not_spelled : {A : Type 0} (reason : RejectReason) (service : ℕ) (body : List ℕ) (x : Request A) → RejectsRequest A reason service body → service ≡ service_number (request_service x) → SpellsBody body x → ⊥
+pub body_not_spelled : {A : Type 0} (reason : RejectReason) (service : ℕ) (body : List ℕ) (x : Request A) → RejectsRequest A reason service body →
+    service ≡ service_number (request_service x) → SpellsBody body x → ⊥
 body_not_spelled reason service body x (unknown none is) e s = none (request_service x) (sym e)
 body_not_spelled reason service body (Read o n i) (read is h) e s = read_not_spelled reason body o n i h s
 body_not_spelled reason service body (ReadMany xs) (read_many is h) e s = read_many_not_spelled reason body xs h s
@@ -258,7 +283,8 @@ body_not_spelled reason service body (WriteMany xs) (read is h) e s = omega (ari
 body_not_spelled reason service body (WriteMany xs) (read_many is h) e s = omega (arith, is, e)
 body_not_spelled reason service body (WriteMany xs) (write is h) e s = omega (arith, is, e)
 
-pub request_not_spelled : {A : Type 0} (reason : RejectReason) (service : ℕ) (body : List ℕ) (x : Request A) → RejectsRequest A reason service body → SpellsRequest service body x → ⊥
+pub request_not_spelled : {A : Type 0} (reason : RejectReason) (service : ℕ) (body : List ℕ) (x : Request A) → RejectsRequest A reason service body →
+    SpellsRequest service body x → ⊥
 request_not_spelled reason service body x h s = body_not_spelled reason service body x h s.service_is s.spelled
 
 pub only_request : {A : Type 0} (service : ℕ) (body : List ℕ) (x : Request A) → SpellsRequest service body x → OnlyRequest service body x
@@ -267,7 +293,8 @@ only_request service body x s = record { only = λ y t. one_request service body
 pub no_request : (A : Type 0) (reason : RejectReason) (service : ℕ) (body : List ℕ) → RejectsRequest A reason service body → NoRequest A service body
 no_request A reason service body h = record { none = λ x s. request_not_spelled reason service body x h s }
 
-pub no_request_of : (A : Type 0) (reason : RejectReason) (n service : ℕ) (octets body : List ℕ) → n ≡ service → octets ≡ body → RejectsRequest A reason n octets → NoRequest A service body
+pub no_request_of : (A : Type 0) (reason : RejectReason) (n service : ℕ) (octets body : List ℕ) → n ≡ service → octets ≡ body →
+    RejectsRequest A reason n octets → NoRequest A service body
 no_request_of A reason n service octets body e f h = rw (← e, ← f) (no_request A reason n octets h)
 
 pub ruleset request_laws = (only_request, no_request)

@@ -16,8 +16,10 @@ use Rattle.primitives.specs.Sound.{IsSoundPriority}
 use Rattle.apdu.specs.declared.numbers.RejectReason.{RejectReason}
 use Rattle.apdu.specs.declared.numbers.RejectReason.TheVariants.{InvalidParameterDataType, InvalidTag, MissingRequiredParameter, TooManyArguments}
 use Rattle.apdu.specs.declared.numbers.ConfirmedService.TheVariants.{ReadProperty, ReadPropertyMultiple, WriteProperty, WritePropertyMultiple}
-use Rattle.services.specs.Fields.{TakesNumber, TakesOption, TakesLast, TakesEach, TakesInside, OpensBehind, HasBadNumber, RejectsObject, RejectsNumber, RejectsOption, RejectsLast, RejectsEnd, RejectsOpening, RejectsBehind, option, opening_tag, RejectsValue, RejectsInside}
-use Rattle.services.specs.Requests.{RejectsProperty, at_object, at_property, RejectsReadProperty, at_index, at_end, RejectsWrite, at_values, RejectsTail, at_priority, at_range, RejectsWriteProperty, at_write, at_tail}
+use Rattle.services.specs.Fields.{TakesNumber, TakesOption, TakesLast, TakesEach, TakesInside, OpensBehind, HasBadNumber, RejectsObject, RejectsNumber}
+use Rattle.services.specs.Fields.{RejectsOption, RejectsLast, RejectsEnd, RejectsOpening, RejectsBehind, option, opening_tag, RejectsValue, RejectsInside}
+use Rattle.services.specs.Requests.{RejectsProperty, at_object, at_property, RejectsReadProperty, at_index, at_end, RejectsWrite, at_values, RejectsTail}
+use Rattle.services.specs.Requests.{at_priority, at_range, RejectsWriteProperty, at_write, at_tail}
 use Rattle.services.specs.Multiple as m
 use Rattle.services.specs.Multiple.{
   HasClosing,
@@ -38,9 +40,11 @@ use Rattle.services.specs.Multiple.{
   RejectsWriteMultiple,
 }
 use Rattle.services.specs.Request.{RejectsRequest, unknown, read, read_many, write, write_many}
-use Rattle.services.proofs.OneField.{one_object, one_number, one_option, one_last, one_behind, one_property, one_inside, one_front_value, contents_no_closing, no_tag_here}
+use Rattle.services.proofs.OneField.{one_object, one_number, one_option, one_last, one_behind, one_property, one_inside, one_front_value, contents_no_closing}
+use Rattle.services.proofs.OneField.{no_tag_here}
 use Rattle.services.proofs.NoField.{object_not_taken, option_not_taken, last_not_taken, behind_not_taken, inside_not_taken, value_not_taken}
-use Rattle.services.proofs.NoRequest.{property_not_taken, write_not_taken, list_not_opened, first_not_taken, next_not_taken, refs_not_taken, behind_property_not_taken, writes_not_taken}
+use Rattle.services.proofs.NoRequest.{property_not_taken, write_not_taken, list_not_opened, first_not_taken, next_not_taken, refs_not_taken}
+use Rattle.services.proofs.NoRequest.{behind_property_not_taken, writes_not_taken}
 use Rattle.services.proofs.OneRequest.{one_write, one_opened, one_reference, one_refs, one_property_write, one_writes}
 
 -- ---- fields
@@ -94,11 +98,13 @@ end_reason r q a b h g = absurd h
 last_reason : (r q : RejectReason) (octets : List ℕ) (k : ℕ) → RejectsLast r octets k → RejectsLast q octets k → r ≡ q
 last_reason InvalidParameterDataType InvalidParameterDataType octets k h g = refl
 last_reason InvalidParameterDataType InvalidTag octets k h g = absurd (g.1.none h.taken.0 h.rest (context k (contents h.inner)) h.taken.1 h.taken.2)
-last_reason InvalidParameterDataType TooManyArguments octets k h g = absurd (g.other.other h.inner (one_front_tag octets g.tag (context k (contents h.inner)) g.rest h.rest g.taken h.taken).tag)
+last_reason InvalidParameterDataType TooManyArguments octets k h g =
+    absurd (g.other.other h.inner (one_front_tag octets g.tag (context k (contents h.inner)) g.rest h.rest g.taken h.taken).tag)
 last_reason InvalidTag InvalidParameterDataType octets k h g = absurd (h.1.none g.taken.0 g.rest (context k (contents g.inner)) g.taken.1 g.taken.2)
 last_reason InvalidTag InvalidTag octets k h g = refl
 last_reason InvalidTag TooManyArguments octets k h g = absurd (h.1.none g.taken.0 g.rest g.tag g.taken.1 g.taken.2)
-last_reason TooManyArguments InvalidParameterDataType octets k h g = absurd (h.other.other g.inner (one_front_tag octets h.tag (context k (contents g.inner)) h.rest g.rest h.taken g.taken).tag)
+last_reason TooManyArguments InvalidParameterDataType octets k h g =
+    absurd (h.other.other g.inner (one_front_tag octets h.tag (context k (contents g.inner)) h.rest g.rest h.taken g.taken).tag)
 last_reason TooManyArguments InvalidTag octets k h g = absurd (g.1.none h.taken.0 h.rest h.tag h.taken.1 h.taken.2)
 last_reason TooManyArguments TooManyArguments octets k h g = refl
 last_reason InvalidParameterDataType q octets k h g = absurd g
@@ -157,7 +163,8 @@ one_place Takes one octets (x ∷ xs) (y ∷ ys) at bt p q s t =
 
 inside_reason : {A : Type 0} (r q : RejectReason) (octets : List ℕ) (k : ℕ) → RejectsInside A r octets k → RejectsInside A q octets k → r ≡ q
 inside_reason {A} r q octets k h g =
-    let e = one_place (λ (o : List ℕ) (v : Value A) (a : List ℕ). TakesValue o v a) one_front_value octets h.values g.values h.at g.at (λ v a u. value_not_taken r h.at k v a h.rejected u) (λ v a u. value_not_taken q g.at k v a g.rejected u) h.taken g.taken in
+    let e = one_place (λ (o : List ℕ) (v : Value A) (a : List ℕ). TakesValue o v a) one_front_value octets h.values g.values h.at g.at
+    (λ v a u. value_not_taken r h.at k v a h.rejected u) (λ v a u. value_not_taken q g.at k v a g.rejected u) h.taken g.taken in
     value_reason r q h.at k h.rejected (subst (λ (z : List ℕ). RejectsValue q z k) (sym e) g.rejected)
 
 -- ---- ReadProperty and WriteProperty
@@ -175,9 +182,12 @@ read_reason r q body (at_property h) (at_index o p at u g) = absurd (property_no
 read_reason r q body (at_property h) (at_end o p i at rest u l g) = absurd (property_not_taken r body o p at h u)
 read_reason r q body (at_index o p at u h) (at_property g) = absurd (property_not_taken q body o p at g u)
 read_reason r q body (at_end o p i at rest u l h) (at_property g) = absurd (property_not_taken q body o p at g u)
-read_reason r q body (at_index o p at u h) (at_index n k bt v g) = last_reason r q at 2 h (subst (λ (z : List ℕ). RejectsLast q z 2) (sym (one_property body o n p k at bt u v).2) g)
-read_reason r q body (at_index o p at u h) (at_end n k i bt rest v l g) = absurd (last_not_taken r at 2 i rest h (subst (λ (z : List ℕ). TakesLast z 2 i rest) (sym (one_property body o n p k at bt u v).2) l))
-read_reason r q body (at_end n k i bt rest v l h) (at_index o p at u g) = absurd (last_not_taken q at 2 i rest g (subst (λ (z : List ℕ). TakesLast z 2 i rest) (sym (one_property body o n p k at bt u v).2) l))
+read_reason r q body (at_index o p at u h) (at_index n k bt v g) =
+    last_reason r q at 2 h (subst (λ (z : List ℕ). RejectsLast q z 2) (sym (one_property body o n p k at bt u v).2) g)
+read_reason r q body (at_index o p at u h) (at_end n k i bt rest v l g) =
+    absurd (last_not_taken r at 2 i rest h (subst (λ (z : List ℕ). TakesLast z 2 i rest) (sym (one_property body o n p k at bt u v).2) l))
+read_reason r q body (at_end n k i bt rest v l h) (at_index o p at u g) =
+    absurd (last_not_taken q at 2 i rest g (subst (λ (z : List ℕ). TakesLast z 2 i rest) (sym (one_property body o n p k at bt u v).2) l))
 read_reason r q body (at_end o p i at rest u l h) (at_end n k j bt more v w g) = end_reason r q rest more h g
 
 write_reason : {A : Type 0} (r q : RejectReason) (octets : List ℕ) → RejectsWrite A r octets → RejectsWrite A q octets → r ≡ q
@@ -186,9 +196,12 @@ write_reason r q octets (at_property h) (at_index o p at u g) = absurd (property
 write_reason r q octets (at_property h) (at_values o p i at inside u l g) = absurd (property_not_taken r octets o p at h u)
 write_reason r q octets (at_index o p at u h) (at_property g) = absurd (property_not_taken q octets o p at g u)
 write_reason r q octets (at_values o p i at inside u l h) (at_property g) = absurd (property_not_taken q octets o p at g u)
-write_reason r q octets (at_index o p at u h) (at_index n k bt v g) = behind_reason r q at 2 3 h (subst (λ (z : List ℕ). RejectsBehind q z 2 3) (sym (one_property octets o n p k at bt u v).2) g)
-write_reason r q octets (at_index o p at u h) (at_values n k i bt inside v l g) = absurd (behind_not_taken r at 2 i 3 inside h (subst (λ (z : List ℕ). OpensBehind z 2 i 3 inside) (sym (one_property octets o n p k at bt u v).2) l))
-write_reason r q octets (at_values n k i bt inside v l h) (at_index o p at u g) = absurd (behind_not_taken q at 2 i 3 inside g (subst (λ (z : List ℕ). OpensBehind z 2 i 3 inside) (sym (one_property octets o n p k at bt u v).2) l))
+write_reason r q octets (at_index o p at u h) (at_index n k bt v g) =
+    behind_reason r q at 2 3 h (subst (λ (z : List ℕ). RejectsBehind q z 2 3) (sym (one_property octets o n p k at bt u v).2) g)
+write_reason r q octets (at_index o p at u h) (at_values n k i bt inside v l g) =
+    absurd (behind_not_taken r at 2 i 3 inside h (subst (λ (z : List ℕ). OpensBehind z 2 i 3 inside) (sym (one_property octets o n p k at bt u v).2) l))
+write_reason r q octets (at_values n k i bt inside v l h) (at_index o p at u g) =
+    absurd (behind_not_taken q at 2 i 3 inside g (subst (λ (z : List ℕ). OpensBehind z 2 i 3 inside) (sym (one_property octets o n p k at bt u v).2) l))
 write_reason {A} r q octets (at_values o p i at inside u l h) (at_values n k j bt other v w g) =
     let one = one_property octets o n p k at bt u v in
     let two = one_behind at 2 i j 3 inside other l (subst (λ (z : List ℕ). OpensBehind z 2 j 3 other) (sym one.2) w) in
@@ -201,8 +214,10 @@ tail_reason r q octets (at_priority h) (at_end n rest l s g) = absurd (last_not_
 tail_reason r q octets (at_range n rest l h) (at_priority g) = absurd (last_not_taken q octets 4 n rest g l)
 tail_reason r q octets (at_end n rest l s h) (at_priority g) = absurd (last_not_taken q octets 4 n rest g l)
 tail_reason r q octets (at_range n rest l h) (at_range k more w g) = h.is ∙ sym g.is
-tail_reason r q octets (at_range n rest l h) (at_end k more w s g) = absurd (h.bad (subst (λ (z : Option ℕ). IsSoundPriority z) (sym (one_last octets 4 n k rest more l w).0) s))
-tail_reason r q octets (at_end k more w s h) (at_range n rest l g) = absurd (g.bad (subst (λ (z : Option ℕ). IsSoundPriority z) (sym (one_last octets 4 n k rest more l w).0) s))
+tail_reason r q octets (at_range n rest l h) (at_end k more w s g) =
+    absurd (h.bad (subst (λ (z : Option ℕ). IsSoundPriority z) (sym (one_last octets 4 n k rest more l w).0) s))
+tail_reason r q octets (at_end k more w s h) (at_range n rest l g) =
+    absurd (g.bad (subst (λ (z : Option ℕ). IsSoundPriority z) (sym (one_last octets 4 n k rest more l w).0) s))
 tail_reason r q octets (at_end n rest l s h) (at_end k more w t g) = end_reason r q rest more h g
 
 write_property_reason : {A : Type 0} (r q : RejectReason) (body : List ℕ) → RejectsWriteProperty A r body → RejectsWriteProperty A q body → r ≡ q
@@ -253,42 +268,54 @@ next_reason InvalidTag q octets h g = absurd g
 next_reason InvalidParameterDataType q octets h g = absurd g
 next_reason r q octets h g = absurd h
 
-first_before : (r : RejectReason) (inside : List ℕ) (rs : List PropertyReference) (at : List ℕ) → RejectsFirst r inside → rs ≢ [] → TakesEach TakesReference inside rs at → ⊥
+first_before : (r : RejectReason) (inside : List ℕ) (rs : List PropertyReference) (at : List ℕ) → RejectsFirst r inside → rs ≢ [] →
+    TakesEach TakesReference inside rs at → ⊥
 first_before r inside [] at h some s = some refl
 first_before r inside (x ∷ rs) at h some s = first_not_taken r inside x.property s.1.behind_property h s.1.property_taken
 
-first_no_property : (r : RejectReason) (inside : List ℕ) (rs : List PropertyReference) (at : List ℕ) (p : ℕ) (behind : List ℕ) → RejectsFirst r inside → TakesEach TakesReference inside rs at → TakesNumber at 0 p behind → ⊥
+first_no_property : (r : RejectReason) (inside : List ℕ) (rs : List PropertyReference) (at : List ℕ) (p : ℕ) (behind : List ℕ) → RejectsFirst r inside →
+    TakesEach TakesReference inside rs at → TakesNumber at 0 p behind → ⊥
 first_no_property r inside [] at p behind h s u = first_not_taken r inside p behind h (subst (λ (z : List ℕ). TakesNumber z 0 p behind) (sym s) u)
 first_no_property r inside (x ∷ rs) at p behind h s u = first_not_taken r inside x.property s.1.behind_property h s.1.property_taken
 
 no_next : (r : RejectReason) (at : List ℕ) → RejectsNext r at → (x : PropertyReference) (a : List ℕ) → TakesReference at x a → ⊥
 no_next r at h x a u = next_not_taken r at x.property u.behind_property h u.property_taken
 
-no_reference : (r : RejectReason) (at : List ℕ) (p : ℕ) (behind : List ℕ) → TakesNumber at 0 p behind → RejectsOption r behind 1 → (x : PropertyReference) (a : List ℕ) → TakesReference at x a → ⊥
+no_reference : (r : RejectReason) (at : List ℕ) (p : ℕ) (behind : List ℕ) → TakesNumber at 0 p behind → RejectsOption r behind 1 →
+    (x : PropertyReference) (a : List ℕ) → TakesReference at x a → ⊥
 no_reference r at p behind u h x a v =
-    option_not_taken r behind 1 x.index a h (subst (λ (z : List ℕ). TakesOption z 1 x.index a) (sym (one_number at 0 p x.property behind v.behind_property u v.property_taken).1) v.index_taken)
+    option_not_taken r behind 1 x.index a h (subst (λ (z : List ℕ). TakesOption z 1 x.index a)
+    (sym (one_number at 0 p x.property behind v.behind_property u v.property_taken).1) v.index_taken)
 
-first_before_write : {A : Type 0} (r : RejectReason) (inside : List ℕ) (ws : List (PropertyWrite A)) (at : List ℕ) → RejectsFirst r inside → ws ≢ [] → TakesEach TakesPropertyWrite inside ws at → ⊥
+first_before_write : {A : Type 0} (r : RejectReason) (inside : List ℕ) (ws : List (PropertyWrite A)) (at : List ℕ) → RejectsFirst r inside → ws ≢ [] →
+    TakesEach TakesPropertyWrite inside ws at → ⊥
 first_before_write r inside [] at h some s = some refl
 first_before_write r inside (x ∷ ws) at h some s = first_not_taken r inside x.property s.1.behind_property h s.1.property_taken
 
-first_no_write : {A : Type 0} (r : RejectReason) (inside : List ℕ) (ws : List (PropertyWrite A)) (at : List ℕ) (p : ℕ) (behind : List ℕ) → RejectsFirst r inside → TakesEach TakesPropertyWrite inside ws at → TakesNumber at 0 p behind → ⊥
+first_no_write : {A : Type 0} (r : RejectReason) (inside : List ℕ) (ws : List (PropertyWrite A)) (at : List ℕ) (p : ℕ) (behind : List ℕ) →
+    RejectsFirst r inside → TakesEach TakesPropertyWrite inside ws at → TakesNumber at 0 p behind → ⊥
 first_no_write r inside [] at p behind h s u = first_not_taken r inside p behind h (subst (λ (z : List ℕ). TakesNumber z 0 p behind) (sym s) u)
 first_no_write r inside (x ∷ ws) at p behind h s u = first_not_taken r inside x.property s.1.behind_property h s.1.property_taken
 
 no_next_write : {A : Type 0} (r : RejectReason) (at : List ℕ) → RejectsNext r at → (x : PropertyWrite A) (a : List ℕ) → TakesPropertyWrite at x a → ⊥
 no_next_write r at h x a u = next_not_taken r at x.property u.behind_property h u.property_taken
 
-no_write : {A : Type 0} (r : RejectReason) (at : List ℕ) (p : ℕ) (behind : List ℕ) → TakesNumber at 0 p behind → RejectsBehindProperty A r behind → (x : PropertyWrite A) (a : List ℕ) → TakesPropertyWrite at x a → ⊥
+no_write : {A : Type 0} (r : RejectReason) (at : List ℕ) (p : ℕ) (behind : List ℕ) → TakesNumber at 0 p behind → RejectsBehindProperty A r behind →
+    (x : PropertyWrite A) (a : List ℕ) → TakesPropertyWrite at x a → ⊥
 no_write r at p behind u h x a v =
     let one = one_number at 0 p x.property behind v.behind_property u v.property_taken in
-    behind_property_not_taken r behind x v.inside v.behind_values a h (subst (λ (z : List ℕ). OpensBehind z 1 x.index 2 v.inside) (sym one.1) v.opened) v.values_taken v.priority_taken v.in_range
+    behind_property_not_taken r behind x v.inside v.behind_values a h (subst (λ (z : List ℕ). OpensBehind z 1 x.index 2 v.inside) (sym one.1) v.opened)
+    v.values_taken v.priority_taken v.in_range
 
-same_values : {A : Type 0} (behind : List ℕ) (i j : Option ℕ) (c d : List ℕ) (vs ws : List (Value A)) (at bt : List ℕ) → OpensBehind behind 1 i 2 c → OpensBehind behind 1 j 2 d → TakesInside c 2 vs at → TakesInside d 2 ws bt → at ≡ bt
-same_values behind i j c d vs ws at bt l w u v = (one_inside c 2 vs ws at bt u (subst (λ (z : List ℕ). TakesInside z 2 ws bt) (sym (one_behind behind 1 i j 2 c d l w).1) v)).1
+same_values : {A : Type 0} (behind : List ℕ) (i j : Option ℕ) (c d : List ℕ) (vs ws : List (Value A)) (at bt : List ℕ) → OpensBehind behind 1 i 2 c →
+    OpensBehind behind 1 j 2 d → TakesInside c 2 vs at → TakesInside d 2 ws bt → at ≡ bt
+same_values behind i j c d vs ws at bt l w u v =
+    (one_inside c 2 vs ws at bt u (subst (λ (z : List ℕ). TakesInside z 2 ws bt) (sym (one_behind behind 1 i j 2 c d l w).1) v)).1
 
-values_before : {A : Type 0} (r : RejectReason) (behind : List ℕ) (i j : Option ℕ) (c d : List ℕ) (vs : List (Value A)) (at : List ℕ) → OpensBehind behind 1 i 2 c → OpensBehind behind 1 j 2 d → RejectsInside A r c 2 → TakesInside d 2 vs at → ⊥
-values_before r behind i j c d vs at l w h u = inside_not_taken r c 2 vs at h (subst (λ (z : List ℕ). TakesInside z 2 vs at) (sym (one_behind behind 1 i j 2 c d l w).1) u)
+values_before : {A : Type 0} (r : RejectReason) (behind : List ℕ) (i j : Option ℕ) (c d : List ℕ) (vs : List (Value A)) (at : List ℕ) →
+    OpensBehind behind 1 i 2 c → OpensBehind behind 1 j 2 d → RejectsInside A r c 2 → TakesInside d 2 vs at → ⊥
+values_before r behind i j c d vs at l w h u =
+    inside_not_taken r c 2 vs at h (subst (λ (z : List ℕ). TakesInside z 2 vs at) (sym (one_behind behind 1 i j 2 c d l w).1) u)
 
 references_reason : (r q : RejectReason) (inside : List ℕ) → RejectsReferences r inside → RejectsReferences q inside → r ≡ q
 references_reason r q inside (m.at_first h) (m.at_first g) = first_reason r q inside h g
@@ -316,7 +343,8 @@ refs_reason r q octets (m.at_references o inside u h) (m.at_references p other v
 
 read_many_reason : {A : Type 0} (r q : RejectReason) (body : List ℕ) → RejectsReadMultiple A r body → RejectsReadMultiple A q body → r ≡ q
 read_many_reason {A} r q body h g =
-    let e = one_place (λ (o : List ℕ) (x : ObjectRefs A) (a : List ℕ). TakesRefs o x a) one_refs body h.before g.before h.at g.at (λ x a u. refs_not_taken r h.at x a h.rejected u) (λ x a u. refs_not_taken q g.at x a g.rejected u) h.taken g.taken in
+    let e = one_place (λ (o : List ℕ) (x : ObjectRefs A) (a : List ℕ). TakesRefs o x a) one_refs body h.before g.before h.at g.at
+    (λ x a u. refs_not_taken r h.at x a h.rejected u) (λ x a u. refs_not_taken q g.at x a g.rejected u) h.taken g.taken in
     refs_reason r q h.at h.rejected (subst (λ (z : List ℕ). RejectsRefs q z) (sym e) g.rejected)
 
 -- ---- WritePropertyMultiple
@@ -349,16 +377,20 @@ write_list_reason r q inside (m.at_first h) (m.at_write ws at p behind s u g) = 
 write_list_reason r q inside (m.at_next ws at some s h) (m.at_first g) = absurd (first_before_write q inside ws at g some s)
 write_list_reason r q inside (m.at_write ws at p behind s u h) (m.at_first g) = absurd (first_no_write q inside ws at p behind g s u)
 write_list_reason {A} r q inside (m.at_next ws at some s h) (m.at_next us bt more t g) =
-    let e = one_place (λ (o : List ℕ) (w : PropertyWrite A) (a : List ℕ). TakesPropertyWrite o w a) one_property_write inside ws us at bt (no_next_write r at h) (no_next_write q bt g) s t in
+    let e = one_place (λ (o : List ℕ) (w : PropertyWrite A) (a : List ℕ). TakesPropertyWrite o w a) one_property_write inside ws us at bt
+    (no_next_write r at h) (no_next_write q bt g) s t in
     next_reason r q at h (subst (λ (z : List ℕ). RejectsNext q z) (sym e) g)
 write_list_reason {A} r q inside (m.at_next ws at some s h) (m.at_write us bt p behind t u g) =
-    let e = one_place (λ (o : List ℕ) (w : PropertyWrite A) (a : List ℕ). TakesPropertyWrite o w a) one_property_write inside ws us at bt (no_next_write r at h) (no_write q bt p behind u g) s t in
+    let e = one_place (λ (o : List ℕ) (w : PropertyWrite A) (a : List ℕ). TakesPropertyWrite o w a) one_property_write inside ws us at bt
+    (no_next_write r at h) (no_write q bt p behind u g) s t in
     absurd (next_not_taken r at p behind h (subst (λ (z : List ℕ). TakesNumber z 0 p behind) (sym e) u))
 write_list_reason {A} r q inside (m.at_write us bt p behind t u h) (m.at_next ws at some s g) =
-    let e = one_place (λ (o : List ℕ) (w : PropertyWrite A) (a : List ℕ). TakesPropertyWrite o w a) one_property_write inside ws us at bt (no_next_write q at g) (no_write r bt p behind u h) s t in
+    let e = one_place (λ (o : List ℕ) (w : PropertyWrite A) (a : List ℕ). TakesPropertyWrite o w a) one_property_write inside ws us at bt
+    (no_next_write q at g) (no_write r bt p behind u h) s t in
     absurd (next_not_taken q at p behind g (subst (λ (z : List ℕ). TakesNumber z 0 p behind) (sym e) u))
 write_list_reason {A} r q inside (m.at_write ws at p behind s u h) (m.at_write us bt n after t v g) =
-    let e = one_place (λ (o : List ℕ) (w : PropertyWrite A) (a : List ℕ). TakesPropertyWrite o w a) one_property_write inside ws us at bt (no_write r at p behind u h) (no_write q bt n after v g) s t in
+    let e = one_place (λ (o : List ℕ) (w : PropertyWrite A) (a : List ℕ). TakesPropertyWrite o w a) one_property_write inside ws us at bt
+    (no_write r at p behind u h) (no_write q bt n after v g) s t in
     let one = one_number at 0 p n behind after u (subst (λ (z : List ℕ). TakesNumber z 0 n after) (sym e) v) in
     late_reason r q behind h (subst (λ (z : List ℕ). RejectsBehindProperty A q z) (sym one.1) g)
 
@@ -371,7 +403,8 @@ writes_reason {A} r q octets (m.at_writes o inside u h) (m.at_writes p other v g
 
 write_many_reason : {A : Type 0} (r q : RejectReason) (body : List ℕ) → RejectsWriteMultiple A r body → RejectsWriteMultiple A q body → r ≡ q
 write_many_reason {A} r q body h g =
-    let e = one_place (λ (o : List ℕ) (x : ObjectWrites A) (a : List ℕ). TakesWrites o x a) one_writes body h.before g.before h.at g.at (λ x a u. writes_not_taken r h.at x a h.rejected u) (λ x a u. writes_not_taken q g.at x a g.rejected u) h.taken g.taken in
+    let e = one_place (λ (o : List ℕ) (x : ObjectWrites A) (a : List ℕ). TakesWrites o x a) one_writes body h.before g.before h.at g.at
+    (λ x a u. writes_not_taken r h.at x a h.rejected u) (λ x a u. writes_not_taken q g.at x a g.rejected u) h.taken g.taken in
     writes_reason r q h.at h.rejected (subst (λ (z : List ℕ). RejectsWrites A q z) (sym e) g.rejected)
 
 -- ---- a request

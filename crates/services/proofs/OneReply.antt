@@ -21,14 +21,19 @@ use Rattle.services.proofs.OneField.{one_number, one_option, one_closing, one_li
 use Rattle.services.proofs.OneRequest.{IsEnd, one_opened, one_end, nothing_shorter}
 use Rattle.services.proofs.Shortens.{number_shortens, option_shortens, inside_shortens, each_shortens, list_shortens}
 
-pub one_class_and_code : (octets : List ℕ) (c d e f : ℕ) (a b : List ℕ) → TakesClassAndCode octets c d a → TakesClassAndCode octets e f b → (c ≡ e) × (d ≡ f) × (a ≡ b)
+pub one_class_and_code : (octets : List ℕ) (c d e f : ℕ) (a b : List ℕ) → TakesClassAndCode octets c d a → TakesClassAndCode octets e f b → (c ≡ e) ×
+    (d ≡ f) × (a ≡ b)
 one_class_and_code octets c d e f a b s r = (class_and_code_alone octets c d a s).only e f b r
 
 -- class and code, up to their closing tag
-pub one_error : (octets : List ℕ) (c d : ErrorClass) (e f : ErrorCode) (a b : List ℕ) → TakesErrorInside octets c e a → TakesErrorInside octets d f b → (c ≡ d) × (e ≡ f) × (a ≡ b)
+pub one_error : (octets : List ℕ) (c d : ErrorClass) (e f : ErrorCode) (a b : List ℕ) → TakesErrorInside octets c e a → TakesErrorInside octets d f b →
+    (c ≡ d) × (e ≡ f) × (a ≡ b)
 one_error octets c d e f a b s r =
-    let one = one_class_and_code octets (class_number c) (code_number e) (class_number d) (code_number f) s.at r.at s.taken r.taken in
-    (one_class c d one.0 s.class_named r.class_named, one_code e f one.1 s.code_named r.code_named, one_closing s.at 5 a b s.closed (subst (λ (z : List ℕ). TakesClosing z 5 b) (sym one.2) r.closed))
+    let one = one_class_and_code octets (class_number c) (code_number e) (class_number d) (code_number f) s.at r.at s.taken r.taken in (
+      one_class c d one.0 s.class_named r.class_named,
+      one_code e f one.1 s.code_named r.code_named,
+      one_closing s.at 5 a b s.closed (subst (λ (z : List ℕ). TakesClosing z 5 b) (sym one.2) r.closed),
+    )
 
 abbrev failed : (A : Type 0) → ErrorClass → ErrorCode → Result (List (Value A)) (ErrorClass × ErrorCode)
 failed A c d = Err (c, d)
@@ -48,7 +53,8 @@ ok_is vs ws e = cc
 err_is : {A : Type 0} (f g : ErrorClass × ErrorCode) → f.0 ≡ g.0 → f.1 ≡ g.1 → failed A f.0 f.1 ≡ failed A g.0 g.1
 err_is {A} f g p q = ap (λ (c : ErrorClass). failed A c f.1) p ∙ ap (λ (d : ErrorCode). failed A g.0 d) q
 
-one_reading_inside : {A : Type 0} (octets : List ℕ) (v w : Reading A) (a b : List ℕ) → reading_tag v ≡ reading_tag w → TakesReadingInside octets v a → TakesReadingInside octets w b → (v ≡ w) × (a ≡ b)
+one_reading_inside : {A : Type 0} (octets : List ℕ) (v w : Reading A) (a b : List ℕ) → reading_tag v ≡ reading_tag w → TakesReadingInside octets v a →
+    TakesReadingInside octets w b → (v ≡ w) × (a ≡ b)
 one_reading_inside octets (Ok vs) (Ok ws) a b e s r = let one = one_inside octets 4 vs ws a b s r in (ok_is vs ws one.0, one.1)
 one_reading_inside octets (Ok vs) (Err f) a b e s r = absurd (omega (arith, e))
 one_reading_inside octets (Err f) (Ok ws) a b e s r = absurd (omega (arith, e))
@@ -57,9 +63,11 @@ one_reading_inside octets (Err f) (Err g) a b e s r = let one = one_error octets
 pub one_reading : {A : Type 0} (octets : List ℕ) (v w : Reading A) (a b : List ℕ) → TakesReading octets v a → TakesReading octets w b → (v ≡ w) × (a ≡ b)
 one_reading octets v w a b s r =
     let one = one_front_tag octets (context (reading_tag v) opening) (context (reading_tag w) opening) s.inside r.inside s.opened r.opened in
-    one_reading_inside s.inside v w a b (opens_one_way (reading_tag v) (reading_tag w) one.tag) s.inside_taken (subst (λ (z : List ℕ). TakesReadingInside z w b) (sym one.rest) r.inside_taken)
+    one_reading_inside s.inside v w a b (opens_one_way (reading_tag v) (reading_tag w) one.tag) s.inside_taken
+    (subst (λ (z : List ℕ). TakesReadingInside z w b) (sym one.rest) r.inside_taken)
 
-pub one_indexed : {A : Type 0} (octets : List ℕ) (i j : Option ℕ) (v w : Reading A) (a b : List ℕ) → TakesIndexed octets i v a → TakesIndexed octets j w b → (i ≡ j) × (v ≡ w) × (a ≡ b)
+pub one_indexed : {A : Type 0} (octets : List ℕ) (i j : Option ℕ) (v w : Reading A) (a b : List ℕ) → TakesIndexed octets i v a → TakesIndexed octets j w b →
+    (i ≡ j) × (v ≡ w) × (a ≡ b)
 one_indexed octets i j v w a b s r =
     let one = one_option octets 3 i j s.at r.at s.index_taken r.index_taken in
     let two = one_reading s.at v w a b s.reading_taken (subst (λ (z : List ℕ). TakesReading z w b) (sym one.1) r.reading_taken) in
@@ -76,7 +84,8 @@ result_is {A} r q e f g =
 pub one_result : {A : Type 0} (octets : List ℕ) (r q : PropertyResult A) (a b : List ℕ) → TakesResult octets r a → TakesResult octets q b → (r ≡ q) × (a ≡ b)
 one_result octets r q a b s t =
     let one = one_number octets 2 r.property q.property s.behind_property t.behind_property s.property_taken t.property_taken in
-    let two = one_indexed s.behind_property r.index q.index r.result q.result a b s.reading_taken (subst (λ (z : List ℕ). TakesIndexed z q.index q.result b) (sym one.1) t.reading_taken) in
+    let two = one_indexed s.behind_property r.index q.index r.result q.result a b s.reading_taken
+    (subst (λ (z : List ℕ). TakesIndexed z q.index q.result b) (sym one.1) t.reading_taken) in
     (result_is r q one.0 two.0 two.1, two.2)
 
 pub result_no_closing : {A : Type 0} (octets : List ℕ) (r : PropertyResult A) (a b : List ℕ) → TakesResult octets r a → TakesClosing octets 1 b → ⊥
@@ -85,7 +94,8 @@ result_no_closing octets r a b s t = contents_no_closing octets 2 1 s.property_t
 abbrev pub Ends : List ℕ → List ℕ → Type 0
 Ends octets rest = TakesClosing octets 1 rest
 
-pub one_result_list : {A : Type 0} (octets : List ℕ) (rs qs : List (PropertyResult A)) (a b : List ℕ) → TakesResultList octets rs a → TakesResultList octets qs b → (rs ≡ qs) × (a ≡ b)
+pub one_result_list : {A : Type 0} (octets : List ℕ) (rs qs : List (PropertyResult A)) (a b : List ℕ) → TakesResultList octets rs a →
+    TakesResultList octets qs b → (rs ≡ qs) × (a ≡ b)
 one_result_list octets rs qs a b s t =
     one_list TakesResult Ends one_result (λ o c d x y. one_closing o 1 c d x y) result_no_closing octets rs qs s.at t.at a b s.taken s.closed t.taken t.closed
 
@@ -98,7 +108,8 @@ results_is {A} r q e f = ap (λ (o : ObjectId). results_with o r.results) e ∙ 
 pub one_results : {A : Type 0} (octets : List ℕ) (r q : ObjectResults A) (a b : List ℕ) → TakesResults octets r a → TakesResults octets q b → (r ≡ q) × (a ≡ b)
 one_results octets r q a b s t =
     let one = one_opened octets r.object q.object s.inside t.inside s.opened t.opened in
-    let two = one_result_list s.inside r.results q.results a b s.results_taken (subst (λ (z : List ℕ). TakesResultList z q.results b) (sym one.1) t.results_taken) in
+    let two = one_result_list s.inside r.results q.results a b s.results_taken
+    (subst (λ (z : List ℕ). TakesResultList z q.results b) (sym one.1) t.results_taken) in
     (results_is r q one.0 two.0, two.1)
 
 error_shortens : (octets : List ℕ) (c : ErrorClass) (e : ErrorCode) (rest : List ℕ) → TakesErrorInside octets c e rest → length rest < length octets
@@ -112,7 +123,8 @@ pub reading_inside_shortens : {A : Type 0} (octets : List ℕ) (v : Reading A) (
 reading_inside_shortens octets (Ok vs) rest t = inside_shortens octets 4 vs rest t
 reading_inside_shortens octets (Err e) rest t = error_shortens octets e.0 e.1 rest t
 
-pub indexed_shortens : {A : Type 0} (octets : List ℕ) (i : Option ℕ) (v : Reading A) (rest : List ℕ) → TakesIndexed octets i v rest → length rest < length octets
+pub indexed_shortens : {A : Type 0} (octets : List ℕ) (i : Option ℕ) (v : Reading A) (rest : List ℕ) → TakesIndexed octets i v rest →
+    length rest < length octets
 indexed_shortens octets i v rest t =
     let x = option_shortens octets 3 i t.at t.index_taken in
     let y = tag_shortens t.at (context (reading_tag v) opening) t.reading_taken.inside t.reading_taken.opened in
@@ -135,5 +147,6 @@ results_shortens octets r rest t =
 pub results_no_end : {A : Type 0} (octets : List ℕ) (r : ObjectResults A) (a b : List ℕ) → TakesResults octets r a → IsEnd octets b → ⊥
 results_no_end octets r a b s e = nothing_shorter octets a (results_shortens octets r a s) e.0
 
-pub one_many : {A : Type 0} (octets : List ℕ) (rs qs : List (ObjectResults A)) → TakesEach TakesResults octets rs [] → TakesEach TakesResults octets qs [] → rs ≡ qs
+pub one_many : {A : Type 0} (octets : List ℕ) (rs qs : List (ObjectResults A)) → TakesEach TakesResults octets rs [] → TakesEach TakesResults octets qs [] →
+    rs ≡ qs
 one_many octets rs qs s t = (one_list TakesResults IsEnd one_results one_end results_no_end octets rs qs [] [] [] [] s (refl, refl) t (refl, refl)).0

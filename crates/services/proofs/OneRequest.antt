@@ -13,7 +13,8 @@ use Rattle.services.specs.Fields.{TakesOption, TakesLast, TakesOpening, TakesClo
 use Rattle.services.specs.Requests.{TakesWrite, SpellsReadProperty, SpellsWriteProperty}
 use Rattle.services.specs.Multiple.{OpensList, TakesReference, TakesRefs, TakesPropertyWrite, TakesWrites, SpellsReadMultiple, SpellsWriteMultiple}
 use Rattle.services.specs.Request.{request_service, SpellsBody, SpellsRequest}
-use Rattle.services.proofs.OneField.{one_object, one_number, one_option, one_last, one_opening, one_closing, one_behind, one_property, one_inside, one_list, contents_no_closing}
+use Rattle.services.proofs.OneField.{one_object, one_number, one_option, one_last, one_opening, one_closing, one_behind, one_property, one_inside, one_list}
+use Rattle.services.proofs.OneField.{contents_no_closing}
 use Rattle.services.proofs.Shortens.{refs_shortens, writes_shortens}
 
 abbrev read_with : (A : Type 0) → ObjectId → ℕ → Option ℕ → Request A
@@ -22,10 +23,12 @@ read_with A o n i = Read o n i
 read_is : {A : Type 0} (o p : ObjectId) (n m : ℕ) (i j : Option ℕ) → o ≡ p → n ≡ m → i ≡ j → read_with A o n i ≡ read_with A p m j
 read_is o p n m i j e f g = cc
 
-write_is : {A : Type 0} (o p : ObjectId) (n m : ℕ) (i j : Option ℕ) (vs ws : List (Value A)) (k l : Option ℕ) → o ≡ p → n ≡ m → i ≡ j → vs ≡ ws → k ≡ l → Write o n i vs k ≡ Write p m j ws l
+write_is : {A : Type 0} (o p : ObjectId) (n m : ℕ) (i j : Option ℕ) (vs ws : List (Value A)) (k l : Option ℕ) → o ≡ p → n ≡ m → i ≡ j → vs ≡ ws → k ≡ l →
+    Write o n i vs k ≡ Write p m j ws l
 write_is o p n m i j vs ws k l e f g h q = cc
 
-one_read : {A : Type 0} (body : List ℕ) (o p : ObjectId) (n m : ℕ) (i j : Option ℕ) → SpellsReadProperty body o n i → SpellsReadProperty body p m j → read_with A o n i ≡ read_with A p m j
+one_read : {A : Type 0} (body : List ℕ) (o p : ObjectId) (n m : ℕ) (i j : Option ℕ) → SpellsReadProperty body o n i → SpellsReadProperty body p m j →
+    read_with A o n i ≡ read_with A p m j
 one_read body o p n m i j s r =
     let x = one_property body o p n m s.behind_property r.behind_property s.property_taken r.property_taken in
     let y = one_last s.behind_property 2 i j [] [] s.index_taken (subst (λ (z : List ℕ). TakesLast z 2 j []) (sym x.2) r.index_taken) in
@@ -39,14 +42,16 @@ pub record SameWrite {A : Type 0} (o p : ObjectId) (n m : ℕ) (i j : Option ℕ
   pub values : vs ≡ ws
   pub rest : a ≡ b
 
-pub one_write : {A : Type 0} (octets : List ℕ) (o p : ObjectId) (n m : ℕ) (i j : Option ℕ) (vs ws : List (Value A)) (a b : List ℕ) → TakesWrite octets o n i vs a → TakesWrite octets p m j ws b → SameWrite o p n m i j vs ws a b
+pub one_write : {A : Type 0} (octets : List ℕ) (o p : ObjectId) (n m : ℕ) (i j : Option ℕ) (vs ws : List (Value A)) (a b : List ℕ) →
+    TakesWrite octets o n i vs a → TakesWrite octets p m j ws b → SameWrite o p n m i j vs ws a b
 one_write octets o p n m i j vs ws a b s r =
     let x = one_property octets o p n m s.behind_property r.behind_property s.property_taken r.property_taken in
     let y = one_behind s.behind_property 2 i j 3 s.inside r.inside s.opened (subst (λ (z : List ℕ). OpensBehind z 2 j 3 r.inside) (sym x.2) r.opened) in
     let z = one_inside s.inside 3 vs ws a b s.values_taken (subst (λ (q : List ℕ). TakesInside q 3 ws b) (sym y.1) r.values_taken) in
     record { object = x.0; property = x.1; index = y.0; values = z.0; rest = z.1 }
 
-one_write_property : {A : Type 0} (body : List ℕ) (o p : ObjectId) (n m : ℕ) (i j : Option ℕ) (vs ws : List (Value A)) (k l : Option ℕ) → SpellsWriteProperty body o n i vs k → SpellsWriteProperty body p m j ws l → Write o n i vs k ≡ Write p m j ws l
+one_write_property : {A : Type 0} (body : List ℕ) (o p : ObjectId) (n m : ℕ) (i j : Option ℕ) (vs ws : List (Value A)) (k l : Option ℕ) →
+    SpellsWriteProperty body o n i vs k → SpellsWriteProperty body p m j ws l → Write o n i vs k ≡ Write p m j ws l
 one_write_property body o p n m i j vs ws k l s r =
     let x = one_write body o p n m i j vs ws s.behind_values r.behind_values s.write_taken r.write_taken in
     let y = one_last s.behind_values 4 k l [] [] s.priority_taken (subst (λ (z : List ℕ). TakesLast z 4 l []) (sym x.rest) r.priority_taken) in
@@ -94,15 +99,20 @@ property_write_is {A} w u e f g h =
     ap (λ (p : ℕ). write_with p w.index w.values w.priority) e ∙ ap (λ (i : Option ℕ). write_with u.property i w.values w.priority) f
     ∙ ap (λ (vs : List (Value A)). write_with u.property u.index vs w.priority) g ∙ ap (λ (n : Option ℕ). write_with u.property u.index u.values n) h
 
-pub one_property_write : {A : Type 0} (octets : List ℕ) (w u : PropertyWrite A) (a b : List ℕ) → TakesPropertyWrite octets w a → TakesPropertyWrite octets u b → (w ≡ u) × (a ≡ b)
+pub one_property_write : {A : Type 0} (octets : List ℕ) (w u : PropertyWrite A) (a b : List ℕ) → TakesPropertyWrite octets w a →
+    TakesPropertyWrite octets u b → (w ≡ u) × (a ≡ b)
 one_property_write octets w u a b s t =
     let x = one_number octets 0 w.property u.property s.behind_property t.behind_property s.property_taken t.property_taken in
-    let y = one_behind s.behind_property 1 w.index u.index 2 s.inside t.inside s.opened (subst (λ (z : List ℕ). OpensBehind z 1 u.index 2 t.inside) (sym x.1) t.opened) in
-    let z = one_inside s.inside 2 w.values u.values s.behind_values t.behind_values s.values_taken (subst (λ (q : List ℕ). TakesInside q 2 u.values t.behind_values) (sym y.1) t.values_taken) in
-    let k = one_option s.behind_values 3 w.priority u.priority a b s.priority_taken (subst (λ (q : List ℕ). TakesOption q 3 u.priority b) (sym z.1) t.priority_taken) in
+    let y = one_behind s.behind_property 1 w.index u.index 2 s.inside t.inside s.opened
+    (subst (λ (z : List ℕ). OpensBehind z 1 u.index 2 t.inside) (sym x.1) t.opened) in
+    let z = one_inside s.inside 2 w.values u.values s.behind_values t.behind_values s.values_taken
+    (subst (λ (q : List ℕ). TakesInside q 2 u.values t.behind_values) (sym y.1) t.values_taken) in
+    let k = one_option s.behind_values 3 w.priority u.priority a b s.priority_taken
+    (subst (λ (q : List ℕ). TakesOption q 3 u.priority b) (sym z.1) t.priority_taken) in
     (property_write_is w u x.0 y.0 z.0 k.0, k.1)
 
-pub property_write_no_closing : {A : Type 0} (octets : List ℕ) (w : PropertyWrite A) (a b : List ℕ) → TakesPropertyWrite octets w a → TakesClosing octets 1 b → ⊥
+pub property_write_no_closing : {A : Type 0} (octets : List ℕ) (w : PropertyWrite A) (a b : List ℕ) → TakesPropertyWrite octets w a →
+    TakesClosing octets 1 b → ⊥
 property_write_no_closing octets w a b s t = contents_no_closing octets 0 1 s.property_taken.inner s.behind_property b s.property_taken.tag t
 
 abbrev writes_with : {A : Type 0} → ObjectId → List (PropertyWrite A) → ObjectWrites A
@@ -114,7 +124,8 @@ writes_is {A} w u e f = ap (λ (o : ObjectId). writes_with o w.writes) e ∙ ap 
 pub one_writes : {A : Type 0} (octets : List ℕ) (w u : ObjectWrites A) (a b : List ℕ) → TakesWrites octets w a → TakesWrites octets u b → (w ≡ u) × (a ≡ b)
 one_writes octets w u a b s t =
     let x = one_opened octets w.object u.object s.inside t.inside s.opened t.opened in
-    let y = one_list TakesPropertyWrite (λ (o : List ℕ) (c : List ℕ). TakesClosing o 1 c) one_property_write (λ o c d q v. one_closing o 1 c d q v) property_write_no_closing
+    let y = one_list TakesPropertyWrite (λ (o : List ℕ) (c : List ℕ). TakesClosing o 1 c) one_property_write (λ o c d q v. one_closing o 1 c d q v)
+    property_write_no_closing
     s.inside w.writes u.writes s.behind_writes t.behind_writes a b s.writes_taken s.closed
     (subst (λ (z : List ℕ). TakesEach TakesPropertyWrite z u.writes t.behind_writes) (sym x.1) t.writes_taken) t.closed in
     (writes_is w u x.0 y.0, y.1)
@@ -145,7 +156,8 @@ one_write_many body xs ys s t = (one_list TakesWrites IsEnd one_writes one_end w
 other_service : {P : Type 0} (n a b : ℕ) → n ≡ a → n ≡ b → (a ≡ b → ⊥) → P
 other_service n a b e f h = absurd (h (sym e ∙ f))
 
-pub one_body : {A : Type 0} (service : ℕ) (body : List ℕ) (x y : Request A) → service ≡ service_number (request_service x) → service ≡ service_number (request_service y) → SpellsBody body x → SpellsBody body y → x ≡ y
+pub one_body : {A : Type 0} (service : ℕ) (body : List ℕ) (x y : Request A) → service ≡ service_number (request_service x) →
+    service ≡ service_number (request_service y) → SpellsBody body x → SpellsBody body y → x ≡ y
 one_body service body (Read o n i) (Read p m j) e f s t = one_read body o p n m i j s t
 one_body service body (ReadMany xs) (ReadMany ys) e f s t = ap ReadMany (one_read_many body xs ys s t)
 one_body service body (Write o n i vs k) (Write p m j ws l) e f s t = one_write_property body o p n m i j vs ws k l s t

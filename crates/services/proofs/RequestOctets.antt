@@ -31,12 +31,14 @@ item_ahead {X} xs i x lt is =
     drop-cons xs i x lt ∙ ap (λ (y : X). y ∷ drop (suc i) xs) (sym is) ∙ ap (λ (k : ℕ). x ∷ drop k xs) next
 
 -- one more of a list is written
-pub put_step : {X : Type 0} (f : X → List ℕ) (xs : List X) (i : ℕ) (x : X) (old now new : List ℕ) → i < length xs → x ≡ get_or xs i x → now ++ in_turn f (drop i xs) ≡ old ++ in_turn f xs → new ≡ now ++ f x → new ++ in_turn f (drop (i + 1) xs) ≡ old ++ in_turn f xs
+pub put_step : {X : Type 0} (f : X → List ℕ) (xs : List X) (i : ℕ) (x : X) (old now new : List ℕ) → i < length xs → x ≡ get_or xs i x →
+    now ++ in_turn f (drop i xs) ≡ old ++ in_turn f xs → new ≡ now ++ f x → new ++ in_turn f (drop (i + 1) xs) ≡ old ++ in_turn f xs
 put_step {X} f xs i x old now new lt is inv put =
     ap (λ (z : List ℕ). z ++ in_turn f (drop (i + 1) xs)) put ∙ append_assoc now (f x) (in_turn f (drop (i + 1) xs))
     ∙ ap (λ (zs : List X). now ++ in_turn f zs) (sym (item_ahead xs i x lt is)) ∙ inv
 
-pub put_value_step : {A : Type 0} (vs : List (Value A)) (i : ℕ) (v : Value A) (old now new : List ℕ) → i < length vs → v ≡ get_or vs i v → now ++ canonicals (drop i vs) ≡ old ++ canonicals vs → new ≡ now ++ canonical v → new ++ canonicals (drop (i + 1) vs) ≡ old ++ canonicals vs
+pub put_value_step : {A : Type 0} (vs : List (Value A)) (i : ℕ) (v : Value A) (old now new : List ℕ) → i < length vs → v ≡ get_or vs i v →
+    now ++ canonicals (drop i vs) ≡ old ++ canonicals vs → new ≡ now ++ canonical v → new ++ canonicals (drop (i + 1) vs) ≡ old ++ canonicals vs
 put_value_step {A} vs i v old now new lt is inv put =
     ap (λ (z : List ℕ). z ++ canonicals (drop (i + 1) vs)) put ∙ append_assoc now (canonical v) (canonicals (drop (i + 1) vs))
     ∙ ap (λ (zs : List (Value A)). now ++ canonicals zs) (sym (item_ahead vs i v lt is)) ∙ inv

@@ -25,7 +25,8 @@ pub option_shortens : (octets : List ℕ) (number : ℕ) (n : Option ℕ) (rest 
 option_shortens octets number None rest t = let e : length rest ≡ length octets = ap length t.1 in omega (arith, e)
 option_shortens octets number (Some n) rest t = let lt = number_shortens octets number n rest t in omega (arith, lt)
 
-pub opening_shortens : (octets : List ℕ) (number : ℕ) (n : Option ℕ) (list : ℕ) (rest : List ℕ) → OpensBehind octets number n list rest → length rest < length octets
+pub opening_shortens : (octets : List ℕ) (number : ℕ) (n : Option ℕ) (list : ℕ) (rest : List ℕ) → OpensBehind octets number n list rest →
+    length rest < length octets
 opening_shortens octets number n list rest t =
     let le = option_shortens octets number n t.at t.option_taken in
     let lt = tag_shortens t.at (context list opening) rest t.opened in
@@ -37,14 +38,16 @@ property_shortens octets o n rest t =
     let b = number_shortens t.behind_object 1 n rest t.property_taken in
     omega (arith, a, b)
 
-pub each_shortens : {X : Type 0} (Takes : List ℕ → X → List ℕ → Type 0) (octets : List ℕ) (xs : List X) (rest : List ℕ) → ((a : List ℕ) (x : X) (b : List ℕ) → Takes a x b → length b < length a) → TakesEach Takes octets xs rest → length rest ≤ length octets
+pub each_shortens : {X : Type 0} (Takes : List ℕ → X → List ℕ → Type 0) (octets : List ℕ) (xs : List X) (rest : List ℕ) →
+    ((a : List ℕ) (x : X) (b : List ℕ) → Takes a x b → length b < length a) → TakesEach Takes octets xs rest → length rest ≤ length octets
 each_shortens Takes octets [] rest h e = let same : length octets ≡ length rest = ap length e in omega (arith, same)
 each_shortens Takes octets (x ∷ xs) rest h t =
     let a = h octets x t.0 t.1 in
     let b = each_shortens Takes t.0 xs rest h t.2 in
     omega (arith, a, b)
 
-pub inside_shortens : {A : Type 0} (octets : List ℕ) (number : ℕ) (vs : List (Value A)) (rest : List ℕ) → TakesInside octets number vs rest → length rest < length octets
+pub inside_shortens : {A : Type 0} (octets : List ℕ) (number : ℕ) (vs : List (Value A)) (rest : List ℕ) → TakesInside octets number vs rest →
+    length rest < length octets
 inside_shortens octets number vs rest t =
     let a = each_shortens TakesValue octets vs t.at value_shortens t.taken in
     let b = tag_shortens t.at (context number closing) rest t.closed in

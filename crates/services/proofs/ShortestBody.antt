@@ -51,7 +51,8 @@ closing_least octets k rest fits t = bracket_least octets k closing rest t fits
 none_least : (octets rest : List ℕ) → AreOctets octets → rest ≡ octets → Least [] octets rest
 none_least octets rest fits e = rw e record { le = omega arith; fits = fits }
 
-pub option_least : (octets : List ℕ) (k : ℕ) (n : Option ℕ) (rest : List ℕ) → AreOctets octets → TakesOption octets k n rest → Least (option_field k n) octets rest
+pub option_least : (octets : List ℕ) (k : ℕ) (n : Option ℕ) (rest : List ℕ) → AreOctets octets → TakesOption octets k n rest →
+    Least (option_field k n) octets rest
 option_least octets k None rest fits t = none_least octets rest fits t.1
 option_least octets k (Some n) rest fits t = number_least octets k n rest fits t
 
@@ -69,39 +70,48 @@ value_least octets v rest fits t =
     let whole : length octets ≡ length (t.front ++ rest) = ap length t.parts in
     record { le = omega (arith, le, whole, length-append t.front rest); fits = AreOctets-after octets t.front rest t.parts fits }
 
-pub each_least : {X : Type 0} (Takes : List ℕ → X → List ℕ → Type 0) (f : X → List ℕ) → ((octets : List ℕ) (x : X) (rest : List ℕ) → AreOctets octets → Takes octets x rest → Least (f x) octets rest) → (octets : List ℕ) (xs : List X) (rest : List ℕ) → AreOctets octets → TakesEach Takes octets xs rest → Least (in_turn f xs) octets rest
+pub each_least : {X : Type 0} (Takes : List ℕ → X → List ℕ → Type 0) (f : X → List ℕ) →
+    ((octets : List ℕ) (x : X) (rest : List ℕ) → AreOctets octets → Takes octets x rest → Least (f x) octets rest) →
+    (octets : List ℕ) (xs : List X) (rest : List ℕ) → AreOctets octets → TakesEach Takes octets xs rest → Least (in_turn f xs) octets rest
 each_least Takes f one octets [] rest fits t = none_least octets rest fits (sym t)
 each_least Takes f one octets (x ∷ xs) rest fits t =
     let first = one octets x t.0 fits t.1 in
     both_least (f x) (in_turn f xs) octets t.0 rest first (each_least Takes f one t.0 xs rest first.fits t.2)
 
-values_least : {A : Type 0} (octets : List ℕ) (vs : List (Value A)) (rest : List ℕ) → AreOctets octets → TakesEach TakesValue octets vs rest → Least (canonicals vs) octets rest
+values_least : {A : Type 0} (octets : List ℕ) (vs : List (Value A)) (rest : List ℕ) → AreOctets octets → TakesEach TakesValue octets vs rest →
+    Least (canonicals vs) octets rest
 values_least octets [] rest fits t = none_least octets rest fits (sym t)
 values_least octets (v ∷ vs) rest fits t =
     let first = value_least octets v t.0 fits t.1 in
     both_least (canonical v) (canonicals vs) octets t.0 rest first (values_least t.0 vs rest first.fits t.2)
 
 -- the values between an opening tag that was taken and its closing tag
-pub between_least : {A : Type 0} (octets : List ℕ) (k : ℕ) (vs : List (Value A)) (inside rest : List ℕ) → AreOctets octets → TakesOpening octets k inside → TakesInside inside k vs rest → Least (values_field k vs) octets rest
+pub between_least : {A : Type 0} (octets : List ℕ) (k : ℕ) (vs : List (Value A)) (inside rest : List ℕ) → AreOctets octets → TakesOpening octets k inside →
+    TakesInside inside k vs rest → Least (values_field k vs) octets rest
 between_least octets k vs inside rest fits o t =
     let first = opening_least octets k inside fits o in
     let second = values_least inside vs t.at first.fits t.taken in
     let third = closing_least t.at k rest second.fits t.closed in
-    both_least (opening_octets k ++ canonicals vs) (closing_octets k) octets t.at rest (both_least (opening_octets k) (canonicals vs) octets inside t.at first second) third
+    both_least (opening_octets k ++ canonicals vs) (closing_octets k) octets t.at rest
+    (both_least (opening_octets k) (canonicals vs) octets inside t.at first second) third
 
 -- ---- requests
 
-pub property_least : (octets : List ℕ) (o : ObjectId) (p : ℕ) (rest : List ℕ) → AreOctets octets → TakesProperty octets o p rest → Least (object_field 0 o ++ number_field 1 p) octets rest
+pub property_least : (octets : List ℕ) (o : ObjectId) (p : ℕ) (rest : List ℕ) → AreOctets octets → TakesProperty octets o p rest →
+    Least (object_field 0 o ++ number_field 1 p) octets rest
 property_least octets o p rest fits t =
     let first = object_least octets 0 o t.behind_object fits t.object_taken in
     both_least (object_field 0 o) (number_field 1 p) octets t.behind_object rest first (number_least t.behind_object 1 p rest first.fits t.property_taken)
 
-reference_least : (octets : List ℕ) (r : PropertyReference) (rest : List ℕ) → AreOctets octets → TakesReference octets r rest → Least (reference_octets r) octets rest
+reference_least : (octets : List ℕ) (r : PropertyReference) (rest : List ℕ) → AreOctets octets → TakesReference octets r rest →
+    Least (reference_octets r) octets rest
 reference_least octets r rest fits t =
     let first = number_least octets 0 r.property t.behind_property fits t.property_taken in
-    both_least (number_field 0 r.property) (option_field 1 r.index) octets t.behind_property rest first (option_least t.behind_property 1 r.index rest first.fits t.index_taken)
+    both_least (number_field 0 r.property) (option_field 1 r.index) octets t.behind_property rest first
+    (option_least t.behind_property 1 r.index rest first.fits t.index_taken)
 
-pub list_least : (octets : List ℕ) (o : ObjectId) (inside : List ℕ) → AreOctets octets → OpensList octets o inside → Least (object_field 0 o ++ opening_octets 1) octets inside
+pub list_least : (octets : List ℕ) (o : ObjectId) (inside : List ℕ) → AreOctets octets → OpensList octets o inside →
+    Least (object_field 0 o ++ opening_octets 1) octets inside
 list_least octets o inside fits t =
     let first = object_least octets 0 o t.behind_object fits t.object_taken in
     both_least (object_field 0 o) (opening_octets 1) octets t.behind_object inside first (opening_least t.behind_object 1 inside first.fits t.opened)
@@ -114,7 +124,8 @@ refs_least octets r rest fits t =
     both_least (object_field 0 r.object ++ opening_octets 1 ++ in_turn reference_octets r.refs) (closing_octets 1) octets t.behind_references rest
     (both_least (object_field 0 r.object ++ opening_octets 1) (in_turn reference_octets r.refs) octets t.inside t.behind_references first second) third
 
-write_least : {A : Type 0} (octets : List ℕ) (w : PropertyWrite A) (rest : List ℕ) → AreOctets octets → TakesPropertyWrite octets w rest → Least (write_octets w) octets rest
+write_least : {A : Type 0} (octets : List ℕ) (w : PropertyWrite A) (rest : List ℕ) → AreOctets octets → TakesPropertyWrite octets w rest →
+    Least (write_octets w) octets rest
 write_least octets w rest fits t =
     let first = number_least octets 0 w.property t.behind_property fits t.property_taken in
     let second = option_least t.behind_property 1 w.index t.opened.at first.fits t.opened.option_taken in
@@ -125,10 +136,12 @@ write_least octets w rest fits t =
     (both_least (number_field 0 w.property) (option_field 1 w.index) octets t.behind_property t.opened.at first second) third)
     fourth
 
-writes_least : {A : Type 0} (octets : List ℕ) (w : ObjectWrites A) (rest : List ℕ) → AreOctets octets → TakesWrites octets w rest → Least (writes_octets w) octets rest
+writes_least : {A : Type 0} (octets : List ℕ) (w : ObjectWrites A) (rest : List ℕ) → AreOctets octets → TakesWrites octets w rest →
+    Least (writes_octets w) octets rest
 writes_least {A} octets w rest fits t =
     let first = list_least octets w.object t.inside fits t.opened in
-    let second = each_least (λ (a : List ℕ) (x : PropertyWrite A) (b : List ℕ). TakesPropertyWrite a x b) write_octets write_least t.inside w.writes t.behind_writes first.fits t.writes_taken in
+    let second = each_least (λ (a : List ℕ) (x : PropertyWrite A) (b : List ℕ). TakesPropertyWrite a x b) write_octets write_least t.inside w.writes
+    t.behind_writes first.fits t.writes_taken in
     let third = closing_least t.behind_writes 1 rest second.fits t.closed in
     both_least (object_field 0 w.object ++ opening_octets 1 ++ in_turn write_octets w.writes) (closing_octets 1) octets t.behind_writes rest
     (both_least (object_field 0 w.object ++ opening_octets 1) (in_turn write_octets w.writes) octets t.inside t.behind_writes first second) third
@@ -136,8 +149,10 @@ writes_least {A} octets w rest fits t =
 body_least : {A : Type 0} (body : List ℕ) (x : Request A) → AreOctets body → SpellsBody body x → Least (canonical_request x) body []
 body_least body (Read o p i) fits s =
     let first = property_least body o p s.behind_property fits s.property_taken in
-    both_least (object_field 0 o ++ number_field 1 p) (option_field 2 i) body s.behind_property [] first (last_least s.behind_property 2 i [] first.fits s.index_taken)
-body_least {A} body (ReadMany asked) fits s = each_least (λ (a : List ℕ) (r : ObjectRefs A) (b : List ℕ). TakesRefs a r b) refs_octets refs_least body asked [] fits s.taken
+    both_least (object_field 0 o ++ number_field 1 p) (option_field 2 i) body s.behind_property [] first
+    (last_least s.behind_property 2 i [] first.fits s.index_taken)
+body_least {A} body (ReadMany asked) fits s =
+    each_least (λ (a : List ℕ) (r : ObjectRefs A) (b : List ℕ). TakesRefs a r b) refs_octets refs_least body asked [] fits s.taken
 body_least body (Write o p i vs n) fits s =
     let t = s.write_taken in
     let first = property_least body o p t.behind_property fits t.property_taken in
@@ -148,7 +163,9 @@ body_least body (Write o p i vs n) fits s =
     (both_least (read_octets o p i) (values_field 3 vs) body t.opened.at s.behind_values
     (both_least (object_field 0 o ++ number_field 1 p) (option_field 2 i) body t.behind_property t.opened.at first second) third)
     fourth
-body_least {A} body (WriteMany asked) fits s = each_least (λ (a : List ℕ) (w : ObjectWrites A) (b : List ℕ). TakesWrites a w b) writes_octets writes_least body asked [] fits s.taken
+body_least {A} body (WriteMany asked) fits s =
+    each_least (λ (a : List ℕ) (w : ObjectWrites A) (b : List ℕ). TakesWrites a w b) writes_octets writes_least body asked [] fits s.taken
 
-pub request_shortest : {A : Type 0} (service : ℕ) (body : List ℕ) (x : Request A) → AreOctets body → SpellsRequest service body x → length (canonical_request x) ≤ length body
+pub request_shortest : {A : Type 0} (service : ℕ) (body : List ℕ) (x : Request A) → AreOctets body → SpellsRequest service body x →
+    length (canonical_request x) ≤ length body
 request_shortest service body x fits s = let least = body_least body x fits s.spelled in omega (arith, least.le)

@@ -6,10 +6,10 @@ use Rattle.tags.specs.Value.{IsSound, SpellsValue, TakesValue}
 use Rattle.tags.proofs.OneTag.{tag_some}
 use Rattle.tags.proofs.ElementLaws.{element_some}
 use Rattle.primitives.specs.Sound.{AreSound}
-use Rattle.service_rules.specs.declared.stop.Stop.{Stop}
-use Rattle.service_rules.specs.declared.stop.Stop.TheVariants.{Memory, Reject}
+use Rattle.answers.specs.declared.stop.Stop.{Stop}
+use Rattle.answers.specs.declared.stop.Stop.TheVariants.{Memory, Reject}
 use Rattle.services.proofs.Lists.{takes_more, all_more}
-use Rattle.service_rules.specs.Stop.{StopsFor}
+use Rattle.answers.specs.Stop.{StopsFor}
 use Rattle.services.specs.Fields.{TakesClosing, TakesEach, TakesInside, RejectsValue, RejectsInside}
 
 -- the values that were read, and what is left
@@ -28,17 +28,20 @@ value_some octets v (inr s) = element_some octets s.1
 pub value_shortens : {A : Type 0} (octets : List ℕ) (v : Value A) (rest : List ℕ) → TakesValue octets v rest → length rest < length octets
 value_shortens octets v rest taken = rw (taken.parts) (omega (arith, length-append taken.front rest, value_some taken.front v taken.spelled))
 
-pub list_goes_on : {A : Type 0} (start at next : List ℕ) (vs : List (Value A)) (v : Value A) → Progress start vs at → TakesValue at v next → (length at < 2 ^ 31 → IsSound v) → Progress start (vs ++ v ∷ []) next
+pub list_goes_on : {A : Type 0} (start at next : List ℕ) (vs : List (Value A)) (v : Value A) → Progress start vs at → TakesValue at v next →
+    (length at < 2 ^ 31 → IsSound v) → Progress start (vs ++ v ∷ []) next
 list_goes_on start at next vs v p taken is = record {
   taken = takes_more TakesValue start at next vs v p.taken taken;
   room = omega (arith, p.room, value_shortens at v next taken);
   sound = λ lt. all_more IsSound vs v (p.sound lt) (is (omega (arith, p.room, lt)));
 }
 
-pub list_ends : {A : Type 0} (start at : List ℕ) (number : ℕ) (rest : List ℕ) (vs : List (Value A)) → Progress start vs at → TakesClosing at number rest → TakesInside start number vs rest
+pub list_ends : {A : Type 0} (start at : List ℕ) (number : ℕ) (rest : List ℕ) (vs : List (Value A)) → Progress start vs at → TakesClosing at number rest →
+    TakesInside start number vs rest
 list_ends start at number rest vs p closed = record { at = at; taken = p.taken; closed = closed }
 
-pub list_stops : {A : Type 0} (stop : Stop) (start at : List ℕ) (number : ℕ) (vs : List (Value A)) → Progress start vs at → StopsFor (λ reason. RejectsValue reason at number) stop → StopsFor (λ reason. RejectsInside A reason start number) stop
+pub list_stops : {A : Type 0} (stop : Stop) (start at : List ℕ) (number : ℕ) (vs : List (Value A)) → Progress start vs at →
+    StopsFor (λ reason. RejectsValue reason at number) stop → StopsFor (λ reason. RejectsInside A reason start number) stop
 list_stops Memory start at number vs p h = tt
 list_stops (Reject reason) start at number vs p h = record { values = vs; at = at; taken = p.taken; rejected = h }
 

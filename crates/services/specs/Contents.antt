@@ -8,11 +8,11 @@ use Rattle.primitives.specs.declared.plain_data.Request.{Request}
 use Rattle.primitives.specs.declared.plain_data.Reply.{Reply}
 use Rattle.primitives.specs.declared.plain_data.Reply.TheVariants.{Done, Error, ErrorAt}
 use Rattle.apdu.specs.declared.service_error.ObjectPropertyReference.{ObjectPropertyReference}
-use Rattle.service_rules.specs.declared.answer.Answer.{Answer}
-use Rattle.service_rules.specs.declared.answer.Answer.TheVariants as answer
+use Rattle.answers.specs.declared.answer.Answer.{Answer}
+use Rattle.answers.specs.declared.answer.Answer.TheVariants as answer
 use Rattle.services.specs.CanonicalReply.{canonical_reply}
 use Rattle.services.specs.Reply.{SpellsAck, SpellsReply}
-use Rattle.service_rules.specs.Answer.{SpellsFailure, GoesIn, failed_at}
+use Rattle.answers.specs.Answer.{SpellsFailure, GoesIn, failed_at}
 
 -- what an answer says: nothing but that all is done, service data, or why it failed and which write was the first to
 -- fail (20.1.4, 20.1.5, 20.1.7)

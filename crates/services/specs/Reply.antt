@@ -12,9 +12,9 @@ use Rattle.primitives.specs.declared.plain_data.Reply.{Reply}
 use Rattle.primitives.specs.declared.plain_data.Reply.TheVariants.{Values, Many, Done}
 use Rattle.primitives.specs.declared.plain_data.ObjectResults.{ObjectResults}
 use Rattle.primitives.specs.declared.plain_data.PropertyResult.{PropertyResult}
-use Rattle.service_rules.specs.Answer.{SpellsFailure}
-use Rattle.service_rules.specs.declared.answer.Answer.{Answer}
-use Rattle.service_rules.specs.declared.answer.Answer.TheVariants as answer
+use Rattle.answers.specs.Answer.{SpellsFailure}
+use Rattle.answers.specs.declared.answer.Answer.{Answer}
+use Rattle.answers.specs.declared.answer.Answer.TheVariants as answer
 use Rattle.apdu.specs.declared.service_error.ObjectPropertyReference.{ObjectPropertyReference}
 use Rattle.services.specs.Fields.{TakesNumber, TakesOption, TakesOpening, TakesClosing, TakesEach, TakesInside}
 use Rattle.services.specs.Multiple.{OpensList}

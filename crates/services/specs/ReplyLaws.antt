@@ -5,10 +5,10 @@ use Rattle.primitives.specs.Answers.{IsAnswerTo}
 use Rattle.primitives.specs.Sound.{IsSoundReply, IsSoundRequest}
 use Rattle.primitives.specs.declared.plain_data.Reply.{Reply}
 use Rattle.primitives.specs.declared.plain_data.Request.{Request}
-use Rattle.service_rules.specs.declared.answer.Answer.{Answer}
+use Rattle.answers.specs.declared.answer.Answer.{Answer}
 use Rattle.services.specs.CanonicalReply.{canonical_reply}
 use Rattle.services.specs.Reply.{SpellsAck, SpellsReply}
-use Rattle.service_rules.specs.Answer.{GoesIn}
+use Rattle.answers.specs.Answer.{GoesIn}
 
 -- an answer spells one reply to a request
 abbrev pub OneReply : Type 0 → Type 0

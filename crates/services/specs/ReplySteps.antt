@@ -12,7 +12,7 @@ use Rattle.primitives.specs.declared.plain_data.ObjectResults.{ObjectResults}
 use Rattle.primitives.specs.declared.plain_data.PropertyResult.{PropertyResult}
 use Rattle.services.specs.Fields.{TakesNumber, TakesClosing, TakesEach}
 use Rattle.services.specs.Reply.{TakesErrorInside, reading_tag, TakesReadingInside, TakesIndexed, TakesResult, TakesResultList, TakesResults, SpellsAck, SpellsAnswer}
-use Rattle.service_rules.specs.declared.answer.Answer.{Answer}
+use Rattle.answers.specs.declared.answer.Answer.{Answer}
 use Rattle.services.specs.Requests.{TakesWrite}
 
 -- no ReadProperty-ACK of this object, property and index

@@ -1,6 +1,6 @@
 //! The bodies of the confirmed services (ANSI/ASHRAE 135, clauses 15, 18.9, 20.1 and 21). The APDUs
-//! that carry them are those of `apdu`; what executes requests, and in which PDU a reply goes, are
-//! those of `service_rules`. Both stand here too.
+//! that carry them are those of `apdu`; what executes requests, and in which PDU a reply goes, is
+//! that of `answers`, and stands here too.
 //!
 //! Of the requests it promises to the layers above: what is read is the one request that the body
 //! spells, what is rejected spells none and is rejected for the first fault in reading order, what
@@ -17,22 +17,27 @@
 #![tactic(auto)]
 
 mod acknowledgement;
-pub mod asked;
+mod asked;
 mod fields;
-pub mod laws;
+mod laws;
 mod multiple;
 mod reply;
-pub mod reply_laws;
+mod reply_laws;
 mod request;
 mod spelled;
 mod values;
 
-pub use apdu::{
-    AbortReason, Apdu, ConfirmedService, IAm, Limits, MaxApdu, MaxSegments,
-    ObjectPropertyReference, PduType, RejectReason, Segment, Segmentation, ServiceError,
-    UnconfirmedService, UnknownService, WhoIs, apdu_spelling, i_am_from, i_am_spelling,
-    who_is_from, who_is_spelling, write_i_am, write_who_is,
+pub use answers::{Answer, Executor, ObjectExecutor, answer_of, is_answer_to};
+pub use asked::{
+    left_by_is_after, replied_is_reply, request_octets_are_canonical, service_asked_is_service,
+};
+pub use laws::{
+    one_request, rejected_is_none, rejected_once, request_is_shortest, request_is_spelled,
+    request_reads_back,
 };
 pub use reply::{decode_reply, encode_reply};
+pub use reply_laws::{
+    meaning_reads_back, one_meaning, one_reply, reply_is_shortest, reply_is_spelled,
+    reply_of_contents, reply_reads_back,
+};
 pub use request::{decode_request, encode_request, service_of};
-pub use service_rules::{Answer, Executor, ObjectExecutor, answer_of, is_answer_to};

@@ -8,7 +8,7 @@ ghost use Rattle.primitives.specs.Sound.{IsSoundId, IsSoundIndex, IsSoundPriorit
 ghost use Rattle.services.specs.Fields.{TakesNumber};
 ghost use Rattle.services.specs.Multiple.{OpensList, RejectsList, RejectsFirst, RejectsNext, RejectsReferences, TakesRefs, RejectsRefs, RejectsWriteList, TakesWrites, RejectsWrites, SpellsWriteMultiple, RejectsWriteMultiple, MustStand, SpellsReadMultiple, RejectsReadMultiple};
 ghost use Rattle.services.specs.MultipleSteps.{TakesNext, IsNext, RejectsNextTag, GoesOn, RejectsGoing, References, TakesValuesBehind, RejectsValuesBehind, RejectsPriority, PropertyWrites};
-ghost use Rattle.service_rules.specs.Stop.{StopsFor};
+ghost use Rattle.answers.specs.Stop.{StopsFor};
 
 use crate::fields::{
     contents_under, is_closing, number_of, priority_of, put_option, put_priority, read_inner_tag,
@@ -16,9 +16,9 @@ use crate::fields::{
 };
 use crate::spelled::{Spelled, put_each};
 use crate::values::{put_values, read_values};
+use answers::Stop;
 use apdu::RejectReason;
-use objects::{ObjectRefs, ObjectWrites, PropertyReference, PropertyWrite, Values};
-use service_rules::Stop;
+use primitives::{ObjectRefs, ObjectWrites, PropertyReference, PropertyWrite, Values};
 use std::alloc::Allocator;
 use tags::{Class, Fault, Items, ObjectId, Reader, Tag, write_object, write_tag, write_unsigned};
 

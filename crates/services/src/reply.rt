@@ -1,11 +1,11 @@
 //! The replies to requests, both ways (clauses 15.5, 15.7, 15.9, 15.10, 20.1.4, 20.1.5 and 20.1.7).
 
 ghost use Rattle.services.specs.Reply.{SpellsAck, SpellsAnswer, SpellsReply, OnlyReply, NoReply, IsSoundAnswer, HasServiceData};
-ghost use Rattle.service_rules.specs.Answer.{SpellsFailure};
+ghost use Rattle.answers.specs.Answer.{SpellsFailure};
 ghost use Rattle.std.specs.Prelude.{◌≡◌, ◌<◌, ◌^◌, ◌⊎◌, IfOk, IfErr, IsOk, IfSome, IfNone, length, ◌++◌, OnOk, OnErr};
 ghost use Rattle.primitives.specs.Sound.{IsSoundReply, IsSoundRequest};
 ghost use Rattle.services.specs.ReplySteps.{NoAck, NoAnswer};
-ghost use Rattle.service_rules.specs.Stop.{StopsFor};
+ghost use Rattle.answers.specs.Stop.{StopsFor};
 ghost use Rattle.tags.specs.Canonical.{Extends};
 ghost use Rattle.primitives.specs.Answers.{IsAnswerTo};
 ghost use Rattle.services.specs.CanonicalReply.{canonical_reply};
@@ -14,9 +14,9 @@ use crate::acknowledgement::{read_ack, read_many_ack};
 use crate::request::put_read;
 use crate::spelled::put_each;
 use crate::values::put_values;
+use answers::{Answer, Stop, is_answer_to};
 use apdu::{RejectReason, ServiceError};
-use objects::{Reply, Request};
-use service_rules::{Answer, Stop, is_answer_to};
+use primitives::{Reply, Request};
 use std::alloc::{AllocError, Allocator};
 use tags::{Fault, Reader, all_or_none};
 

@@ -6,7 +6,7 @@ ghost use Rattle.apdu.specs.Numbers.{service_number, NoService};
 ghost use Rattle.services.specs.Request.{SpellsRequest, OnlyRequest, NoRequest, RejectsRequest, request_service};
 ghost use Rattle.services.specs.Requests.{TakesProperty, RejectsProperty, SpellsReadProperty, RejectsReadProperty, TakesWrite, RejectsWrite, RejectsTail, RejectsWriteProperty};
 ghost use Rattle.services.specs.Fields.{TakesLast};
-ghost use Rattle.service_rules.specs.Stop.{StopsFor};
+ghost use Rattle.answers.specs.Stop.{StopsFor};
 ghost use Rattle.tags.specs.Canonical.{Extends};
 ghost use Rattle.services.specs.CanonicalRequest.{read_octets, canonical_request};
 
@@ -17,9 +17,9 @@ use crate::fields::{
 use crate::multiple::{read_many, read_write_many};
 use crate::spelled::put_each;
 use crate::values::{put_values, read_values};
+use answers::{Stop, reject_reason};
 use apdu::{ConfirmedService, RejectReason};
-use objects::{Request, Values};
-use service_rules::{Stop, reject_reason};
+use primitives::{Request, Values};
 use std::alloc::{AllocError, Allocator};
 use tags::{Class, Fault, ObjectId, Reader, all_or_none, write_object, write_unsigned};
 

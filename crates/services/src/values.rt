@@ -4,14 +4,14 @@ ghost use Rattle.std.specs.Prelude.{◌≡◌, ◌<◌, ◌^◌, IfOk, IfErr, If
 ghost use Rattle.tags.specs.Value.{IsSound, TakesValue};
 ghost use Rattle.primitives.specs.Sound.{AreSound};
 ghost use Rattle.services.specs.Fields.{TakesClosing, TakesInside, RejectsValue, RejectsInside};
-ghost use Rattle.service_rules.specs.Stop.{StopsFor};
+ghost use Rattle.answers.specs.Stop.{StopsFor};
 ghost use Rattle.tags.specs.Canonical.{canonicals, Extends};
 ghost use Rattle.services.specs.CanonicalRequest.{values_field};
 
 use crate::fields::read_closing;
+use answers::Stop;
 use apdu::RejectReason;
-use objects::Values;
-use service_rules::Stop;
+use primitives::Values;
 use std::alloc::Allocator;
 use tags::{Fault, Items, Reader, Tag, Value, read_value, write_tag, write_value};
 

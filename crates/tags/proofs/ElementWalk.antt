@@ -30,7 +30,8 @@ open_after t ts zero lt h = absurd (omega arith)
 open_after t ts (suc n) lt h = h
 
 -- the tags that close the rest begin with the one tag that stands there
-down_by_one : (rest next after : List ℕ) (t : PlainTag) (depth : ℕ) (ts : List PlainTag) → 0 < depth → TakesTag rest t next → TakesTags rest ts after → Closes ts depth → (us : List PlainTag) × TakesTags next us after × Closes us (waiting t.content depth)
+down_by_one : (rest next after : List ℕ) (t : PlainTag) (depth : ℕ) (ts : List PlainTag) → 0 < depth → TakesTag rest t next → TakesTags rest ts after →
+    Closes ts depth → (us : List PlainTag) × TakesTags next us after × Closes us (waiting t.content depth)
 down_by_one rest next after t zero ts lt taken a b = absurd (omega arith)
 down_by_one rest next after t (suc n) [] lt taken a b = absurd b
 down_by_one rest next after t (suc n) (u ∷ us) lt taken a b =
@@ -44,7 +45,8 @@ waiting_le (contents octets) depth = omega arith
 waiting_le opening depth = omega arith
 waiting_le closing depth = omega arith
 
-pub walk_goes_on : (start : List ℕ) (depth : ℕ) (rest : List ℕ) (t : PlainTag) (next : List ℕ) (more : ℕ) → Progress start depth rest → 0 < depth → TakesTag rest t next → more ≡ waiting t.content depth → Progress start more next
+pub walk_goes_on : (start : List ℕ) (depth : ℕ) (rest : List ℕ) (t : PlainTag) (next : List ℕ) (more : ℕ) → Progress start depth rest → 0 < depth →
+    TakesTag rest t next → more ≡ waiting t.content depth → Progress start more next
 walk_goes_on start depth rest t next more p lt taken e = rw e record {
   up = λ ts after a b. p.up (t ∷ ts) after (next, taken, a) (closes_after t ts depth lt b);
   down = λ after c. let d = p.down after c in down_by_one rest next after t depth d.0 lt taken d.1 d.2;
@@ -67,5 +69,6 @@ nothing_closes : (depth : ℕ) → 0 < depth → StayOpen [] depth
 nothing_closes zero lt = absurd (omega arith)
 nothing_closes (suc n) lt = tt
 
-pub walk_is_refused : (fault : Fault) (start : List ℕ) (depth : ℕ) (rest : List ℕ) → Progress start depth rest → 0 < depth → RefusesTag fault rest → RefusesInside fault start
+pub walk_is_refused : (fault : Fault) (start : List ℕ) (depth : ℕ) (rest : List ℕ) → Progress start depth rest → 0 < depth → RefusesTag fault rest →
+    RefusesInside fault start
 walk_is_refused fault start depth rest p lt refused = record { rest = rest; reached = p.keeps_open [] rest refl (nothing_closes depth lt); refused = refused }

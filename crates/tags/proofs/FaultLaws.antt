@@ -1,5 +1,6 @@
 -- When reading a tag fails, and with which fault.
-use Rattle.std.proofs.Common.{◌≡◌, ℕ, ◌+◌, ◌-◌, ◌*◌, ◌/◌, ◌%◌, ◌<◌, ◌≤◌, ◌⊎◌, ltb, eqb, List, [], ◌∷◌, ◌++◌, length, drop, replicate, Result, Ok, Err, refl, sym, ap, subst, ◌∙◌, append_assoc, arith, inl, inr}
+use Rattle.std.proofs.Common.{◌≡◌, ℕ, ◌+◌, ◌-◌, ◌*◌, ◌/◌, ◌%◌, ◌<◌, ◌≤◌, ◌⊎◌, ltb, eqb, List, [], ◌∷◌, ◌++◌, length, drop, replicate, Result, Ok, Err, refl}
+use Rattle.std.proofs.Common.{sym, ap, subst, ◌∙◌, append_assoc, arith, inl, inr}
 use Rattle.std.proofs.lemmas.Bool.{cases_lt, ltb-true, ltb-false, eqb-true, eqb-false}
 use Rattle.std.proofs.lemmas.List.{length-append, length-replicate, drop_all, append-nil}
 use Rattle.byteorder.specs.Endian.{big_number, big_bytes}
@@ -8,7 +9,8 @@ use Rattle.tags.specs.declared.fault.Fault.{Fault}
 use Rattle.tags.specs.declared.fault.Fault.TheVariants.{Short, BadTag, BadLength}
 use Rattle.tags.specs.declared.tag.Class.{Class}
 use Rattle.tags.specs.declared.tag.Class.TheVariants.{Application, Context}
-use Rattle.tags.specs.Tag.{PlainTag, null, contents, opening, closing, class_bit, number_bits, number_octets, LengthForm, in_initial, in_octet, in_two, in_four, length_bits, length_octets, IsLength, HasContents, IsCutTag, IsReservedNumber, RefusesTag, plain_tag}
+use Rattle.tags.specs.Tag.{PlainTag, null, contents, opening, closing, class_bit, number_bits, number_octets, LengthForm, in_initial, in_octet, in_two, in_four}
+use Rattle.tags.specs.Tag.{length_bits, length_octets, IsLength, HasContents, IsCutTag, IsReservedNumber, RefusesTag, plain_tag}
 use Rattle.std.proofs.Common.{Bor}
 use Rattle.std.specs.Prelude.{IfErr}
 use Rattle.tags.specs.declared.tag.Tag.{Tag}
@@ -52,7 +54,8 @@ four_octet_form : SizedForm 4 255 in_four
 four_octet_form = record { again = four_again; octets = λ k. refl; fits = λ bytes h. let b = big_from-lt 0 4 bytes h in omega (arith, b); bits = λ k. refl }
 
 -- the length itself is cut: zeros complete it, and as many zeros as it then says are the contents
-cut_length : (n first : ℕ) (form : LengthForm) (s : SizedForm n first form) (bytes : List ℕ) → length bytes < n → AreOctets bytes → CutContents 5 (first ∷ bytes)
+cut_length : (n first : ℕ) (form : LengthForm) (s : SizedForm n first form) (bytes : List ℕ) → length bytes < n → AreOctets bytes →
+    CutContents 5 (first ∷ bytes)
 cut_length n first form s bytes lt fits =
     let pad = replicate (n - length bytes) 0 in
     let full = bytes ++ pad in
@@ -61,7 +64,8 @@ cut_length n first form s bytes lt fits =
     let len = big_number n full in
     let inner = replicate len 0 in
     let inner-len : length inner ≡ len = length-replicate {A = ℕ} len 0 in
-    let whole : full ≡ big_bytes n len = s.again full (omega arith) full-fits ∙ ap (λ (x : List ℕ). big_bytes n len ++ x) (drop_all n full (omega arith)) ∙ append-nil (big_bytes n len) in
+    let whole : full ≡ big_bytes n len = s.again full (omega arith) full-fits ∙ ap (λ (x : List ℕ). big_bytes n len ++ x) (drop_all n full (omega arith))
+    ∙ append-nil (big_bytes n len) in
     record {
       whole = record {
         more = pad ++ inner;
@@ -75,7 +79,8 @@ cut_length n first form s bytes lt fits =
     }
 
 -- the contents are cut
-cut_contents : (n first : ℕ) (form : LengthForm) (s : SizedForm n first form) (bytes : List ℕ) → n ≤ length bytes → length (drop n bytes) < big_number n bytes → AreOctets bytes → CutContents 5 (first ∷ bytes)
+cut_contents : (n first : ℕ) (form : LengthForm) (s : SizedForm n first form) (bytes : List ℕ) → n ≤ length bytes →
+    length (drop n bytes) < big_number n bytes → AreOctets bytes → CutContents 5 (first ∷ bytes)
 cut_contents n first form s bytes le short fits =
     let len = big_number n bytes in
     let pad = replicate (len - length (drop n bytes)) 0 in
@@ -88,7 +93,8 @@ cut_contents n first form s bytes le short fits =
         form = form;
         fits = rw inner-len (s.fits bytes fits);
         bits = s.bits (length inner);
-        parts = rw (inner-len, s.octets len) (cons_equal first first _ _ refl (ap (λ (x : List ℕ). x ++ pad) (s.again bytes le fits) ∙ append_assoc (big_bytes n len) (drop n bytes) pad));
+        parts = rw (inner-len, s.octets len) (cons_equal first first _ _ refl (ap (λ (x : List ℕ). x ++ pad) (s.again bytes le fits)
+            ∙ append_assoc (big_bytes n len) (drop n bytes) pad));
       };
       lacks = omega (arith, length-replicate {A = ℕ} (len - length (drop n bytes)) 0);
     }
@@ -109,7 +115,8 @@ whole_behind_initial_octet low bytes lt short =
     record { more = pad; inner = bytes ++ pad; form = in_initial; fits = rw inner-len lt; bits = inner-len; parts = refl }
 
 cut_behind_initial_octet : (low : ℕ) (bytes : List ℕ) → low < 5 → length bytes < low → CutContents low bytes
-cut_behind_initial_octet low bytes lt short = record { whole = whole_behind_initial_octet low bytes lt (omega arith); lacks = omega (arith, length-replicate {A = ℕ} (low - length bytes) 0) }
+cut_behind_initial_octet low bytes lt short =
+    record { whole = whole_behind_initial_octet low bytes lt (omega arith); lacks = omega (arith, length-replicate {A = ℕ} (low - length bytes) 0) }
 
 abbrev no_length : WholeContents 5 []
 no_length = record { more = 0 ∷ []; inner = []; form = in_octet; fits = omega arith; bits = refl; parts = refl }
@@ -188,7 +195,8 @@ long_cut (n ∷ bytes) x fits e short =
       ]
     ]
 
-contents_fails : (class : Class) (number low : ℕ) (bytes : List ℕ) (d : Fault) → low < 6 → AreOctets bytes → contents_at class number low bytes ≡ Err d → (d ≡ Short) × CutContents low bytes
+contents_fails : (class : Class) (number low : ℕ) (bytes : List ℕ) (d : Fault) → low < 6 → AreOctets bytes → contents_at class number low bytes ≡ Err d →
+    (d ≡ Short) × CutContents low bytes
 unfolding contents_at length_at
 contents_fails class number low bytes d lt fits e =
     elim (bind_err (length_at low bytes) _ d e) [
@@ -225,7 +233,8 @@ cut_tag class number nibble low first bytes after has e lt high parts c =
         form = c.whole.form;
         length_fits = c.whole.fits;
         parts = cons_equal first _ (bytes ++ c.whole.more) _ first-is
-            (ap (λ (x : List ℕ). x ++ c.whole.more) parts ∙ append_assoc (number_octets number) after c.whole.more ∙ ap (λ (x : List ℕ). number_octets number ++ x) c.whole.parts);
+            (ap (λ (x : List ℕ). x ++ c.whole.more) parts ∙ append_assoc (number_octets number) after c.whole.more
+            ∙ ap (λ (x : List ℕ). number_octets number ++ x) c.whole.parts);
       };
     }
 
@@ -238,7 +247,14 @@ cut_number class low first has lt e =
       more = 15 ∷ c.more;
       lacks = omega arith;
       tag = tag_with class 15 (contents c.inner);
-      spelled = record { may = has; number_fits = omega arith; form = c.form; length_fits = c.fits; parts = cons_equal first _ _ _ first-is (cons_equal 15 15 _ _ refl c.parts) };
+      spelled = record {
+        may = has;
+        number_fits = omega arith;
+        form = c.form;
+        length_fits = c.fits;
+        parts =
+            cons_equal first _ _ _ first-is (cons_equal 15 15 _ _ refl c.parts);
+      };
     }
 
 reserved_number : (d : Fault) (first : ℕ) (bytes : List ℕ) → d ≡ BadTag → 15 ≤ first / 16 → IsReservedNumber bytes → RefusesTag d (first ∷ bytes)
@@ -270,7 +286,8 @@ application_fails first bytes d lt bit fits e =
             | inr y ↦ let n = number_takes (first / 16) bytes y.0.0 y.0.1 (omega arith) y.1 in
                 let low-lt : first % 8 < 6 = omega (arith, ltb-false _ _ w.0) in
                 let c = contents_fails Application y.0.0 (first % 8) y.0.1 d low-lt (AreOctets-after _ _ _ n.parts fits) y.2 in
-                rw (c.0) (cut_tag Application y.0.0 (first / 16) (first % 8) first bytes y.0.1 (number_above y.0.0 (first / 16) n.high (eqb-false _ _ v.0) (eqb-false _ _ u.0)) (omega arith) n.fits n.high n.parts c.1)
+                rw (c.0) (cut_tag Application y.0.0 (first / 16) (first % 8) first bytes y.0.1
+                (number_above y.0.0 (first / 16) n.high (eqb-false _ _ v.0) (eqb-false _ _ u.0)) (omega arith) n.fits n.high n.parts c.1)
           ]
         ]
       ]
@@ -280,8 +297,20 @@ application_fails first bytes d lt bit fits e =
 cut_bracket : (low first : ℕ) → 6 ≤ low → low < 8 → first ≡ 16 * 15 + 8 + low → IsCutTag (first ∷ [])
 cut_bracket low first le lt e =
     elim (cases_lt low 7) [
-      | inl six ↦ record { more = 15 ∷ []; lacks = omega arith; tag = tag_with Context 15 opening; spelled = (refl, omega arith, cons_equal first _ _ _ (omega arith) refl) }
-      | inr seven ↦ record { more = 15 ∷ []; lacks = omega arith; tag = tag_with Context 15 closing; spelled = (refl, omega arith, cons_equal first _ _ _ (omega arith) refl) }
+      | inl six ↦ record {
+        more = 15 ∷ [];
+        lacks = omega arith;
+        tag = tag_with Context 15 opening;
+        spelled =
+            (refl, omega arith, cons_equal first _ _ _ (omega arith) refl);
+      }
+      | inr seven ↦ record {
+        more = 15 ∷ [];
+        lacks = omega arith;
+        tag = tag_with Context 15 closing;
+        spelled =
+            (refl, omega arith, cons_equal first _ _ _ (omega arith) refl);
+      }
     ]
 
 context_fails : (first : ℕ) (bytes : List ℕ) (d : Fault) → first < 256 → first / 8 % 2 ≡ 1 → AreOctets bytes
@@ -301,7 +330,8 @@ context_fails first bytes d lt bit fits e =
         | inr w ↦ elim (which_way (eqb (first % 8) 7) _ _ (Err d) w.1) [
           | inl v ↦ absurd (ok_is_not_err _ _ v.1)
           | inr v ↦ let n = number_takes (first / 16) bytes y.0.0 y.0.1 (omega arith) y.1 in
-              let c = contents_fails Context y.0.0 (first % 8) y.0.1 d (omega (arith, eqb-false _ _ w.0, eqb-false _ _ v.0)) (AreOctets-after _ _ _ n.parts fits) v.1 in
+              let c = contents_fails Context y.0.0 (first % 8) y.0.1 d (omega (arith, eqb-false _ _ w.0, eqb-false _ _ v.0))
+              (AreOctets-after _ _ _ n.parts fits) v.1 in
               rw (c.0) (cut_tag Context y.0.0 (first / 16) (first % 8) first bytes y.0.1 tt (omega arith) n.fits n.high n.parts c.1)
         ]
       ]
@@ -310,13 +340,15 @@ context_fails first bytes d lt bit fits e =
 pub tag_fails : (bytes : List ℕ) (d : Fault) → AreOctets bytes → tag_at bytes ≡ Err d → RefusesTag d bytes
 unfolding tag_at
 tag_fails [] d fits e =
-    subst (λ (x : Fault). RefusesTag x []) (err_injective (PlainTag × List ℕ) Short d e) (record { more = 0 ∷ []; lacks = omega arith; tag = tag_with Application 0 null; spelled = (refl, refl, refl) })
+    subst (λ (x : Fault). RefusesTag x []) (err_injective (PlainTag × List ℕ) Short d e)
+    (record { more = 0 ∷ []; lacks = omega arith; tag = tag_with Application 0 null; spelled = (refl, refl, refl) })
 tag_fails (first ∷ bytes) d fits e =
     elim (which_way (eqb (first / 8 % 2) 0) _ _ (Err d) e) [
       | inl w ↦ application_fails first bytes d (fits 0) (eqb-true _ _ w.0) (AreOctets-rest first bytes fits) w.1
       | inr w ↦ context_fails first bytes d (fits 0) (omega (arith, eqb-false _ _ w.0)) (AreOctets-rest first bytes fits) w.1
     ]
 
-pub refused_for_its_cause : (bytes : List ℕ) (r : Result (Tag × Bor (List ℕ)) Fault) → AreOctets bytes → Gives (λ x. (plain_tag x.0, x.1.now)) r (tag_at bytes) → IfErr r (λ e. RefusesTag e bytes)
+pub refused_for_its_cause : (bytes : List ℕ) (r : Result (Tag × Bor (List ℕ)) Fault) → AreOctets bytes →
+    Gives (λ x. (plain_tag x.0, x.1.now)) r (tag_at bytes) → IfErr r (λ e. RefusesTag e bytes)
 refused_for_its_cause bytes (Ok x) fits given = tt
 refused_for_its_cause bytes (Err e) fits given = tag_fails bytes e fits given

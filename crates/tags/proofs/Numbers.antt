@@ -16,7 +16,9 @@ four_again (a ∷ []) le fits = absurd (omega arith)
 four_again (a ∷ b ∷ []) le fits = absurd (omega arith)
 four_again (a ∷ b ∷ c ∷ []) le fits = absurd (omega arith)
 four_again (a ∷ b ∷ c ∷ d ∷ rest) le fits =
-    cons_equal a _ _ _ (omega (arith, fits 0, fits 1, fits 2, fits 3)) (cons_equal b _ _ _ (omega (arith, fits 0, fits 1, fits 2, fits 3)) (cons_equal c _ _ _ (omega (arith, fits 0, fits 1, fits 2, fits 3)) (cons_equal d _ _ _ (omega (arith, fits 0, fits 1, fits 2, fits 3)) refl)))
+    cons_equal a _ _ _ (omega (arith, fits 0, fits 1, fits 2, fits 3))
+    (cons_equal b _ _ _ (omega (arith, fits 0, fits 1, fits 2, fits 3))
+    (cons_equal c _ _ _ (omega (arith, fits 0, fits 1, fits 2, fits 3)) (cons_equal d _ _ _ (omega (arith, fits 0, fits 1, fits 2, fits 3)) refl)))
 
 -- the last octets of a number
 pub last_octets : (k n : ℕ) → k ≤ 4 → drop (4 - k) (big_bytes 4 n) ≡ big_bytes k n

@@ -1,12 +1,14 @@
 -- A refusal excludes each spelling, and octets have one refusal only.
-use Rattle.std.proofs.Common.{◌≡◌, ◌⊎◌, ℕ, zero, suc, ◌+◌, ◌*◌, ◌/◌, ◌%◌, ◌<◌, ◌≤◌, List, [], ◌∷◌, ◌++◌, length, true, false, refl, sym, ap, subst, ◌∙◌, append_assoc, inl, inr, arith}
+use Rattle.std.proofs.Common.{◌≡◌, ◌⊎◌, ℕ, zero, suc, ◌+◌, ◌*◌, ◌/◌, ◌%◌, ◌<◌, ◌≤◌, List, [], ◌∷◌, ◌++◌, length, true, false, refl, sym, ap, subst, ◌∙◌}
+use Rattle.std.proofs.Common.{append_assoc, inl, inr, arith}
 use Rattle.std.proofs.lemmas.Bool.{cases_lt, lt-ltb, le-ltb}
 use Rattle.std.proofs.lemmas.List.{append-nil, length-append}
 use Rattle.tags.specs.declared.fault.Fault.{Fault}
 use Rattle.tags.specs.declared.fault.Fault.TheVariants.{Short, BadTag, BadLength}
 use Rattle.tags.specs.declared.tag.Class.{Class}
 use Rattle.tags.specs.declared.tag.Class.TheVariants.{Application, Context}
-use Rattle.tags.specs.Tag.{PlainTag, PlainContent, null, boolean, contents, opening, closing, class_bit, number_bits, number_octets, length_bits, length_octets, HasContents, SpellsContent, SpellsTag, TakesTag, NoTag, IsCutTag, IsReservedNumber, IsReservedTag, IsBadTagLength, RefusesTag}
+use Rattle.tags.specs.Tag.{PlainTag, PlainContent, null, boolean, contents, opening, closing, class_bit, number_bits, number_octets, length_bits, length_octets}
+use Rattle.tags.specs.Tag.{HasContents, SpellsContent, SpellsTag, TakesTag, NoTag, IsCutTag, IsReservedNumber, IsReservedTag, IsBadTagLength, RefusesTag}
 use Rattle.tags.specs.Element.{TakesTags, waiting, Closes, StayOpen, NeverCloses, context}
 use Rattle.tags.specs.Value.{NoValue}
 use Rattle.tags.specs.Refusal.{application, RefusesInside, RefusesOpened, RefusesSomeTag, BeginsWithClosing, HasBadContents, RefusesValue}
@@ -17,7 +19,8 @@ use Rattle.tags.proofs.ValueLaws.{no_value_without_tag, no_value_of_context, no_
 
 -- ---- tags
 
-low_bits : (class : Class) (bits low : ℕ) → low < 8 → (class ≡ Application → low < 6) → ((16 * bits + class_bit class + low) / 8 % 2 ≡ 0) × (5 < (16 * bits + class_bit class + low) % 8) → ⊥
+low_bits : (class : Class) (bits low : ℕ) → low < 8 → (class ≡ Application → low < 6) → ((16 * bits + class_bit class + low) / 8 % 2 ≡ 0) ×
+    (5 < (16 * bits + class_bit class + low) % 8) → ⊥
 low_bits Application bits low small plain r = let p = plain refl in omega (arith, r.1)
 low_bits Context bits low small plain r = omega (arith, r.0)
 
@@ -33,7 +36,8 @@ not_reserved number rest long lt r =
     elim reserved [ inl a ↦ omega arith | inr b ↦ omega arith ]
 
 -- the first octets of a tag with a number and these low bits are not reserved
-number_not_reserved : (class : Class) (number low : ℕ) (rest : List ℕ) → number < 255 → low < 8 → (class ≡ Application → low < 6) → IsReservedTag ((16 * number_bits number + class_bit class + low) ∷ (number_octets number ++ rest)) → ⊥
+number_not_reserved : (class : Class) (number low : ℕ) (rest : List ℕ) → number < 255 → low < 8 → (class ≡ Application → low < 6) →
+    IsReservedTag ((16 * number_bits number + class_bit class + low) ∷ (number_octets number ++ rest)) → ⊥
 number_not_reserved class number low rest lt small plain (inl r) = low_bits class (number_bits number) low small plain r
 number_not_reserved class number low rest lt small plain (inr r) =
     elim (cases_lt number 15) [
@@ -41,36 +45,48 @@ number_not_reserved class number low rest lt small plain (inr r) =
       | inr long ↦ not_reserved number rest long lt r.1
     ]
 
-spelled_not_reserved : (front rest : List ℕ) (class : Class) (number : ℕ) (content : PlainContent) → SpellsContent front class number content → IsReservedTag (front ++ rest) → ⊥
-spelled_not_reserved front rest class number null s r = let q : IsReservedTag (0 ∷ rest) = subst (λ (x : List ℕ). IsReservedTag (x ++ rest)) (s.2) r in elim q [ inl a ↦ omega (arith, a.1) | inr b ↦ omega (arith, b.0) ]
-spelled_not_reserved front rest class number (boolean false) s r = let q : IsReservedTag (16 ∷ rest) = subst (λ (x : List ℕ). IsReservedTag (x ++ rest)) (s.2) r in elim q [ inl a ↦ omega (arith, a.1) | inr b ↦ omega (arith, b.0) ]
-spelled_not_reserved front rest class number (boolean true) s r = let q : IsReservedTag (17 ∷ rest) = subst (λ (x : List ℕ). IsReservedTag (x ++ rest)) (s.2) r in elim q [ inl a ↦ omega (arith, a.1) | inr b ↦ omega (arith, b.0) ]
+spelled_not_reserved : (front rest : List ℕ) (class : Class) (number : ℕ) (content : PlainContent) → SpellsContent front class number content →
+    IsReservedTag (front ++ rest) → ⊥
+spelled_not_reserved front rest class number null s r = let q : IsReservedTag (0 ∷ rest) = subst (λ (x : List ℕ). IsReservedTag (x ++ rest)) (s.2) r in
+    elim q [ inl a ↦ omega (arith, a.1) | inr b ↦ omega (arith, b.0) ]
+spelled_not_reserved front rest class number (boolean false) s r = let q : IsReservedTag (16 ∷ rest) =
+    subst (λ (x : List ℕ). IsReservedTag (x ++ rest)) (s.2) r in elim q [ inl a ↦ omega (arith, a.1) | inr b ↦ omega (arith, b.0) ]
+spelled_not_reserved front rest class number (boolean true) s r = let q : IsReservedTag (17 ∷ rest) =
+    subst (λ (x : List ℕ). IsReservedTag (x ++ rest)) (s.2) r in elim q [ inl a ↦ omega (arith, a.1) | inr b ↦ omega (arith, b.0) ]
 spelled_not_reserved front rest class number (contents inner) s r =
     let low = length_bits s.form (length inner) in
     let lt = length_bits-lt s.form (length inner) s.length_fits in
     let behind = length_octets s.form (length inner) ++ inner in
     let q = subst (λ (x : List ℕ). IsReservedTag (x ++ rest)) s.parts r in
-    number_not_reserved class number low (behind ++ rest) s.number_fits (omega arith) (λ is. lt) (subst (λ (x : List ℕ). IsReservedTag ((16 * number_bits number + class_bit class + low) ∷ x)) (append_assoc (number_octets number) behind rest) q)
+    number_not_reserved class number low (behind ++ rest) s.number_fits (omega arith) (λ is. lt)
+    (subst (λ (x : List ℕ). IsReservedTag ((16 * number_bits number + class_bit class + low) ∷ x)) (append_assoc (number_octets number) behind rest) q)
 spelled_not_reserved front rest class number opening s r =
     number_not_reserved Context number 6 rest s.1 (omega arith) (λ is. absurd cc) (subst (λ (x : List ℕ). IsReservedTag (x ++ rest)) s.2 r)
 spelled_not_reserved front rest class number closing s r =
     number_not_reserved Context number 7 rest s.1 (omega arith) (λ is. absurd cc) (subst (λ (x : List ℕ). IsReservedTag (x ++ rest)) s.2 r)
 
 -- a Null or Boolean of another length has an initial octet that no tag has
-not_bad_length : (class : Class) (bits low : ℕ) → low < 8 → (class ≡ Application → (1 < bits) × (low < 6)) → ((0 < 16 * bits + class_bit class + low) × (16 * bits + class_bit class + low < 6)) ⊎ ((17 < 16 * bits + class_bit class + low) × (16 * bits + class_bit class + low < 22)) → ⊥
+not_bad_length : (class : Class) (bits low : ℕ) → low < 8 → (class ≡ Application → (1 < bits) × (low < 6)) →
+    ((0 < 16 * bits + class_bit class + low) × (16 * bits + class_bit class + low < 6)) ⊎
+    ((17 < 16 * bits + class_bit class + low) × (16 * bits + class_bit class + low < 22)) → ⊥
 not_bad_length Application bits low small plain (inl r) = let p = plain refl in omega (arith, r.1, p.0)
 not_bad_length Application bits low small plain (inr r) = let p = plain refl in omega (arith, r.1, p.0)
 not_bad_length Context bits low small plain (inl r) = omega (arith, r.1)
 not_bad_length Context bits low small plain (inr r) = omega (arith, r.0, r.1)
 
-spelled_not_bad_length : (front rest : List ℕ) (class : Class) (number : ℕ) (content : PlainContent) → SpellsContent front class number content → IsBadTagLength (front ++ rest) → ⊥
-spelled_not_bad_length front rest class number null s r = let q : IsBadTagLength (0 ∷ rest) = subst (λ (x : List ℕ). IsBadTagLength (x ++ rest)) (s.2) r in elim q [ inl a ↦ omega (arith, a.0) | inr b ↦ omega (arith, b.0) ]
-spelled_not_bad_length front rest class number (boolean false) s r = let q : IsBadTagLength (16 ∷ rest) = subst (λ (x : List ℕ). IsBadTagLength (x ++ rest)) (s.2) r in elim q [ inl a ↦ omega (arith, a.1) | inr b ↦ omega (arith, b.0) ]
-spelled_not_bad_length front rest class number (boolean true) s r = let q : IsBadTagLength (17 ∷ rest) = subst (λ (x : List ℕ). IsBadTagLength (x ++ rest)) (s.2) r in elim q [ inl a ↦ omega (arith, a.1) | inr b ↦ omega (arith, b.0) ]
+spelled_not_bad_length : (front rest : List ℕ) (class : Class) (number : ℕ) (content : PlainContent) → SpellsContent front class number content →
+    IsBadTagLength (front ++ rest) → ⊥
+spelled_not_bad_length front rest class number null s r = let q : IsBadTagLength (0 ∷ rest) = subst (λ (x : List ℕ). IsBadTagLength (x ++ rest)) (s.2) r in
+    elim q [ inl a ↦ omega (arith, a.0) | inr b ↦ omega (arith, b.0) ]
+spelled_not_bad_length front rest class number (boolean false) s r = let q : IsBadTagLength (16 ∷ rest) =
+    subst (λ (x : List ℕ). IsBadTagLength (x ++ rest)) (s.2) r in elim q [ inl a ↦ omega (arith, a.1) | inr b ↦ omega (arith, b.0) ]
+spelled_not_bad_length front rest class number (boolean true) s r = let q : IsBadTagLength (17 ∷ rest) =
+    subst (λ (x : List ℕ). IsBadTagLength (x ++ rest)) (s.2) r in elim q [ inl a ↦ omega (arith, a.1) | inr b ↦ omega (arith, b.0) ]
 spelled_not_bad_length front rest class number (contents inner) s r =
     let low = length_bits s.form (length inner) in
     let lt = length_bits-lt s.form (length inner) s.length_fits in
-    not_bad_length class (number_bits number) low (omega arith) (λ is. (number_bits_above number (subst (λ (x : Class). HasContents x number) is s.may), lt)) (subst (λ (x : List ℕ). IsBadTagLength (x ++ rest)) s.parts r)
+    not_bad_length class (number_bits number) low (omega arith) (λ is. (number_bits_above number (subst (λ (x : Class). HasContents x number) is s.may), lt))
+    (subst (λ (x : List ℕ). IsBadTagLength (x ++ rest)) s.parts r)
 spelled_not_bad_length front rest class number opening s r =
     not_bad_length Context (number_bits number) 6 (omega arith) (λ is. absurd cc) (subst (λ (x : List ℕ). IsBadTagLength (x ++ rest)) s.2 r)
 spelled_not_bad_length front rest class number closing s r =
@@ -79,7 +95,8 @@ spelled_not_bad_length front rest class number closing s r =
 -- a tag that is refused is not spelled
 cut_has_no_tag : (octets front rest : List ℕ) (t : PlainTag) → IsCutTag octets → SpellsTag front t → octets ≡ front ++ rest → ⊥
 cut_has_no_tag octets front rest t cut s e =
-    let whole : front ++ (rest ++ cut.more) ≡ (octets ++ cut.more) ++ [] = sym (append_assoc front rest cut.more) ∙ ap (λ (x : List ℕ). x ++ cut.more) (sym e) ∙ sym (append-nil (octets ++ cut.more)) in
+    let whole : front ++ (rest ++ cut.more) ≡ (octets ++ cut.more) ++ [] = sym (append_assoc front rest cut.more) ∙ ap (λ (x : List ℕ). x ++ cut.more) (sym e)
+    ∙ sym (append-nil (octets ++ cut.more)) in
     let one = one_tag front (octets ++ cut.more) (rest ++ cut.more) [] t cut.tag s cut.spelled whole in
     let front-len = ap (λ (x : List ℕ). length x) one.front in
     let octets-len = ap (λ (x : List ℕ). length x) e in
@@ -87,8 +104,14 @@ cut_has_no_tag octets front rest t cut s e =
 
 pub refused_is_no_tag : (fault : Fault) (octets : List ℕ) → RefusesTag fault octets → NoTag octets
 refused_is_no_tag Short octets r = record { none = λ front rest t s e. cut_has_no_tag octets front rest t r s e }
-refused_is_no_tag BadTag octets r = record { none = λ front rest t s e. spelled_not_reserved front rest t.class t.number t.content s (subst (λ (x : List ℕ). IsReservedTag x) e r) }
-refused_is_no_tag BadLength octets r = record { none = λ front rest t s e. spelled_not_bad_length front rest t.class t.number t.content s (subst (λ (x : List ℕ). IsBadTagLength x) e r) }
+refused_is_no_tag BadTag octets r = record {
+  none =
+      λ front rest t s e. spelled_not_reserved front rest t.class t.number t.content s (subst (λ (x : List ℕ). IsReservedTag x) e r);
+}
+refused_is_no_tag BadLength octets r = record {
+  none =
+      λ front rest t s e. spelled_not_bad_length front rest t.class t.number t.content s (subst (λ (x : List ℕ). IsBadTagLength x) e r);
+}
 refused_is_no_tag fault octets r = absurd r
 
 reserved_grows : (octets more : List ℕ) → IsReservedTag octets → IsReservedTag (octets ++ more)
@@ -102,10 +125,12 @@ bad_length_grows [] more r = absurd r
 bad_length_grows (first ∷ rest) more r = r
 
 cut_or_reserved : (octets : List ℕ) → IsCutTag octets → IsReservedTag octets → ⊥
-cut_or_reserved octets cut r = spelled_not_reserved (octets ++ cut.more) [] cut.tag.class cut.tag.number cut.tag.content cut.spelled (subst (λ (x : List ℕ). IsReservedTag x) (sym (append-nil (octets ++ cut.more))) (reserved_grows octets cut.more r))
+cut_or_reserved octets cut r = spelled_not_reserved (octets ++ cut.more) [] cut.tag.class cut.tag.number cut.tag.content cut.spelled
+    (subst (λ (x : List ℕ). IsReservedTag x) (sym (append-nil (octets ++ cut.more))) (reserved_grows octets cut.more r))
 
 cut_or_bad_length : (octets : List ℕ) → IsCutTag octets → IsBadTagLength octets → ⊥
-cut_or_bad_length octets cut r = spelled_not_bad_length (octets ++ cut.more) [] cut.tag.class cut.tag.number cut.tag.content cut.spelled (subst (λ (x : List ℕ). IsBadTagLength x) (sym (append-nil (octets ++ cut.more))) (bad_length_grows octets cut.more r))
+cut_or_bad_length octets cut r = spelled_not_bad_length (octets ++ cut.more) [] cut.tag.class cut.tag.number cut.tag.content cut.spelled
+    (subst (λ (x : List ℕ). IsBadTagLength x) (sym (append-nil (octets ++ cut.more))) (bad_length_grows octets cut.more r))
 
 reserved_or_bad_length : (octets : List ℕ) → IsReservedTag octets → IsBadTagLength octets → ⊥
 reserved_or_bad_length [] r b = r
@@ -141,7 +166,8 @@ one_stop octets (t ∷ ts) (u ∷ us) x y a b nowhere none =
     one_stop a.0 ts us x y a.2 (subst (λ (z : List ℕ). TakesTags z us y) (sym one.rest) b.2) nowhere none
 
 -- tags that leave an element open, with none behind them, are no part of tags that close it
-never_closes : (octets : List ℕ) (ts us : List PlainTag) (x y : List ℕ) (n : ℕ) → TakesTags octets ts x → TakesTags octets us y → Closes ts n → StayOpen us n → NoTag y → ⊥
+never_closes : (octets : List ℕ) (ts us : List PlainTag) (x y : List ℕ) (n : ℕ) → TakesTags octets ts x → TakesTags octets us y → Closes ts n →
+    StayOpen us n → NoTag y → ⊥
 never_closes octets [] us x y (suc n) a b c d none = c
 never_closes octets [] [] x y zero a b c d none = d
 never_closes octets [] (u ∷ us) x y zero a b c d none = d
@@ -154,11 +180,13 @@ never_closes octets (t ∷ ts) (u ∷ us) x y (suc n) a b c d none =
 
 inside_never_closes : (fault : Fault) (inside : List ℕ) → RefusesInside fault inside → NeverCloses inside
 inside_never_closes fault inside r = record {
-  none = λ after c. never_closes inside c.tags r.reached.tags after r.rest 1 c.taken r.reached.taken c.balanced r.reached.left_open (refused_is_no_tag fault r.rest r.refused);
+  none = λ after c. never_closes inside c.tags r.reached.tags after r.rest 1 c.taken r.reached.taken c.balanced r.reached.left_open
+      (refused_is_no_tag fault r.rest r.refused);
 }
 
 opened_is_no_value : (A : Type 0) (fault : Fault) (octets : List ℕ) → RefusesOpened fault octets → NoValue A octets
-opened_is_no_value A fault octets r = no_value_of_context octets (context r.number opening) r.inside r.opened refl (no_element_never_closed octets r.number r.inside r.opened (inside_never_closes fault r.inside r.refused))
+opened_is_no_value A fault octets r = no_value_of_context octets (context r.number opening) r.inside r.opened refl
+    (no_element_never_closed octets r.number r.inside r.opened (inside_never_closes fault r.inside r.refused))
 
 some_tag_is_no_value : (A : Type 0) (fault : Fault) (octets : List ℕ) → RefusesSomeTag fault octets → NoValue A octets
 some_tag_is_no_value A fault octets (inl r) = no_value_without_tag octets (refused_is_no_tag fault octets r)
@@ -177,7 +205,8 @@ one_opened_refusal : (f g : Fault) (octets : List ℕ) → RefusesOpened f octet
 one_opened_refusal f g octets r s =
     let one = one_front_tag octets (context r.number opening) (context s.number opening) r.inside s.inside r.opened s.opened in
     let taken = subst (λ (z : List ℕ). TakesTags z s.refused.reached.tags s.refused.rest) (sym one.rest) s.refused.reached.taken in
-    let stop = one_stop r.inside r.refused.reached.tags s.refused.reached.tags r.refused.rest s.refused.rest r.refused.reached.taken taken (refused_is_no_tag f _ r.refused.refused) (refused_is_no_tag g _ s.refused.refused) in
+    let stop = one_stop r.inside r.refused.reached.tags s.refused.reached.tags r.refused.rest s.refused.rest r.refused.reached.taken taken
+    (refused_is_no_tag f _ r.refused.refused) (refused_is_no_tag g _ s.refused.refused) in
     one_tag_refusal f g r.refused.rest r.refused.refused (subst (λ (z : List ℕ). RefusesTag g z) (sym stop) s.refused.refused)
 
 -- what the first tag carries, where it is read at all
@@ -191,7 +220,8 @@ one_some_refusal f g octets (inr r) (inl s) = absurd ((refused_is_no_tag g octet
 one_some_refusal f g octets (inr r) (inr s) = one_opened_refusal f g octets r s
 
 -- a tag that is read and opens nothing is another cause than a refused one
-some_tag_or : (fault : Fault) (octets : List ℕ) (t : PlainTag) (rest : List ℕ) → RefusesSomeTag fault octets → TakesTag octets t rest → (t.content ≡ opening → ⊥) → ⊥
+some_tag_or : (fault : Fault) (octets : List ℕ) (t : PlainTag) (rest : List ℕ) → RefusesSomeTag fault octets → TakesTag octets t rest →
+    (t.content ≡ opening → ⊥) → ⊥
 some_tag_or fault octets t rest (inl r) taken other = (refused_is_no_tag fault octets r).none taken.0 rest t taken.1 taken.2
 some_tag_or fault octets t rest (inr r) taken other = other (one_content octets t (context r.number opening) rest r.inside taken r.opened)
 
@@ -203,7 +233,8 @@ some_tag_or_contents fault octets r c = some_tag_or fault octets (application c.
 
 closing_or_contents : (octets : List ℕ) → BeginsWithClosing octets → HasBadContents octets → ⊥
 closing_or_contents octets c b =
-    let e : closing ≡ contents b.inner = one_content octets (context c.number closing) (application b.number (contents b.inner)) c.rest b.rest c.taken b.taken in
+    let e : closing ≡ contents b.inner = one_content octets (context c.number closing) (application b.number (contents b.inner)) c.rest b.rest c.taken
+    b.taken in
     cc
 
 -- octets have one refusal

@@ -12,7 +12,8 @@ use Rattle.tags.specs.declared.tag.Class.TheVariants.{Application}
 use Rattle.tags.specs.declared.value.Value.{Value}
 use Rattle.tags.specs.declared.value.Value.TheVariants as value
 use Rattle.tags.specs.Number.{AreOctets, SpellsUnsigned, SpellsSigned, width, unsigned_octets, distance, signed_width, signed_octets, object_octets}
-use Rattle.tags.specs.Tag.{PlainContent, null, boolean, contents, opening, closing, initial_octets, LengthForm, in_initial, in_octet, in_two, in_four, length_bits, length_octets, IsLength, SpellsContent}
+use Rattle.tags.specs.Tag.{PlainContent, null, boolean, contents, opening, closing, initial_octets, LengthForm, in_initial, in_octet, in_two, in_four}
+use Rattle.tags.specs.Tag.{length_bits, length_octets, IsLength, SpellsContent}
 use Rattle.tags.specs.Value.{Says, Carries, SpellsValue}
 use Rattle.tags.specs.Canonical.{shortest, tagged, canonical_tag, canonical}
 use Rattle.tags.proofs.OctetLists.{AreOctets-after}
@@ -52,11 +53,14 @@ shortest_form form n fits =
       ]
     ]
 
-tagged_length : (class : Class) (number : ℕ) (octets : List ℕ) → length (tagged class number octets) ≡ length (initial_octets class number 0) + length (length_octets (shortest (length octets)) (length octets)) + length octets
+tagged_length : (class : Class) (number : ℕ) (octets : List ℕ) →
+    length (tagged class number octets) ≡ length (initial_octets class number 0) + length (length_octets (shortest (length octets)) (length octets)) + length
+    octets
 tagged_length class number octets = simp (length-append) (omega arith)
 
 -- no octets that spell a tag are fewer than the canonical ones
-pub tag_shortest : (front : List ℕ) (class : Class) (number : ℕ) (content : PlainContent) → SpellsContent front class number content → length (canonical_tag class number content) ≤ length front
+pub tag_shortest : (front : List ℕ) (class : Class) (number : ℕ) (content : PlainContent) → SpellsContent front class number content →
+    length (canonical_tag class number content) ≤ length front
 tag_shortest front class number null s = rw (s.2) (omega arith)
 tag_shortest front class number (boolean false) s = rw (s.2) (omega arith)
 tag_shortest front class number (boolean true) s = rw (s.2) (omega arith)
@@ -71,13 +75,15 @@ no_length_octet : (n : ℕ) → n < 5 → length (length_octets (shortest n) n) 
 unfolding shortest
 no_length_octet n lt = rw (lt-ltb n 5 lt) refl
 
-pub few_octets : (class : Class) (number : ℕ) (octets : List ℕ) → length octets ≤ 4 → length (tagged class number octets) ≡ length (initial_octets class number 0) + length octets
+pub few_octets : (class : Class) (number : ℕ) (octets : List ℕ) → length octets ≤ 4 →
+    length (tagged class number octets) ≡ length (initial_octets class number 0) + length octets
 few_octets class number octets few =
     let none = no_length_octet (length octets) (omega arith) in
     let len = tagged_length class number octets in
     omega (arith, none, len)
 
-fewer_contents : (class : Class) (number : ℕ) (xs ys : List ℕ) → length xs ≤ length ys → length ys ≤ 4 → length (tagged class number xs) ≤ length (tagged class number ys)
+fewer_contents : (class : Class) (number : ℕ) (xs ys : List ℕ) → length xs ≤ length ys → length ys ≤ 4 →
+    length (tagged class number xs) ≤ length (tagged class number ys)
 fewer_contents class number xs ys le few = rw (few_octets class number xs (omega arith), few_octets class number ys few) (omega arith)
 
 -- ---- numbers
@@ -164,23 +170,28 @@ least_signed z u (suc (suc (suc (suc k)))) some few is lt =
 fewest_signed : (octets : List ℕ) (z : ℤ) → AreOctets octets → SpellsSigned octets z → length (signed_octets z) ≤ length octets
 fewest_signed octets z fits s =
     let lt = big_from-lt 0 (length octets) octets fits in
-    rw (length-bytes_high_first (signed_width z) (cast_unsigned w32 z)) (least_signed z (big_number (length octets) octets) (length octets) s.some s.few s.value lt)
+    rw (length-bytes_high_first (signed_width z) (cast_unsigned w32 z))
+    (least_signed z (big_number (length octets) octets) (length octets) s.some s.few s.value lt)
 
 -- ---- values
 
-says_shortest : {A : Type 0} (number : ℕ) (inner : List ℕ) (v : Value A) → AreOctets inner → Says number inner v → length (canonical v) ≤ length (tagged Application number inner)
+says_shortest : {A : Type 0} (number : ℕ) (inner : List ℕ) (v : Value A) → AreOctets inner → Says number inner v →
+    length (canonical v) ≤ length (tagged Application number inner)
 says_shortest number inner value.Null fits s = absurd s
 says_shortest number inner (value.Bool b) fits s = absurd s
-says_shortest number inner (value.Unsigned n) fits s = rw (s.0) (fewer_contents Application 2 (unsigned_octets n) inner (fewest_unsigned inner n fits s.1) s.1.few)
+says_shortest number inner (value.Unsigned n) fits s =
+    rw (s.0) (fewer_contents Application 2 (unsigned_octets n) inner (fewest_unsigned inner n fits s.1) s.1.few)
 says_shortest number inner (value.Signed z) fits s = rw (s.0) (fewer_contents Application 3 (signed_octets z) inner (fewest_signed inner z fits s.1) s.1.few)
 says_shortest number inner (value.Text set octets) fits s = rw (s.0, s.1) (omega arith)
 says_shortest number inner (value.Bits unused octets) fits s = rw (s.0, s.1) (omega arith)
 says_shortest number inner (value.Enum n) fits s = rw (s.0) (fewer_contents Application 9 (unsigned_octets n) inner (fewest_unsigned inner n fits s.1) s.1.few)
-says_shortest number inner (value.Object object) fits s = rw (s.0) (fewer_contents Application 12 (object_octets object.object_type object.instance) inner (omega (arith, s.1.four)) (omega (arith, s.1.four)))
+says_shortest number inner (value.Object object) fits s =
+    rw (s.0) (fewer_contents Application 12 (object_octets object.object_type object.instance) inner (omega (arith, s.1.four)) (omega (arith, s.1.four)))
 says_shortest number inner (value.Other tag octets) fits s = rw (s.1, s.2) (omega arith)
 says_shortest number inner (value.Built octets) fits s = absurd s
 
-by_tag_shortest : {A : Type 0} (front : List ℕ) (class : Class) (number : ℕ) (content : PlainContent) (v : Value A) → AreOctets front → SpellsContent front class number content → Carries class number content v → length (canonical v) ≤ length front
+by_tag_shortest : {A : Type 0} (front : List ℕ) (class : Class) (number : ℕ) (content : PlainContent) (v : Value A) → AreOctets front →
+    SpellsContent front class number content → Carries class number content v → length (canonical v) ≤ length front
 by_tag_shortest front class number null v fits s c = rw (c, s.2) (omega arith)
 by_tag_shortest front class number (boolean false) v fits s c = rw (c, s.2) (omega arith)
 by_tag_shortest front class number (boolean true) v fits s c = rw (c, s.2) (omega arith)

@@ -41,7 +41,8 @@ says_one number octets (value.Object k) (value.Object l) s r =
 says_one number octets (value.Other m x) (value.Other n y) s r = cc
 says_one number octets v w s r = grind arith
 
-carries_one : {A : Type 0} (class : Class) (number : ℕ) (content : PlainContent) (v w : Value A) → Carries class number content v → Carries class number content w → v ≡ w
+carries_one : {A : Type 0} (class : Class) (number : ℕ) (content : PlainContent) (v w : Value A) → Carries class number content v →
+    Carries class number content w → v ≡ w
 carries_one class number null v w s r = s ∙ sym r
 carries_one class number (boolean b) v w s r = s ∙ sym r
 carries_one class number (contents octets) v w s r = says_one number octets v w s.1 r.1
@@ -49,7 +50,8 @@ carries_one class number opening v w s r = absurd s
 carries_one class number closing v w s r = absurd s
 
 -- a tag that carries a value is no element's first
-carried_class : {A : Type 0} (class : Class) (number : ℕ) (content : PlainContent) (front : List ℕ) (v : Value A) → SpellsContent front class number content → Carries class number content v → class ≡ Application
+carried_class : {A : Type 0} (class : Class) (number : ℕ) (content : PlainContent) (front : List ℕ) (v : Value A) → SpellsContent front class number content →
+    Carries class number content v → class ≡ Application
 carried_class class number null front v s c = s.0
 carried_class class number (boolean false) front v s c = s.0
 carried_class class number (boolean true) front v s c = s.0
@@ -70,8 +72,11 @@ tag_or_element a b x y v c e same =
 
 pub one_value : {A : Type 0} (a b x y : List ℕ) (v w : Value A) → SpellsValue a v → SpellsValue b w → a ++ x ≡ b ++ y → (a ≡ b) × (v ≡ w)
 one_value a b x y v w (inl s) (inl r) e =
-    let one = one_tag a b x y s.tag r.tag s.spelled r.spelled e in
-    (one.front, carries_one r.tag.class r.tag.number r.tag.content v w (subst (λ (u : PlainTag). Carries u.class u.number u.content v) one.tag s.carried) r.carried)
+    let one = one_tag a b x y s.tag r.tag s.spelled r.spelled e in (
+      one.front,
+      carries_one r.tag.class r.tag.number r.tag.content v w (subst (λ (u : PlainTag). Carries u.class u.number u.content v) one.tag s.carried)
+          r.carried,
+    )
 one_value a b x y v w (inl s) (inr r) e = absurd (tag_or_element a b x y v s r.1 e)
 one_value a b x y v w (inr s) (inl r) e = absurd (tag_or_element b a y x w r s.1 (sym e))
 one_value a b x y v w (inr s) (inr r) e =
@@ -85,8 +90,10 @@ value_some octets v (inr s) = element_some octets s.1
 -- octets spell one list of values
 pub one_list : {A : Type 0} (octets : List ℕ) (vs ws : List (Value A)) → SpellsValues octets vs → SpellsValues octets ws → vs ≡ ws
 one_list octets [] [] s r = refl
-one_list octets [] (w ∷ ws) s r = let some = value_some r.0 w r.2 in let len = length-append r.0 r.1 in absurd (omega (arith, ap (λ (x : List ℕ). length x) (sym s ∙ r.4)))
-one_list octets (v ∷ vs) [] s r = let some = value_some s.0 v s.2 in let len = length-append s.0 s.1 in absurd (omega (arith, ap (λ (x : List ℕ). length x) (sym r ∙ s.4)))
+one_list octets [] (w ∷ ws) s r = let some = value_some r.0 w r.2 in let len = length-append r.0 r.1 in
+    absurd (omega (arith, ap (λ (x : List ℕ). length x) (sym s ∙ r.4)))
+one_list octets (v ∷ vs) [] s r = let some = value_some s.0 v s.2 in let len = length-append s.0 s.1 in
+    absurd (omega (arith, ap (λ (x : List ℕ). length x) (sym r ∙ s.4)))
 one_list {A} octets (v ∷ vs) (w ∷ ws) s r =
     let one = one_value s.0 r.0 s.1 r.1 v w s.2 r.2 (sym s.4 ∙ r.4) in
     let rests : s.1 ≡ r.1 = append_cancel_left r.0 s.1 r.1 (ap (λ (x : List ℕ). x ++ s.1) (sym one.0) ∙ sym s.4 ∙ r.4) in
@@ -94,8 +101,10 @@ one_list {A} octets (v ∷ vs) (w ∷ ws) s r =
     ap (λ (x : Value A). x ∷ vs) one.1 ∙ ap (λ (xs : List (Value A)). w ∷ xs) more
 
 -- what the tag at a front carries
-pub carried_taken : {A : Type 0} (octets : List ℕ) (t : PlainTag) (next : List ℕ) (v : Value A) → TakesTag octets t next → Carries t.class t.number t.content v → TakesValue octets v next
-carried_taken octets t next v taken carried = record { front = taken.0; spelled = inl record { tag = t; spelled = taken.1; carried = carried }; parts = taken.2 }
+pub carried_taken : {A : Type 0} (octets : List ℕ) (t : PlainTag) (next : List ℕ) (v : Value A) → TakesTag octets t next →
+    Carries t.class t.number t.content v → TakesValue octets v next
+carried_taken octets t next v taken carried =
+    record { front = taken.0; spelled = inl record { tag = t; spelled = taken.1; carried = carried }; parts = taken.2 }
 
 -- ---- no value at a front
 
@@ -114,20 +123,23 @@ says_no_value number octets (value.Built x) bad s = s
 says_no_value number octets v bad s = grind arith
 
 -- contents that say no value
-pub no_value_of_contents : {A : Type 0} (octets : List ℕ) (number : ℕ) (inner next : List ℕ) → TakesTag octets (application number (contents inner)) next → IsBadContents number inner → NoValue A octets
+pub no_value_of_contents : {A : Type 0} (octets : List ℕ) (number : ℕ) (inner next : List ℕ) → TakesTag octets (application number (contents inner)) next →
+    IsBadContents number inner → NoValue A octets
 no_value_of_contents octets number inner next taken bad = record {
   none = λ front rest v s e. elim s [
     | inl c ↦ let one = one_tag taken.0 front next rest (application number (contents inner)) c.tag taken.1 c.spelled (sym taken.2 ∙ e) in
         says_no_value number inner v bad (subst (λ (u : PlainTag). Carries u.class u.number u.content v) (sym one.tag) c.carried).1
     | inr b ↦ let first = element_starts front rest b.1 in
-        let one = one_tag taken.0 first.taken.0 next first.next (application number (contents inner)) (first_tag front b.1) taken.1 first.taken.1 (sym taken.2 ∙ e ∙ first.taken.2) in
+        let one = one_tag taken.0 first.taken.0 next first.next (application number (contents inner)) (first_tag front b.1) taken.1 first.taken.1
+        (sym taken.2 ∙ e ∙ first.taken.2) in
         let not : Application ≡ Context = ap (λ (u : PlainTag). u.class) one.tag ∙ first.context in
         cc
   ];
 }
 
 -- a context tag that begins no element
-pub no_value_of_context : {A : Type 0} (octets : List ℕ) (t : PlainTag) (next : List ℕ) → TakesTag octets t next → t.class ≡ Context → NoElement octets → NoValue A octets
+pub no_value_of_context : {A : Type 0} (octets : List ℕ) (t : PlainTag) (next : List ℕ) → TakesTag octets t next → t.class ≡ Context → NoElement octets →
+    NoValue A octets
 no_value_of_context octets t next taken is none = record {
   none = λ front rest v s e. elim s [
     | inl c ↦ let one = one_tag taken.0 front next rest t c.tag taken.1 c.spelled (sym taken.2 ∙ e) in
@@ -139,14 +151,16 @@ no_value_of_context octets t next taken is none = record {
 }
 
 -- the same of what a call returned
-pub refused_as_element : (A : Type 0) {X : Type 0} (r : Result X Fault) (octets : List ℕ) (t : PlainTag) (next : List ℕ) → TakesTag octets t next → t.class ≡ Context → IfErr r (λ fault. (fault ≡ Memory) ⊎ NoElement octets) → IfErr r (λ fault. (fault ≡ Memory) ⊎ NoValue A octets)
+pub refused_as_element : (A : Type 0) {X : Type 0} (r : Result X Fault) (octets : List ℕ) (t : PlainTag) (next : List ℕ) → TakesTag octets t next →
+    t.class ≡ Context → IfErr r (λ fault. (fault ≡ Memory) ⊎ NoElement octets) → IfErr r (λ fault. (fault ≡ Memory) ⊎ NoValue A octets)
 refused_as_element A (Ok x) octets t next taken is r = tt
 refused_as_element A (Err fault) octets t next taken is (inl memory) = inl memory
 refused_as_element A (Err fault) octets t next taken is (inr none) = inr (no_value_of_context octets t next taken is none)
 
 -- a closing tag begins no value
 pub no_value_of_closing : {A : Type 0} (octets : List ℕ) (t : PlainTag) (next : List ℕ) → TakesTag octets t next → t.content ≡ closing → NoValue A octets
-no_value_of_closing octets t next taken is = no_value_of_context octets t next taken (bracket_class octets t next taken (inr is)) (no_element_otherwise octets t next taken (inr is))
+no_value_of_closing octets t next taken is =
+    no_value_of_context octets t next taken (bracket_class octets t next taken (inr is)) (no_element_otherwise octets t next taken (inr is))
 
 -- ---- which refusal
 
@@ -159,11 +173,17 @@ refused_by_tag fault octets (inl r) = absurd r
 refused_by_tag fault octets (inr r) = absurd r.refused.refused
 
 -- what is refused as an element, where a context tag stands
-pub refused_by_element : (fault : Fault) (octets : List ℕ) (t : PlainTag) (next : List ℕ) → TakesTag octets t next → t.class ≡ Context → RefusesElement fault octets → RefusesValue fault octets
+pub refused_by_element : (fault : Fault) (octets : List ℕ) (t : PlainTag) (next : List ℕ) → TakesTag octets t next → t.class ≡ Context →
+    RefusesElement fault octets → RefusesValue fault octets
 refused_by_element fault octets t next taken is (inl r) = refused_by_tag fault octets r
 refused_by_element fault octets t next taken is (inr r) =
     let one = one_front_tag octets t r.1.tag next r.1.rest taken r.1.taken in
     rw (r.0) (elim r.1.other [
       | inl app ↦ let not : t.class ≡ Application = ap (λ (u : PlainTag). u.class) one.tag ∙ app in absurd cc
-      | inr closes ↦ inr record { number = r.1.tag.number; rest = r.1.rest; taken = context_tag octets r.1.tag r.1.rest closing r.1.taken (sym (ap (λ (u : PlainTag). u.class) one.tag) ∙ is) closes }
+      | inr closes ↦ inr record {
+        number = r.1.tag.number;
+        rest = r.1.rest;
+        taken =
+            context_tag octets r.1.tag r.1.rest closing r.1.taken (sym (ap (λ (u : PlainTag). u.class) one.tag) ∙ is) closes;
+      }
     ])

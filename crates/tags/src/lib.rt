@@ -17,7 +17,7 @@
 mod element;
 mod fault;
 mod items;
-pub mod laws;
+mod laws;
 mod number;
 mod object_id;
 mod reader;
@@ -28,6 +28,11 @@ mod writer;
 
 pub use fault::Fault;
 pub use items::{Items, Octets};
+pub use laws::{
+    built_is_itself, equality, list_is_spelled, one_list, one_tag, one_value, tag_is_refused_once,
+    tag_is_shortest, tag_is_spelled, tag_reads_back, value_is_refused_once, value_is_shortest,
+    value_is_spelled, value_reads_back,
+};
 pub use number::{signed_from_contents, unsigned_from_contents};
 pub use object_id::ObjectId;
 pub use reader::Reader;

@@ -10,8 +10,9 @@ use Rattle.npdu.specs.declared.mac.Way.{Way}
 use Rattle.npdu.specs.declared.message.Message.{Message}
 use Rattle.npdu.specs.declared.message.Message.TheVariants.{WhoIsRouterToNetwork, IAmRouterToNetwork, RejectMessageToNetwork, Other, Proprietary}
 use Rattle.npdu.specs.declared.rejected.Rejected.{Rejected}
-use Rattle.unitdata.specs.Hearing.{Content, says, refuses, Heard, Brings, OnlyBrings, BringsNothing, BringsSomething, OnlyContent, NoContent, SpellsContent, is_here, sender, way_to}
-use Rattle.station_rules.specs.Hearing.{is_alone}
+use Rattle.unitdata.specs.Hearing.{Content, says, refuses, Heard, Brings, OnlyBrings, BringsNothing, BringsSomething, OnlyContent, NoContent, SpellsContent}
+use Rattle.unitdata.specs.Hearing.{is_here, sender, way_to}
+use Rattle.unitdata.specs.Hearing.{is_alone}
 
 some_same : {X : Type 0} (x y : X) → Some x ≡ Some y → x ≡ y
 some_same x y e = cc

@@ -4,7 +4,8 @@ use Rattle.npdu.specs.Header.{PlainDestination, canonical, control_of, dnet_octe
 use Rattle.unitdata.specs.Saying.{header_to}
 
 -- the octets of a header without an APDU, and an APDU behind them
-pub begun : (expects_reply : Bool) (d : Option PlainDestination) (out apdu : List ℕ) → out ≡ canonical (header_to expects_reply d []) → out ++ apdu ≡ canonical (header_to expects_reply d apdu)
+pub begun : (expects_reply : Bool) (d : Option PlainDestination) (out apdu : List ℕ) → out ≡ canonical (header_to expects_reply d []) →
+    out ++ apdu ≡ canonical (header_to expects_reply d apdu)
 begun expects_reply None out apdu e = ap (λ (o : List ℕ). o ++ apdu) e
 begun expects_reply (Some d) out apdu e =
     ap (λ (o : List ℕ). o ++ apdu) e

@@ -1,5 +1,5 @@
 -- What an NPDU brings to a station of a network (5.1, 6.2, 6.5.2).
-use Rattle.std.specs.Prelude.{◌≡◌, ℕ, Bool, true, false, List, Option, Some, None}
+use Rattle.std.specs.Prelude.{◌≡◌, ℕ, Bool, true, false, List, Option, Some, None, is_none}
 use Rattle.apdu.specs.Apdu.{PlainApdu}
 use Rattle.apdu.specs.Apdu as application
 use Rattle.npdu.specs.Header.{Header, PlainDestination, PlainSource}
@@ -15,7 +15,7 @@ use Rattle.npdu.specs.declared.message.Message.TheVariants.{RejectMessageToNetwo
 use Rattle.npdu.specs.declared.rejected.Rejected.{Rejected}
 use Rattle.npdu.specs.declared.view.Dnet.{Dnet}
 use Rattle.npdu.specs.declared.view.Dnet.TheVariants.{Network, Global}
-use Rattle.station_rules.specs.Hearing.{is_alone}
+use Rattle.npdu.specs.declared.mac.Target.TheVariants.{One, All}
 
 -- whether DNET is the global broadcast (6.2.2)
 abbrev pub is_global : Dnet → Bool
@@ -26,6 +26,11 @@ is_global (Network number) = false
 abbrev pub is_here : Option PlainDestination → Bool
 is_here None = true
 is_here (Some d) = is_global d.net
+
+-- a message came to this station alone: not by a broadcast on the link, and without DNET (6.2.2)
+abbrev pub is_alone : Target → Option PlainDestination → Bool
+is_alone (One mac) destination = is_none destination
+is_alone All destination = false
 
 -- the station of a network with an address of MS/TP or BACnet/IP (Table 6-2)
 abbrev pub station_at : ℕ → Option Mac → Option Station
@@ -58,7 +63,7 @@ SpellsContent None octets (says apdu) = application.Spells octets apdu
 SpellsContent (Some RejectMessageToNetwork) octets (refuses rejected) = SpellsRejected octets rejected
 SpellsContent message octets content = ⊥
 
--- .. and nothing else
+-- what stands behind a header says this and nothing else
 pub record OnlyContent (message : Option Message) (octets : List ℕ) (content : Content) : Type 0 where
   pub only : (x : Content) → SpellsContent message octets x → content ≡ x
 
@@ -83,15 +88,15 @@ pub record Brings (net : ℕ) (from : Mac) (to : Target) (npdu : List ℕ) (h : 
   pub alone : h.alone ≡ is_alone to header.destination
   pub said : SpellsContent header.message header.body h.content
 
--- .. and nothing else
+-- such an NPDU brings this there and nothing else
 pub record OnlyBrings (net : ℕ) (from : Mac) (to : Target) (npdu : List ℕ) (h : Heard) : Type 0 where
   pub only : (x : Heard) → Brings net from to npdu x → h ≡ x
 
--- it brings nothing there
+-- such an NPDU brings nothing there
 pub record BringsNothing (net : ℕ) (from : Mac) (to : Target) (npdu : List ℕ) : Type 0 where
   pub none : (h : Heard) → Brings net from to npdu h → ⊥
 
--- it brings something there: it isn't dropped for its header or its destination
+-- such an NPDU brings something there: it isn't dropped for its header or its destination
 pub record BringsSomething (net : ℕ) (from : Mac) (to : Target) (npdu : List ℕ) : Type 0 where
   pub heard : Heard
   pub brings : Brings net from to npdu heard

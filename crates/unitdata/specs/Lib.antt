@@ -1,3 +1,4 @@
 pub mod Hearing
 pub mod Heard
+pub mod Asking
 pub mod Saying

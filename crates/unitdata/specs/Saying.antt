@@ -1,14 +1,12 @@
 -- The header that an APDU is said behind (6.2, 6.5.1).
 use Rattle.std.specs.Prelude.{ℕ, ◌&&◌, nat_lt, Bool, true, false, List, [], Option, Some, None, option_map}
-use Rattle.npdu.specs.Header.{Header, PlainDestination, canonical}
+use Rattle.apdu.specs.declared.pdu_type.PduType.{PduType}
+use Rattle.apdu.specs.declared.pdu_type.PduType.TheVariants.{ConfirmedRequest, ComplexAck}
+use Rattle.npdu.specs.Header.{INITIAL_HOP_COUNT, Header, PlainDestination, canonical}
 use Rattle.npdu.specs.Mac.{mac_octets}
 use Rattle.npdu.specs.declared.mac.Station.{Station}
 use Rattle.npdu.specs.declared.priority.Priority.TheVariants.{Normal}
 use Rattle.npdu.specs.declared.view.Dnet.TheVariants.{Network, Global}
-
--- the hop count of a message where it sets out (6.2.2.1)
-abbrev pub initial_hop_count : ℕ
-initial_hop_count = 255
 
 -- a header of normal priority without a source and a network message, and the APDU behind it (6.2.2)
 abbrev pub header_to : (expects_reply : Bool) → Option PlainDestination → List ℕ → Header
@@ -23,11 +21,11 @@ header_to expects_reply destination apdu = record {
 
 -- a station as DNET and DADR name it (6.2.2)
 abbrev pub destination_to : Station → PlainDestination
-destination_to s = record { net = Network s.net; mac = mac_octets s.mac; hops = initial_hop_count }
+destination_to s = record { net = Network s.net; mac = mac_octets s.mac; hops = INITIAL_HOP_COUNT }
 
 -- all stations of all networks (6.2.2)
 abbrev pub everywhere : PlainDestination
-everywhere = record { net = Global; mac = []; hops = initial_hop_count }
+everywhere = record { net = Global; mac = []; hops = INITIAL_HOP_COUNT }
 
 -- the NPDU of an APDU to a station of another network, or to one of this network (6.2.2)
 unfoldable pub npdu_to : (expects_reply : Bool) → Option Station → List ℕ → List ℕ
@@ -42,3 +40,9 @@ global_npdu apdu = canonical (header_to false (Some everywhere) apdu)
 abbrev pub is_spelled : Option Station → Bool
 is_spelled None = true
 is_spelled (Some s) = nat_lt 0 s.net && nat_lt s.net 65535
+
+-- a reply is expected to a request, whole or a segment, and to a segment of an answer, and to nothing else (6.2.2)
+abbrev pub expects_reply : PduType → (segmented : Bool) → Bool
+expects_reply ConfirmedRequest segmented = true
+expects_reply ComplexAck segmented = segmented
+expects_reply kind segmented = false

@@ -9,7 +9,6 @@ ghost use Rattle.unitdata.specs.Heard.{IsNamed, content_of, heard_of};
 
 use apdu::Apdu;
 use npdu::{Destination, Dnet, Mac, Message, Source, Station, Target, View, Way};
-use station_rules::is_alone;
 
 /// What a station's application hears of a message.
 #[derive(Clone, Copy, Debug, PartialEq, Eq)]
@@ -70,6 +69,17 @@ fn is_here(destination: Option<Destination<'_>>) -> bool
             Dnet::Global => true,
             Dnet::Network(_) => false,
         },
+    }
+}
+
+/// Whether a message that was sent to this target on the link, with this DNET and DADR, came to this station alone, and
+/// not by a broadcast (6.2.2).
+fn is_alone(to: Target, destination: Option<Destination<'_>>) -> bool
+    ensures { result ≡ spec.is_alone to (option_map destination_of destination.entry) }
+{
+    match to {
+        Target::One(_) => destination.is_none(),
+        Target::All => false,
     }
 }
 

@@ -6,14 +6,19 @@
 //! `begin_global` that of one to all stations of all networks; the octets of the APDU are written behind it.
 //!
 //! To the layer above it promises: what is heard is the one thing that the octets bring there, and nothing is heard
-//! where they bring nothing; what is said has the header that its way asks for.
+//! where they bring nothing; what is said has the header that its way asks for. Whether a message came to one station
+//! alone, whether it asks for this device and whether a reply is expected are rules of their own, so that a wrong one
+//! is refused here, before any state is read.
 //!
 //! - `hearing`: what an NPDU brings.
-//! - `saying`: the header that an APDU is said behind.
+//! - `asking`: whether an unconfirmed request asks who this device is.
+//! - `saying`: the header that an APDU is said behind, and whether a reply is expected to it.
 #![tactic(auto)]
 
+mod asking;
 mod hearing;
 mod saying;
 
+pub use asking::asks_who;
 pub use hearing::{Content, Heard, hear};
-pub use saying::{begin, begin_global, is_spelled};
+pub use saying::{begin, begin_global, expects_reply, is_spelled};

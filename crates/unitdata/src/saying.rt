@@ -1,10 +1,11 @@
-//! The header that an APDU is said behind.
+//! The header that an APDU is said behind, and whether a reply is expected to it (6.2.2).
 
 ghost use Rattle.std.specs.Prelude.{◌≡◌, ◌++◌, List, ℕ, true, IfOk, IfErr, IfSome, option_map};
 ghost use Rattle.npdu.specs.Header.{IsDestination, canonical, destination_of};
 ghost use Rattle.unitdata.specs.Saying.{destination_to, global_npdu, header_to, npdu_to};
 ghost use Rattle.unitdata.specs.Saying as spec;
 
+use apdu::PduType;
 use npdu::{Destination, Dnet, INITIAL_HOP_COUNT, Priority, Station, View};
 use std::alloc::Allocator;
 use tags::Fault;
@@ -95,4 +96,21 @@ fn header<A: Allocator + Copy>(
     let mut out = Vec::with_capacity(alloc, SHORT_NPDU)?;
     npdu::write(&view, &mut out)?;
     Ok(out)
+}
+
+/// Whether the sender of an APDU of this type, a segment or whole, waits for a reply to it: to a request, whole or a
+/// segment, and to a segment of an answer (6.2.2).
+pub fn expects_reply(kind: PduType, segmented: bool) -> bool
+    ensures { result ≡ spec.expects_reply kind segmented }
+{
+    match kind {
+        PduType::ConfirmedRequest => true,
+        PduType::ComplexAck => segmented,
+        PduType::UnconfirmedRequest
+        | PduType::SimpleAck
+        | PduType::SegmentAck
+        | PduType::Error
+        | PduType::Reject
+        | PduType::Abort => false,
+    }
 }

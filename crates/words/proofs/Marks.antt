@@ -1,10 +1,12 @@
 -- What a search for a mark finds is where it stands.
-use Rattle.std.proofs.Common.{◌≡◌, ◌∙◌, sym, ap, refl, ℕ, zero, suc, ◌+◌, ◌<◌, ◌≤◌, true, false, List, [], ◌∷◌, ◌++◌, length, take, drop, Option, Some, None, arith}
+use Rattle.std.proofs.Common.{◌≡◌, ◌∙◌, sym, ap, refl, ℕ, zero, suc, ◌+◌, ◌<◌, ◌≤◌, true, false, List, [], ◌∷◌, ◌++◌, length, take, drop, Option, Some, None}
+use Rattle.std.proofs.Common.{arith}
 use Rattle.std.proofs.lemmas.Bool.{false_from_ne_true, cond-true, cond-false}
 use Rattle.std.proofs.lemmas.Bool.Decides.{Decides-eqb}
 use Rattle.std.proofs.lemmas.Slice.Eq.{starts_is}
 use Rattle.std.specs.Str.Pattern.{FindsText, RFindsText, LacksTextAt, SplitsAroundMatch}
-use Rattle.words.specs.Marks.{begin_with, further, or_front, first_place, last_place, words_before, words_behind, first_part, other_parts, but_last_part, last_part}
+use Rattle.words.specs.Marks.{begin_with, further, or_front, first_place, last_place, words_before, words_behind, first_part, other_parts, but_last_part}
+use Rattle.words.specs.Marks.{last_part}
 
 stands : (mark words rest : List ℕ) → words ≡ mark ++ rest → begin_with mark words ≡ true
 stands mark words rest e = (starts_is Decides-eqb words mark (begin_with mark words) refl).1 rest e
@@ -27,7 +29,8 @@ no_last mark (c ∷ words) none =
 one_more : (n : ℕ) → n + 1 ≡ suc n
 one_more n = omega arith
 
-is_first : (mark words : List ℕ) (at : ℕ) (rest : List ℕ) → at ≤ length words → ((i : ℕ) → i < at → LacksTextAt mark words i) → drop at words ≡ mark ++ rest → first_place mark words ≡ Some at
+is_first : (mark words : List ℕ) (at : ℕ) (rest : List ℕ) → at ≤ length words → ((i : ℕ) → i < at → LacksTextAt mark words i) → drop at words ≡ mark ++ rest →
+    first_place mark words ≡ Some at
 is_first mark [] zero rest le none e = ap (or_front None) (stands mark [] rest e)
 is_first mark [] (suc at) rest le none e = absurd (omega (arith, le))
 is_first mark (c ∷ words) zero rest le none e = cond-true _ (Some 0) _ (stands mark (c ∷ words) rest e)
@@ -36,14 +39,16 @@ is_first mark (c ∷ words) (suc at) rest le none e =
     ap further (is_first mark words at rest (omega (arith, le)) (λ i lt. none (suc i) (omega (arith, lt))) e) ∙
     ap Some (one_more at)
 
-is_last : (mark words : List ℕ) (at : ℕ) (rest : List ℕ) → at ≤ length words → ((i : ℕ) → at < i → i ≤ length words → LacksTextAt mark words i) → drop at words ≡ mark ++ rest → last_place mark words ≡ Some at
+is_last : (mark words : List ℕ) (at : ℕ) (rest : List ℕ) → at ≤ length words → ((i : ℕ) → at < i → i ≤ length words → LacksTextAt mark words i) →
+    drop at words ≡ mark ++ rest → last_place mark words ≡ Some at
 is_last mark [] zero rest le none e = ap (or_front None) (stands mark [] rest e)
 is_last mark [] (suc at) rest le none e = absurd (omega (arith, le))
 is_last mark (c ∷ words) zero rest le none e =
     ap (λ p. or_front (further p) (begin_with mark (c ∷ words))) (no_last mark words (λ i le. none (suc i) (omega arith) (omega (arith, le)))) ∙
     ap (or_front None) (stands mark (c ∷ words) rest e)
 is_last mark (c ∷ words) (suc at) rest le none e =
-    ap (λ p. or_front (further p) (begin_with mark (c ∷ words))) (is_last mark words at rest (omega (arith, le)) (λ i lt le. none (suc i) (omega (arith, lt)) (omega (arith, le))) e) ∙
+    ap (λ p. or_front (further p) (begin_with mark (c ∷ words)))
+    (is_last mark words at rest (omega (arith, le)) (λ i lt le. none (suc i) (omega (arith, lt)) (omega (arith, le))) e) ∙
     ap Some (one_more at)
 
 -- what is cut at a place, where the place is known

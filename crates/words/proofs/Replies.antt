@@ -15,7 +15,10 @@ use Rattle.words.specs.Marks.{first_part, other_parts}
 use Rattle.words.specs.Says.{HasNo, before, behind, space}
 use Rattle.words.specs.Unsaid.{NoObject, NoReference, NoUnsigned}
 use Rattle.words.specs.NoRequests.{NoGiven, NoPlace, NoValues}
-use Rattle.words.specs.Replies.{AreValuesIn, IsBracketed, IsErrorIn, NoBracketed, NoBrackets, NoEachResult, NoError, NoErrorReply, NoKind, NoNamedError, NoObjects, NoRefusal, NoReply, NoResult, NoResults, NoValuesRead, SaysBracketed, SaysEachResult, SaysBareError, SaysError, SaysErrorBy, SaysErrorIn, SaysErrorReply, SaysKind, SaysNamedError, SaysObjects, SaysRefusal, SaysReply, SaysResult, SaysResultBy, SaysResults, SaysValuesRead}
+use Rattle.words.specs.Replies.{AreValuesIn, IsBracketed, IsErrorIn, NoBracketed, NoBrackets, NoEachResult, NoError, NoErrorReply, NoKind, NoNamedError}
+use Rattle.words.specs.Replies.{NoObjects, NoRefusal, NoReply, NoResult, NoResults, NoValuesRead, SaysBracketed, SaysEachResult, SaysBareError, SaysError}
+use Rattle.words.specs.Replies.{SaysErrorBy, SaysErrorIn, SaysErrorReply, SaysKind, SaysNamedError, SaysObjects, SaysRefusal, SaysReply, SaysResult}
+use Rattle.words.specs.Replies.{SaysResultBy, SaysResults, SaysValuesRead}
 use Rattle.words.proofs.Lists.{Reads, begins, goes_on, ends, stops, shortens}
 use Rattle.words.proofs.Requests.{none_of_nothing, place_whole, place_no_object, place_no_property}
 
@@ -41,7 +44,8 @@ no_error_in : {A : Type 0} (words : Option (List ℕ)) (r : Result (List (Value 
 no_error_in words (Ok vs) e s = s
 no_error_in words (Err x) e s = subst (λ (w : Option (List ℕ)). SaysErrorIn w x) e s
 
-other_error_in : {A : Type 0} (words : Option (List ℕ)) (w : List ℕ) (r : Result (List (Value A)) (ErrorClass × ErrorCode)) → words ≡ Some w → NoError w → IsErrorIn words r → ⊥
+other_error_in : {A : Type 0} (words : Option (List ℕ)) (w : List ℕ) (r : Result (List (Value A)) (ErrorClass × ErrorCode)) → words ≡ Some w → NoError w →
+    IsErrorIn words r → ⊥
 other_error_in words w (Ok vs) e none s = s
 other_error_in words w (Err x) e none s = none.none x.0 x.1 (subst (λ (v : Option (List ℕ)). SaysErrorIn v x) e s)
 
@@ -54,14 +58,17 @@ refusal_no_error A words w e none = record { none = λ r s. other_error_in (othe
 pub refusal_no_property : (A : Type 0) (words : List ℕ) → NoReference (first_part (codes " ! ") words) → NoRefusal A words
 refusal_no_property A words none = record { none = λ r s. none.none (record { property = r.property; index = r.index }) s.property_said }
 
-pub refusal_said : {A : Type 0} (words w : List ℕ) (r : PropertyResult A) (e : ErrorClass × ErrorCode) → other_parts (codes " ! ") words ≡ Some w → r.result ≡ Err e → SaysError w e.0 e.1 → IsErrorIn (other_parts (codes " ! ") words) r.result
-refusal_said words w r e f g s = subst (λ (x : Result _ _). IsErrorIn (other_parts (codes " ! ") words) x) (sym g) (subst (λ (v : Option (List ℕ)). SaysErrorIn v e) (sym f) s)
+pub refusal_said : {A : Type 0} (words w : List ℕ) (r : PropertyResult A) (e : ErrorClass × ErrorCode) → other_parts (codes " ! ") words ≡ Some w →
+    r.result ≡ Err e → SaysError w e.0 e.1 → IsErrorIn (other_parts (codes " ! ") words) r.result
+refusal_said words w r e f g s = subst (λ (x : Result _ _). IsErrorIn (other_parts (codes " ! ") words) x) (sym g)
+    (subst (λ (v : Option (List ℕ)). SaysErrorIn v e) (sym f) s)
 
 -- results of a property
 pub result_refused : {A : Type 0} (words : List ℕ) (r : PropertyResult A) → other_parts (codes " = ") words ≡ None → SaysRefusal words r → SaysResult words r
 result_refused words r e s = subst (λ (w : Option (List ℕ)). SaysResultBy words w r) (sym e) s
 
-pub result_given : {A : Type 0} (words place w : List ℕ) (r : PropertyResult A) → place ≡ first_part (codes " = ") words → other_parts (codes " = ") words ≡ Some w → SaysValuesRead place w r → SaysResult words r
+pub result_given : {A : Type 0} (words place w : List ℕ) (r : PropertyResult A) → place ≡ first_part (codes " = ") words →
+    other_parts (codes " = ") words ≡ Some w → SaysValuesRead place w r → SaysResult words r
 result_given words place w r f e s = subst (λ (v : Option (List ℕ)). SaysResultBy words v r) (sym e) (subst (λ (p : List ℕ). SaysValuesRead p w r) f s)
 
 pub result_no_refusal : (A : Type 0) (words : List ℕ) → other_parts (codes " = ") words ≡ None → NoRefusal A words → NoResult A words
@@ -71,8 +78,10 @@ no_values_in : {A : Type 0} (w : List ℕ) (r : Result (List (Value A)) (ErrorCl
 no_values_in w (Ok vs) none s = none.none vs s
 no_values_in w (Err e) none s = s
 
-pub result_no_values : (A : Type 0) (words place w : List ℕ) → place ≡ first_part (codes " = ") words → other_parts (codes " = ") words ≡ Some w → NoValuesRead A place w → NoResult A words
-result_no_values A words place w f e none = record { none = λ r s. none.none r (subst (λ (p : List ℕ). SaysValuesRead p w r) (sym f) (subst (λ (v : Option (List ℕ)). SaysResultBy words v r) e s)) }
+pub result_no_values : (A : Type 0) (words place w : List ℕ) → place ≡ first_part (codes " = ") words → other_parts (codes " = ") words ≡ Some w →
+    NoValuesRead A place w → NoResult A words
+result_no_values A words place w f e none =
+    record { none = λ r s. none.none r (subst (λ (p : List ℕ). SaysValuesRead p w r) (sym f) (subst (λ (v : Option (List ℕ)). SaysResultBy words v r) e s)) }
 
 pub read_no_values : (A : Type 0) (place w : List ℕ) → NoValues A w → NoValuesRead A place w
 read_no_values A place w none = record { none = λ r s. no_values_in w r.result none s.values_said }
@@ -94,13 +103,15 @@ ReadsEach whole rs rest = Reads (other_parts (codes "; ")) (λ w r. SaysResult (
 pub each_begins : (A : Type 0) (whole : Option (List ℕ)) → ReadsEach {A = A} whole [] whole
 each_begins A whole = begins (other_parts (codes "; ")) (λ w r. SaysResult (first_part (codes "; ") w) r) whole
 
-pub each_goes_on : {A : Type 0} (whole : Option (List ℕ)) (rs : List (PropertyResult A)) (here : List ℕ) (x : PropertyResult A) → ReadsEach whole rs (Some here) → SaysResult (first_part (codes "; ") here) x → ReadsEach whole (rs ++ x ∷ []) (other_parts (codes "; ") here)
+pub each_goes_on : {A : Type 0} (whole : Option (List ℕ)) (rs : List (PropertyResult A)) (here : List ℕ) (x : PropertyResult A) →
+    ReadsEach whole rs (Some here) → SaysResult (first_part (codes "; ") here) x → ReadsEach whole (rs ++ x ∷ []) (other_parts (codes "; ") here)
 each_goes_on whole rs here x r said = goes_on (other_parts (codes "; ")) (λ w r. SaysResult (first_part (codes "; ") w) r) whole rs here x r said
 
 pub each_ends : {A : Type 0} (whole : Option (List ℕ)) (rs : List (PropertyResult A)) → ReadsEach whole rs None → SaysEachResult whole rs
 each_ends whole rs r = ends (other_parts (codes "; ")) (λ w r. SaysResult (first_part (codes "; ") w) r) whole rs r
 
-pub each_stops : {A : Type 0} (whole : Option (List ℕ)) (rs : List (PropertyResult A)) (here : List ℕ) → ReadsEach whole rs (Some here) → NoResult A (first_part (codes "; ") here) → NoEachResult A whole
+pub each_stops : {A : Type 0} (whole : Option (List ℕ)) (rs : List (PropertyResult A)) (here : List ℕ) → ReadsEach whole rs (Some here) →
+    NoResult A (first_part (codes "; ") here) → NoEachResult A whole
 each_stops whole rs here r none = record { none = stops (other_parts (codes "; ")) (λ w r. SaysResult (first_part (codes "; ") w) r) whole rs here r none.none }
 
 -- lists of results of objects
@@ -110,14 +121,19 @@ ReadsObjects whole rs rest = Reads (other_parts (codes "] [")) (λ w r. SaysResu
 pub objects_begin : (A : Type 0) (whole : Option (List ℕ)) → ReadsObjects {A = A} whole [] whole
 objects_begin A whole = begins (other_parts (codes "] [")) (λ w r. SaysResults (first_part (codes "] [") w) r) whole
 
-pub objects_go_on : {A : Type 0} (whole : Option (List ℕ)) (rs : List (ObjectResults A)) (here : List ℕ) (x : ObjectResults A) → ReadsObjects whole rs (Some here) → SaysResults (first_part (codes "] [") here) x → ReadsObjects whole (rs ++ x ∷ []) (other_parts (codes "] [") here)
+pub objects_go_on : {A : Type 0} (whole : Option (List ℕ)) (rs : List (ObjectResults A)) (here : List ℕ) (x : ObjectResults A) →
+    ReadsObjects whole rs (Some here) → SaysResults (first_part (codes "] [") here) x → ReadsObjects whole (rs ++ x ∷ []) (other_parts (codes "] [") here)
 objects_go_on whole rs here x r said = goes_on (other_parts (codes "] [")) (λ w r. SaysResults (first_part (codes "] [") w) r) whole rs here x r said
 
 pub objects_end : {A : Type 0} (words : List ℕ) (rs : List (ObjectResults A)) → ReadsObjects (Some words) rs None → SaysObjects words rs
 objects_end words rs r = ends (other_parts (codes "] [")) (λ w r. SaysResults (first_part (codes "] [") w) r) (Some words) rs r
 
-pub objects_stop : {A : Type 0} (words : List ℕ) (rs : List (ObjectResults A)) (here : List ℕ) → ReadsObjects (Some words) rs (Some here) → NoResults A (first_part (codes "] [") here) → NoObjects A words
-objects_stop words rs here r none = record { none = stops (other_parts (codes "] [")) (λ w r. SaysResults (first_part (codes "] [") w) r) (Some words) rs here r none.none }
+pub objects_stop : {A : Type 0} (words : List ℕ) (rs : List (ObjectResults A)) (here : List ℕ) → ReadsObjects (Some words) rs (Some here) →
+    NoResults A (first_part (codes "] [") here) → NoObjects A words
+objects_stop words rs here r none = record {
+  none =
+      stops (other_parts (codes "] [")) (λ w r. SaysResults (first_part (codes "] [") w) r) (Some words) rs here r none.none;
+}
 
 -- brackets
 one_end : {X : Type 0} (a b : List X) (c : X) → a ++ c ∷ [] ≡ b ++ c ∷ [] → a ≡ b
@@ -130,7 +146,10 @@ pub bracketed : {A : Type 0} (words inner : List ℕ) (rs : List (ObjectResults 
 bracketed words inner rs e s = record { inner = inner; bracketed = e; objects_said = s }
 
 pub bracketed_none : (A : Type 0) (words inner : List ℕ) → IsBracketed words inner → NoObjects A inner → NoBracketed A words
-bracketed_none A words inner e none = record { none = λ rs s. none.none rs (subst (λ (w : List ℕ). SaysObjects w rs) (same_inner words s.inner inner s.bracketed e) s.objects_said) }
+bracketed_none A words inner e none = record {
+  none =
+      λ rs s. none.none rs (subst (λ (w : List ℕ). SaysObjects w rs) (same_inner words s.inner inner s.bracketed e) s.objects_said);
+}
 
 pub unbracketed : (A : Type 0) (words : List ℕ) → NoBrackets words → NoBracketed A words
 unbracketed A words none = record { none = λ rs s. none.none s.inner s.bracketed }
@@ -201,7 +220,8 @@ error_kind_in kind words (reply.ErrorAt c d o p i) e none s = none.none (reply.E
 pub error_kind_none : (A : Type 0) (kind words : List ℕ) → kind ≡ codes "error" → NoErrorReply A words → NoKind A kind (Some words)
 error_kind_none A kind words e none = record { none = λ r s. error_kind_in kind words r e none s }
 
-not_said_by : {A : Type 0} (words : List ℕ) (given : Option (List ℕ)) (r : Reply A) → (SaysBareError words r → ⊥) → ((front place : List ℕ) → SaysNamedError front place r → ⊥) → SaysErrorBy words given r → ⊥
+not_said_by : {A : Type 0} (words : List ℕ) (given : Option (List ℕ)) (r : Reply A) → (SaysBareError words r → ⊥) →
+    ((front place : List ℕ) → SaysNamedError front place r → ⊥) → SaysErrorBy words given r → ⊥
 not_said_by words None r bare named s = bare s
 not_said_by words (Some place) r bare named s = named (first_part (codes " at ") words) place s
 
@@ -213,7 +233,8 @@ error_kind_said kind words (reply.Error c d) e s = (e, s)
 error_kind_said kind words (reply.ErrorAt c d o p i) e s = (e, s)
 
 -- errors, with the write that failed or without
-pub bare_said : (A : Type 0) (w : List ℕ) (c : ErrorClass) (d : ErrorCode) → other_parts (codes " at ") w ≡ None → SaysError w c d → SaysErrorReply {A = A} w (reply.Error c d)
+pub bare_said : (A : Type 0) (w : List ℕ) (c : ErrorClass) (d : ErrorCode) → other_parts (codes " at ") w ≡ None → SaysError w c d →
+    SaysErrorReply {A = A} w (reply.Error c d)
 bare_said A w c d e s = subst (λ (v : Option (List ℕ)). SaysErrorBy {A = A} w v (reply.Error c d)) (sym e) s
 
 bare_in_error : {A : Type 0} (w : List ℕ) (r : Reply A) → NoError w → SaysBareError w r → ⊥
@@ -226,11 +247,16 @@ bare_in_error w (reply.ErrorAt c d o p i) none s = s
 pub bare_none : (A : Type 0) (w : List ℕ) → other_parts (codes " at ") w ≡ None → NoError w → NoErrorReply A w
 bare_none A w e none = record { none = λ r s. bare_in_error w r none (subst (λ (v : Option (List ℕ)). SaysErrorBy w v r) e s) }
 
-pub named_said : {A : Type 0} (w front place : List ℕ) (r : Reply A) → front ≡ first_part (codes " at ") w → other_parts (codes " at ") w ≡ Some place → SaysNamedError front place r → SaysErrorReply w r
+pub named_said : {A : Type 0} (w front place : List ℕ) (r : Reply A) → front ≡ first_part (codes " at ") w → other_parts (codes " at ") w ≡ Some place →
+    SaysNamedError front place r → SaysErrorReply w r
 named_said w front place r f e s = subst (λ (v : Option (List ℕ)). SaysErrorBy w v r) (sym e) (subst (λ (l : List ℕ). SaysNamedError l place r) f s)
 
-pub named_none : (A : Type 0) (w front place : List ℕ) → front ≡ first_part (codes " at ") w → other_parts (codes " at ") w ≡ Some place → NoNamedError A front place → NoErrorReply A w
-named_none A w front place f e none = record { none = λ r s. none.none r (subst (λ (l : List ℕ). SaysNamedError l place r) (sym f) (subst (λ (v : Option (List ℕ)). SaysErrorBy w v r) e s)) }
+pub named_none : (A : Type 0) (w front place : List ℕ) → front ≡ first_part (codes " at ") w → other_parts (codes " at ") w ≡ Some place →
+    NoNamedError A front place → NoErrorReply A w
+named_none A w front place f e none = record {
+  none =
+      λ r s. none.none r (subst (λ (l : List ℕ). SaysNamedError l place r) (sym f) (subst (λ (v : Option (List ℕ)). SaysErrorBy w v r) e s));
+}
 
 named_in : {A : Type 0} (front place : List ℕ) (r : Reply A) → NoError front ⊎ NoPlace place → SaysNamedError front place r → ⊥
 named_in front place (reply.Values vs) none s = s
@@ -256,11 +282,18 @@ pub no_end : (words rest : List ℕ) → words ≡ 91 ∷ rest → ((front : Lis
 no_end words rest e none = record { none = λ inner f. none inner (ap (drop 1) (sym e ∙ f)) }
 
 -- replies
-pub reply_said : {A : Type 0} (words kind : List ℕ) (rest : Option (List ℕ)) (r : Reply A) → kind ≡ first_part (codes " ") words → rest ≡ other_parts (codes " ") words → SaysKind kind rest r → SaysReply words r
-reply_said words kind rest r e f s = subst (λ (k : List ℕ). SaysKind k (other_parts (codes " ") words) r) e (subst (λ (w : Option (List ℕ)). SaysKind kind w r) f s)
+pub reply_said : {A : Type 0} (words kind : List ℕ) (rest : Option (List ℕ)) (r : Reply A) → kind ≡ first_part (codes " ") words →
+    rest ≡ other_parts (codes " ") words → SaysKind kind rest r → SaysReply words r
+reply_said words kind rest r e f s = subst (λ (k : List ℕ). SaysKind k (other_parts (codes " ") words) r) e
+    (subst (λ (w : Option (List ℕ)). SaysKind kind w r) f s)
 
-pub reply_unsaid : (A : Type 0) (words kind : List ℕ) (rest : Option (List ℕ)) → kind ≡ first_part (codes " ") words → rest ≡ other_parts (codes " ") words → NoKind A kind rest → NoReply A words
-reply_unsaid A words kind rest e f none = record { none = λ r s. none.none r (subst (λ (k : List ℕ). SaysKind k rest r) (sym e) (subst (λ (w : Option (List ℕ)). SaysKind (first_part (codes " ") words) w r) (sym f) s)) }
+pub reply_unsaid : (A : Type 0) (words kind : List ℕ) (rest : Option (List ℕ)) → kind ≡ first_part (codes " ") words → rest ≡ other_parts (codes " ") words →
+    NoKind A kind rest → NoReply A words
+reply_unsaid A words kind rest e f none =
+    record {
+      none = λ r s. none.none r (subst (λ (k : List ℕ). SaysKind k rest r) (sym e)
+          (subst (λ (w : Option (List ℕ)). SaysKind (first_part (codes " ") words) w r) (sym f) s));
+    }
 
 -- nothing behind a space says no reply
 empty_error : {A : Type 0} (r : Reply A) (given : Option (List ℕ)) → given ≡ None → SaysErrorBy [] given r → ⊥
@@ -285,7 +318,8 @@ empty_in kind (reply.ErrorAt c d o p i) s = empty_error (reply.ErrorAt c d o p i
 empty_kind : (A : Type 0) (kind w : List ℕ) → w ≡ [] → NoKind A kind (Some w)
 empty_kind A kind w e = record { none = λ r s. empty_in kind r (subst (λ (v : List ℕ). SaysKind kind (Some v) r) e s) }
 
-pub reply_empty : (A : Type 0) (words kind w : List ℕ) (rest : Option (List ℕ)) → kind ≡ first_part (codes " ") words → rest ≡ other_parts (codes " ") words → rest ≡ Some w → w ≡ [] → NoReply A words
+pub reply_empty : (A : Type 0) (words kind w : List ℕ) (rest : Option (List ℕ)) → kind ≡ first_part (codes " ") words → rest ≡ other_parts (codes " ") words →
+    rest ≡ Some w → w ≡ [] → NoReply A words
 reply_empty A words kind w rest e f g h = reply_unsaid A words kind (Some w) e (sym g ∙ f) (empty_kind A kind w h)
 
 pub ruleset error_laws = (error_whole, error_no_class, error_no_code)

@@ -54,7 +54,10 @@ write_of_nothing : {A : Type 0} (given : Option (List ℕ)) (rest : List ℕ) (v
 write_of_nothing given rest vs e f s = none_of_nothing rest vs f (subst (λ (w : Option (List ℕ)). SaysGiven w vs) e s)
 
 pub write_empty : (A : Type 0) (words rest : List ℕ) → other_parts (codes " ") (but_last_part (codes " at ") words) ≡ Some rest → rest ≡ [] → NoWrite A words
-write_empty A words rest e f = record { none = λ w s. write_of_nothing (other_parts (codes " ") (but_last_part (codes " at ") words)) rest w.values e f s.values_said }
+write_empty A words rest e f = record {
+  none =
+      λ w s. write_of_nothing (other_parts (codes " ") (but_last_part (codes " at ") words)) rest w.values e f s.values_said;
+}
 
 pub object_whole : (A : Type 0) (words : List ℕ) → HasNo space words → NoObjectWrite A words
 object_whole A words whole = record { none = λ w s. absurd (omega (arith, whole, s.parted)) }
@@ -93,26 +96,36 @@ has_verb words (request.WriteMany groups) s = s.0
 
 no_read_in : {A : Type 0} (words : List ℕ) (r : Request A) → before space words ≡ codes "read" → NoPlace (behind space words) → SaysRequest words r → ⊥
 no_read_in words (request.Read o p i) e none s = none.none o p i s.1
-no_read_in words (request.ReadMany groups) e none s = kinds_apart (before space words) (codes "many") (codes "read") s.0.kind_is e (λ n. absurd (omega (arith, n)))
-no_read_in words (request.Write o p i vs l) e none s = kinds_apart (before space words) (codes "write") (codes "read") s.0.kind_is e (λ n. absurd (omega (arith, n)))
-no_read_in words (request.WriteMany groups) e none s = kinds_apart (before space words) (codes "batch") (codes "read") s.0.kind_is e (λ n. absurd (omega (arith, n)))
+no_read_in words (request.ReadMany groups) e none s =
+    kinds_apart (before space words) (codes "many") (codes "read") s.0.kind_is e (λ n. absurd (omega (arith, n)))
+no_read_in words (request.Write o p i vs l) e none s =
+    kinds_apart (before space words) (codes "write") (codes "read") s.0.kind_is e (λ n. absurd (omega (arith, n)))
+no_read_in words (request.WriteMany groups) e none s =
+    kinds_apart (before space words) (codes "batch") (codes "read") s.0.kind_is e (λ n. absurd (omega (arith, n)))
 
 no_many_in : {A : Type 0} (words : List ℕ) (r : Request A) → before space words ≡ codes "many" → NoMany A (behind space words) → SaysRequest words r → ⊥
 no_many_in words (request.Read o p i) e none s = kinds_apart (before space words) (codes "read") (codes "many") s.0.kind_is e (λ n. absurd (omega (arith, n)))
 no_many_in words (request.ReadMany groups) e none s = none.none groups s.1
-no_many_in words (request.Write o p i vs l) e none s = kinds_apart (before space words) (codes "write") (codes "many") s.0.kind_is e (λ n. absurd (omega (arith, n)))
-no_many_in words (request.WriteMany groups) e none s = kinds_apart (before space words) (codes "batch") (codes "many") s.0.kind_is e (λ n. absurd (omega (arith, n)))
+no_many_in words (request.Write o p i vs l) e none s =
+    kinds_apart (before space words) (codes "write") (codes "many") s.0.kind_is e (λ n. absurd (omega (arith, n)))
+no_many_in words (request.WriteMany groups) e none s =
+    kinds_apart (before space words) (codes "batch") (codes "many") s.0.kind_is e (λ n. absurd (omega (arith, n)))
 
-no_write_in : {A : Type 0} (words : List ℕ) (r : Request A) → before space words ≡ codes "write" → NoObjectWrite A (behind space words) → SaysRequest words r → ⊥
+no_write_in : {A : Type 0} (words : List ℕ) (r : Request A) → before space words ≡ codes "write" → NoObjectWrite A (behind space words) →
+    SaysRequest words r → ⊥
 no_write_in words (request.Read o p i) e none s = kinds_apart (before space words) (codes "read") (codes "write") s.0.kind_is e (λ n. absurd (omega (arith, n)))
-no_write_in words (request.ReadMany groups) e none s = kinds_apart (before space words) (codes "many") (codes "write") s.0.kind_is e (λ n. absurd (omega (arith, n)))
+no_write_in words (request.ReadMany groups) e none s =
+    kinds_apart (before space words) (codes "many") (codes "write") s.0.kind_is e (λ n. absurd (omega (arith, n)))
 no_write_in words (request.Write o p i vs l) e none s = none.none (o, record { property = p; index = i; values = vs; priority = l }) s.1
-no_write_in words (request.WriteMany groups) e none s = kinds_apart (before space words) (codes "batch") (codes "write") s.0.kind_is e (λ n. absurd (omega (arith, n)))
+no_write_in words (request.WriteMany groups) e none s =
+    kinds_apart (before space words) (codes "batch") (codes "write") s.0.kind_is e (λ n. absurd (omega (arith, n)))
 
 no_batch_in : {A : Type 0} (words : List ℕ) (r : Request A) → before space words ≡ codes "batch" → NoBatch A (behind space words) → SaysRequest words r → ⊥
 no_batch_in words (request.Read o p i) e none s = kinds_apart (before space words) (codes "read") (codes "batch") s.0.kind_is e (λ n. absurd (omega (arith, n)))
-no_batch_in words (request.ReadMany groups) e none s = kinds_apart (before space words) (codes "many") (codes "batch") s.0.kind_is e (λ n. absurd (omega (arith, n)))
-no_batch_in words (request.Write o p i vs l) e none s = kinds_apart (before space words) (codes "write") (codes "batch") s.0.kind_is e (λ n. absurd (omega (arith, n)))
+no_batch_in words (request.ReadMany groups) e none s =
+    kinds_apart (before space words) (codes "many") (codes "batch") s.0.kind_is e (λ n. absurd (omega (arith, n)))
+no_batch_in words (request.Write o p i vs l) e none s =
+    kinds_apart (before space words) (codes "write") (codes "batch") s.0.kind_is e (λ n. absurd (omega (arith, n)))
 no_batch_in words (request.WriteMany groups) e none s = none.none groups s.1
 
 pub request_whole : (A : Type 0) (words : List ℕ) → HasNo space words → NoRequest A words

@@ -41,61 +41,91 @@ set_apart : (kind other : List ℕ) (set : ℕ) → SaysSet kind set → kind �
 set_apart kind other set (inl s) e apart none = apart (sym s.0 ∙ e)
 set_apart kind other set (inr s) e apart none = none (subst (λ (w : List ℕ). Has slash w) e s.0)
 
-no_object_in : {A : Type 0} (words : List ℕ) (v : Value A) → Has space words → before space words ≡ codes "object" → NoObject (behind space words) → SaysValue words v → ⊥
+no_object_in : {A : Type 0} (words : List ℕ) (v : Value A) → Has space words → before space words ≡ codes "object" → NoObject (behind space words) →
+    SaysValue words v → ⊥
 no_object_in words value.Null has e none s = null_has_no_space words has s
 no_object_in words (value.Bool b) has e none s = kinds_apart (before space words) (codes "bool") (codes "object") s.0.kind_is e (λ n. absurd (omega (arith, n)))
-no_object_in words (value.Unsigned n) has e none s = kinds_apart (before space words) (codes "unsigned") (codes "object") s.0.kind_is e (λ n. absurd (omega (arith, n)))
-no_object_in words (value.Signed z) has e none s = starts_apart (before space words) (codes "signed") (codes "object") s.0.kind_is e (λ n. absurd (omega (arith, n)))
+no_object_in words (value.Unsigned n) has e none s =
+    kinds_apart (before space words) (codes "unsigned") (codes "object") s.0.kind_is e (λ n. absurd (omega (arith, n)))
+no_object_in words (value.Signed z) has e none s =
+    starts_apart (before space words) (codes "signed") (codes "object") s.0.kind_is e (λ n. absurd (omega (arith, n)))
 no_object_in words (value.Enum n) has e none s = kinds_apart (before space words) (codes "enum") (codes "object") s.0.kind_is e (λ n. absurd (omega (arith, n)))
 no_object_in words (value.Object o) has e none s = none.none o s.1
-no_object_in words (value.Text set octets) has e none s = set_apart (before space words) (codes "object") set s.1 e (λ t. absurd (omega (arith, ap length t, ap (λ (l : List ℕ). slice_index l 0) t))) (λ h. absurd (omega (arith, h)))
-no_object_in words (value.Bits n octets) has e none s = kinds_apart (before space words) (codes "bits") (codes "object") s.0.kind_is e (λ n. absurd (omega (arith, n)))
-no_object_in words (value.Other n octets) has e none s = kinds_apart (before space words) (codes "other") (codes "object") s.0.kind_is e (λ n. absurd (omega (arith, n)))
-no_object_in words (value.Built octets) has e none s = kinds_apart (before space words) (codes "built") (codes "object") s.0.kind_is e (λ n. absurd (omega (arith, n)))
+no_object_in words (value.Text set octets) has e none s =
+    set_apart (before space words) (codes "object") set s.1 e (λ t. absurd (omega (arith, ap length t, ap (λ (l : List ℕ). slice_index l 0) t)))
+    (λ h. absurd (omega (arith, h)))
+no_object_in words (value.Bits n octets) has e none s =
+    kinds_apart (before space words) (codes "bits") (codes "object") s.0.kind_is e (λ n. absurd (omega (arith, n)))
+no_object_in words (value.Other n octets) has e none s =
+    kinds_apart (before space words) (codes "other") (codes "object") s.0.kind_is e (λ n. absurd (omega (arith, n)))
+no_object_in words (value.Built octets) has e none s =
+    kinds_apart (before space words) (codes "built") (codes "object") s.0.kind_is e (λ n. absurd (omega (arith, n)))
 
 pub no_object : {A : Type 0} (words : List ℕ) → Has space words → before space words ≡ codes "object" → NoObject (behind space words) → NoValue A words
 no_object words has e none = record { none = λ v s. no_object_in words v has e none s }
 
-no_bits_in : {A : Type 0} (words : List ℕ) (v : Value A) → Has space words → before space words ≡ codes "bits" → NoNumbered (behind space words) → SaysValue words v → ⊥
+no_bits_in : {A : Type 0} (words : List ℕ) (v : Value A) → Has space words → before space words ≡ codes "bits" → NoNumbered (behind space words) →
+    SaysValue words v → ⊥
 no_bits_in words value.Null has e none s = null_has_no_space words has s
 no_bits_in words (value.Bool b) has e none s = seconds_apart (before space words) (codes "bool") (codes "bits") s.0.kind_is e (λ n. absurd (omega (arith, n)))
-no_bits_in words (value.Unsigned n) has e none s = kinds_apart (before space words) (codes "unsigned") (codes "bits") s.0.kind_is e (λ n. absurd (omega (arith, n)))
+no_bits_in words (value.Unsigned n) has e none s =
+    kinds_apart (before space words) (codes "unsigned") (codes "bits") s.0.kind_is e (λ n. absurd (omega (arith, n)))
 no_bits_in words (value.Signed z) has e none s = kinds_apart (before space words) (codes "signed") (codes "bits") s.0.kind_is e (λ n. absurd (omega (arith, n)))
 no_bits_in words (value.Enum n) has e none s = starts_apart (before space words) (codes "enum") (codes "bits") s.0.kind_is e (λ n. absurd (omega (arith, n)))
 no_bits_in words (value.Object o) has e none s = kinds_apart (before space words) (codes "object") (codes "bits") s.0.kind_is e (λ n. absurd (omega (arith, n)))
-no_bits_in words (value.Text set octets) has e none s = set_apart (before space words) (codes "bits") set s.1 e (λ t. absurd (omega (arith, ap length t, ap (λ (l : List ℕ). slice_index l 0) t))) (λ h. absurd (omega (arith, h)))
+no_bits_in words (value.Text set octets) has e none s =
+    set_apart (before space words) (codes "bits") set s.1 e (λ t. absurd (omega (arith, ap length t, ap (λ (l : List ℕ). slice_index l 0) t)))
+    (λ h. absurd (omega (arith, h)))
 no_bits_in words (value.Bits n octets) has e none s = none.none n octets s.1
-no_bits_in words (value.Other n octets) has e none s = kinds_apart (before space words) (codes "other") (codes "bits") s.0.kind_is e (λ n. absurd (omega (arith, n)))
-no_bits_in words (value.Built octets) has e none s = kinds_apart (before space words) (codes "built") (codes "bits") s.0.kind_is e (λ n. absurd (omega (arith, n)))
+no_bits_in words (value.Other n octets) has e none s =
+    kinds_apart (before space words) (codes "other") (codes "bits") s.0.kind_is e (λ n. absurd (omega (arith, n)))
+no_bits_in words (value.Built octets) has e none s =
+    kinds_apart (before space words) (codes "built") (codes "bits") s.0.kind_is e (λ n. absurd (omega (arith, n)))
 
 pub no_bits : {A : Type 0} (words : List ℕ) → Has space words → before space words ≡ codes "bits" → NoNumbered (behind space words) → NoValue A words
 no_bits words has e none = record { none = λ v s. no_bits_in words v has e none s }
 
-no_other_in : {A : Type 0} (words : List ℕ) (v : Value A) → Has space words → before space words ≡ codes "other" → NoNumbered (behind space words) → SaysValue words v → ⊥
+no_other_in : {A : Type 0} (words : List ℕ) (v : Value A) → Has space words → before space words ≡ codes "other" → NoNumbered (behind space words) →
+    SaysValue words v → ⊥
 no_other_in words value.Null has e none s = null_has_no_space words has s
 no_other_in words (value.Bool b) has e none s = kinds_apart (before space words) (codes "bool") (codes "other") s.0.kind_is e (λ n. absurd (omega (arith, n)))
-no_other_in words (value.Unsigned n) has e none s = kinds_apart (before space words) (codes "unsigned") (codes "other") s.0.kind_is e (λ n. absurd (omega (arith, n)))
-no_other_in words (value.Signed z) has e none s = kinds_apart (before space words) (codes "signed") (codes "other") s.0.kind_is e (λ n. absurd (omega (arith, n)))
+no_other_in words (value.Unsigned n) has e none s =
+    kinds_apart (before space words) (codes "unsigned") (codes "other") s.0.kind_is e (λ n. absurd (omega (arith, n)))
+no_other_in words (value.Signed z) has e none s =
+    kinds_apart (before space words) (codes "signed") (codes "other") s.0.kind_is e (λ n. absurd (omega (arith, n)))
 no_other_in words (value.Enum n) has e none s = kinds_apart (before space words) (codes "enum") (codes "other") s.0.kind_is e (λ n. absurd (omega (arith, n)))
-no_other_in words (value.Object o) has e none s = kinds_apart (before space words) (codes "object") (codes "other") s.0.kind_is e (λ n. absurd (omega (arith, n)))
-no_other_in words (value.Text set octets) has e none s = set_apart (before space words) (codes "other") set s.1 e (λ t. absurd (omega (arith, ap length t, ap (λ (l : List ℕ). slice_index l 0) t))) (λ h. absurd (omega (arith, h)))
-no_other_in words (value.Bits n octets) has e none s = kinds_apart (before space words) (codes "bits") (codes "other") s.0.kind_is e (λ n. absurd (omega (arith, n)))
+no_other_in words (value.Object o) has e none s =
+    kinds_apart (before space words) (codes "object") (codes "other") s.0.kind_is e (λ n. absurd (omega (arith, n)))
+no_other_in words (value.Text set octets) has e none s =
+    set_apart (before space words) (codes "other") set s.1 e (λ t. absurd (omega (arith, ap length t, ap (λ (l : List ℕ). slice_index l 0) t)))
+    (λ h. absurd (omega (arith, h)))
+no_other_in words (value.Bits n octets) has e none s =
+    kinds_apart (before space words) (codes "bits") (codes "other") s.0.kind_is e (λ n. absurd (omega (arith, n)))
 no_other_in words (value.Other n octets) has e none s = none.none n octets s.1
-no_other_in words (value.Built octets) has e none s = starts_apart (before space words) (codes "built") (codes "other") s.0.kind_is e (λ n. absurd (omega (arith, n)))
+no_other_in words (value.Built octets) has e none s =
+    starts_apart (before space words) (codes "built") (codes "other") s.0.kind_is e (λ n. absurd (omega (arith, n)))
 
 pub no_other : {A : Type 0} (words : List ℕ) → Has space words → before space words ≡ codes "other" → NoNumbered (behind space words) → NoValue A words
 no_other words has e none = record { none = λ v s. no_other_in words v has e none s }
 
-no_built_in : {A : Type 0} (words : List ℕ) (v : Value A) → Has space words → before space words ≡ codes "built" → NoOctets (behind space words) → SaysValue words v → ⊥
+no_built_in : {A : Type 0} (words : List ℕ) (v : Value A) → Has space words → before space words ≡ codes "built" → NoOctets (behind space words) →
+    SaysValue words v → ⊥
 no_built_in words value.Null has e none s = null_has_no_space words has s
 no_built_in words (value.Bool b) has e none s = kinds_apart (before space words) (codes "bool") (codes "built") s.0.kind_is e (λ n. absurd (omega (arith, n)))
-no_built_in words (value.Unsigned n) has e none s = kinds_apart (before space words) (codes "unsigned") (codes "built") s.0.kind_is e (λ n. absurd (omega (arith, n)))
-no_built_in words (value.Signed z) has e none s = kinds_apart (before space words) (codes "signed") (codes "built") s.0.kind_is e (λ n. absurd (omega (arith, n)))
+no_built_in words (value.Unsigned n) has e none s =
+    kinds_apart (before space words) (codes "unsigned") (codes "built") s.0.kind_is e (λ n. absurd (omega (arith, n)))
+no_built_in words (value.Signed z) has e none s =
+    kinds_apart (before space words) (codes "signed") (codes "built") s.0.kind_is e (λ n. absurd (omega (arith, n)))
 no_built_in words (value.Enum n) has e none s = kinds_apart (before space words) (codes "enum") (codes "built") s.0.kind_is e (λ n. absurd (omega (arith, n)))
-no_built_in words (value.Object o) has e none s = kinds_apart (before space words) (codes "object") (codes "built") s.0.kind_is e (λ n. absurd (omega (arith, n)))
-no_built_in words (value.Text set octets) has e none s = set_apart (before space words) (codes "built") set s.1 e (λ t. absurd (omega (arith, ap length t, ap (λ (l : List ℕ). slice_index l 0) t))) (λ h. absurd (omega (arith, h)))
-no_built_in words (value.Bits n octets) has e none s = kinds_apart (before space words) (codes "bits") (codes "built") s.0.kind_is e (λ n. absurd (omega (arith, n)))
-no_built_in words (value.Other n octets) has e none s = starts_apart (before space words) (codes "other") (codes "built") s.0.kind_is e (λ n. absurd (omega (arith, n)))
+no_built_in words (value.Object o) has e none s =
+    kinds_apart (before space words) (codes "object") (codes "built") s.0.kind_is e (λ n. absurd (omega (arith, n)))
+no_built_in words (value.Text set octets) has e none s =
+    set_apart (before space words) (codes "built") set s.1 e (λ t. absurd (omega (arith, ap length t, ap (λ (l : List ℕ). slice_index l 0) t)))
+    (λ h. absurd (omega (arith, h)))
+no_built_in words (value.Bits n octets) has e none s =
+    kinds_apart (before space words) (codes "bits") (codes "built") s.0.kind_is e (λ n. absurd (omega (arith, n)))
+no_built_in words (value.Other n octets) has e none s =
+    starts_apart (before space words) (codes "other") (codes "built") s.0.kind_is e (λ n. absurd (omega (arith, n)))
 no_built_in words (value.Built octets) has e none s = none.none octets s.1
 
 pub no_built : {A : Type 0} (words : List ℕ) → Has space words → before space words ≡ codes "built" → NoOctets (behind space words) → NoValue A words
@@ -112,7 +142,8 @@ pub record IsText (kind : List ℕ) : Type 0 where
   pub not_other : kind ≢ codes "other"
   pub not_built : kind ≢ codes "built"
 
-text_in : {A : Type 0} (words : List ℕ) (v : Value A) → Has space words → IsText (before space words) → NoSet (before space words) ⊎ NoOctets (behind space words) → SaysValue words v → ⊥
+text_in : {A : Type 0} (words : List ℕ) (v : Value A) → Has space words → IsText (before space words) → NoSet (before space words) ⊎
+    NoOctets (behind space words) → SaysValue words v → ⊥
 text_in words value.Null has other none s = null_has_no_space words has s
 text_in words (value.Bool b) has other none s = other.not_bool s.0.kind_is
 text_in words (value.Unsigned n) has other none s = other.not_unsigned s.0.kind_is
@@ -125,7 +156,8 @@ text_in words (value.Bits n octets) has other none s = other.not_bits s.0.kind_i
 text_in words (value.Other n octets) has other none s = other.not_other s.0.kind_is
 text_in words (value.Built octets) has other none s = other.not_built s.0.kind_is
 
-pub no_text : {A : Type 0} (words : List ℕ) → Has space words → IsText (before space words) → NoSet (before space words) ⊎ NoOctets (behind space words) → NoValue A words
+pub no_text : {A : Type 0} (words : List ℕ) → Has space words → IsText (before space words) → NoSet (before space words) ⊎ NoOctets (behind space words) →
+    NoValue A words
 no_text words has other none = record { none = λ v s. text_in words v has other none s }
 
 pub ruleset value_laws = (no_object, no_bits, no_other, no_built, no_text)

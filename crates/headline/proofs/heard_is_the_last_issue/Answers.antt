@@ -4,4 +4,5 @@ use Rattle.headline.proofs.Laws.{executed_issues}
 use Rattle.headline.proofs.heard_is_the_last_issue.Goals as goal
 
 pub returns : goal.returns
-returns g c = λ s hs f honest. executed_issues g.P.HasProfile.profile s g.met.P.HasProfile.lawful (after_all g.P.HasProfile.profile s hs) (from_start g.P.HasProfile.profile s g.met.P.HasProfile.lawful f hs honest)
+returns g c = λ s hs f honest. executed_issues g.P.HasProtocol.protocol s g.met.P.HasProtocol.lawful (after_all g.P.HasProtocol.protocol s hs)
+    (from_start g.P.HasProtocol.protocol s g.met.P.HasProtocol.lawful f hs honest)

@@ -5,6 +5,8 @@ use Rattle.headline.proofs.outcomes_are_of_an_issue.Goals as goal
 
 pub returns : goal.returns
 returns g c = record {
-  opened = λ s hs f honest. transaction_issues g.P.HasProfile.profile s (after_all g.P.HasProfile.profile s hs) (from_start g.P.HasProfile.profile s g.met.P.HasProfile.lawful f hs honest);
-  closed = λ s hs f honest. outcome_issues g.P.HasProfile.profile s g.met.P.HasProfile.lawful (after_all g.P.HasProfile.profile s hs) (from_start g.P.HasProfile.profile s g.met.P.HasProfile.lawful f hs honest);
+  opened = λ s hs f honest. transaction_issues g.P.HasProtocol.protocol s (after_all g.P.HasProtocol.protocol s hs)
+      (from_start g.P.HasProtocol.protocol s g.met.P.HasProtocol.lawful f hs honest);
+  closed = λ s hs f honest. outcome_issues g.P.HasProtocol.protocol s g.met.P.HasProtocol.lawful (after_all g.P.HasProtocol.protocol s hs)
+      (from_start g.P.HasProtocol.protocol s g.met.P.HasProtocol.lawful f hs honest);
 }

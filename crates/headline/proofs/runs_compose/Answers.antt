@@ -3,6 +3,6 @@ use Rattle.headline.proofs.runs_compose.Goals as goal
 
 pub returns : goal.returns
 returns g c = record {
-  one = run_more g.P.HasProfile.profile;
-  honest = honest_more g.P.HasProfile.profile;
+  one = run_more g.P.HasProtocol.protocol;
+  honest = honest_more g.P.HasProtocol.protocol;
 }

@@ -4,4 +4,5 @@ use Rattle.headline.proofs.Laws.{tables_of}
 use Rattle.headline.proofs.tables_are_what_executions_leave.Goals as goal
 
 pub returns : goal.returns
-returns g c = λ s hs f honest. tables_of g.P.HasProfile.profile s (after_all g.P.HasProfile.profile s hs) (from_start g.P.HasProfile.profile s g.met.P.HasProfile.lawful f hs honest)
+returns g c = λ s hs f honest. tables_of g.P.HasProtocol.protocol s (after_all g.P.HasProtocol.protocol s hs)
+    (from_start g.P.HasProtocol.protocol s g.met.P.HasProtocol.lawful f hs honest)

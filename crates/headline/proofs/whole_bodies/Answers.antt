@@ -5,6 +5,8 @@ use Rattle.headline.proofs.whole_bodies.Goals as goal
 
 pub returns : goal.returns
 returns g c = record {
-  requests = λ s hs f honest. whole_requests g.P.HasProfile.profile s g.met.P.HasProfile.lawful (after_all g.P.HasProfile.profile s hs) (from_start g.P.HasProfile.profile s g.met.P.HasProfile.lawful f hs honest);
-  answers = λ s hs f honest. whole_answers g.P.HasProfile.profile s g.met.P.HasProfile.lawful (after_all g.P.HasProfile.profile s hs) (from_start g.P.HasProfile.profile s g.met.P.HasProfile.lawful f hs honest);
+  requests = λ s hs f honest. whole_requests g.P.HasProtocol.protocol s g.met.P.HasProtocol.lawful (after_all g.P.HasProtocol.protocol s hs)
+      (from_start g.P.HasProtocol.protocol s g.met.P.HasProtocol.lawful f hs honest);
+  answers = λ s hs f honest. whole_answers g.P.HasProtocol.protocol s g.met.P.HasProtocol.lawful (after_all g.P.HasProtocol.protocol s hs)
+      (from_start g.P.HasProtocol.protocol s g.met.P.HasProtocol.lawful f hs honest);
 }

@@ -11,8 +11,9 @@
 //! each octet changed.
 
 use crate::network::addresses::{addresses, at_port, port, ports, push_address};
-use bbmd::{Bbmd, Sent};
+use bbmd::{Bbmd, Outgoing};
 use bvll::Address;
+use profile::MAX_MOMENT_MS;
 use sheets::{
     Counts, Given, Part, Stop, compare, differs, number, octets, push_mark, push_octets, refusal,
     two_words,
@@ -25,9 +26,6 @@ const MANY: u64 = 100;
 
 /// What each octet is changed to.
 const CHANGES: [u8; 4] = [0x00, 0x7F, 0x80, 0xFF];
-
-/// The last moment that there is.
-const LATEST: u64 = 1 << 62;
 
 /// Who asks for the tables of a manager: nobody of a row.
 const STRANGER: Address = Address {
@@ -44,7 +42,7 @@ struct Input<'r> {
 }
 
 /// Appends what goes out.
-fn push_sent<A: Allocator>(all: &[Sent<A>], out: &mut String) -> Result<(), AllocError> {
+fn push_sent<A: Allocator>(all: &[Outgoing<A>], out: &mut String) -> Result<(), AllocError> {
     let mut mark = "";
     for sent in all {
         out.push_str(mark)?;
@@ -68,7 +66,7 @@ fn hear<A: Allocator + Copy>(
     manager: &mut Bbmd<A>,
     input: Input<'_>,
 ) -> Result<String, Stop> {
-    if input.now > LATEST || input.now < manager.moment() {
+    if input.now > MAX_MOMENT_MS || input.now < manager.moment() {
         return Err(Stop::Unread(Part::Number));
     }
     match manager.on_datagram(input.from, input.octets, input.now) {
@@ -253,7 +251,7 @@ fn take<A: Allocator + Copy>(
 ) -> Result<(), Stop> {
     push_mark("; ", out)?;
     if step == "tick" {
-        if now > LATEST || now < manager.moment() {
+        if now > MAX_MOMENT_MS || now < manager.moment() {
             return Err(Stop::Unread(Part::Number));
         }
         manager.on_tick(now);

@@ -7,11 +7,11 @@
 ghost use Rattle.std.specs.Prelude.{◌<◌, IfOk};
 ghost use Rattle.apdu.specs.Sizes.{apdu_code};
 
-use client_tsm::{Bound, ClientTsm};
+use apdu::MaxApdu;
 use npdu::{Mac, Station, Way};
-use services::MaxApdu;
 use sheets::{Part, Stop, number};
 use std::alloc::{Allocator, Global};
+use transactions::{Bound, ClientTsm};
 use words::parse_number;
 
 /// The device that is asked: MAC 5 of network 2, behind a router.

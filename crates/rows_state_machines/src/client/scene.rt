@@ -10,18 +10,18 @@
 //! made again, and the row goes on as without.
 
 use crate::client::asked::{OTHER, client_and_device, unfolded};
-use crate::client::effects::{push_effects, push_issued};
-use client_tsm::{Bound, ClientTsm, Effects, Issued};
+use crate::client::told::{push_client_told, push_issued};
+use apdu::{Apdu, Segment};
 use npdu::Station;
-use objects::Request;
-use segments::numbers::{MAX_MOMENT_MS, WINDOW};
-use services::{Apdu, Segment};
+use primitives::Request;
+use profile::{MAX_MOMENT_MS, WINDOW_SIZE};
 use sheets::{
     Counts, Given, Part, Stop, Trial, compare, number, octets, push_mark, refusal, request_in,
     small, try_row, two_words,
 };
 use std::alloc::{AllocError, Allocator, Global};
 use tags::Fault;
+use transactions::{Bound, ClientTsm, ClientTsmIssued, ClientTsmTold};
 
 /// The steps of a row.
 #[derive(Clone, Copy)]
@@ -37,7 +37,7 @@ fn part(sequence_number: u8) -> Apdu<'static> {
         segment: Some(Segment {
             more_follows: true,
             sequence_number,
-            window: WINDOW,
+            window: WINDOW_SIZE,
         }),
         invoke_id: 0,
         service: 14,
@@ -121,7 +121,7 @@ impl<A: Allocator + Copy> Scene<A> {
     }
 
     /// Issues, again where memory was refused.
-    fn issue(&mut self, request: &Request<A>) -> Result<Result<Issued<A>, Fault>, Stop> {
+    fn issue(&mut self, request: &Request<A>) -> Result<Result<ClientTsmIssued<A>, Fault>, Stop> {
         if !request.is_sound() || self.now < self.client.moment() || self.now > MAX_MOMENT_MS {
             return Err(Stop::Unread(Part::Asked));
         }
@@ -164,7 +164,7 @@ impl<A: Allocator + Copy> Scene<A> {
     }
 
     /// Takes an input.
-    fn take_once(&mut self, input: Input<'_>) -> Result<Effects<A>, Stop> {
+    fn take_once(&mut self, input: Input<'_>) -> Result<ClientTsmTold<A>, Stop> {
         if self.now < self.client.moment() || self.now > MAX_MOMENT_MS {
             return Err(Stop::Unread(Part::Asked));
         }
@@ -175,7 +175,7 @@ impl<A: Allocator + Copy> Scene<A> {
     }
 
     /// Takes an input, again where memory was refused.
-    fn take_input(&mut self, input: Input<'_>) -> Result<Effects<A>, Stop> {
+    fn take_input(&mut self, input: Input<'_>) -> Result<ClientTsmTold<A>, Stop> {
         match self.take_once(input) {
             Err(Stop::Memory) => {
                 self.is_refused = true;
@@ -187,8 +187,8 @@ impl<A: Allocator + Copy> Scene<A> {
 
     /// Takes an input, and appends what comes of it.
     fn push_input(&mut self, input: Input<'_>, out: &mut String) -> Result<(), Stop> {
-        let effects = self.take_input(input)?;
-        push_effects(&effects, self.to.way, out)
+        let told = self.take_input(input)?;
+        push_client_told(&told, self.to.way, out)
     }
 
     /// Hears octets in words, and appends what comes of it.

@@ -5,17 +5,18 @@
 //! with the copy. Each allocation of an input is refused in turn: the same input then comes again.
 
 use crate::server::opened::{Served, executor};
-use crate::server::told::push_effects;
+use crate::server::told::push_told;
+use apdu::Apdu;
 use npdu::{Mac, Station, Way};
-use objects::Request;
-use segments::numbers::MAX_MOMENT_MS;
-use server_tsm::{Effects, Origin};
-use services::{Apdu, Executor};
+use primitives::Request;
+use profile::MAX_MOMENT_MS;
+use services::Executor;
 use sheets::{
     Counts, Given, Part, Stop, differs, first_and_last, number, octets, request_in, run_number,
     run_refused, run_text, run_word, small, two_words,
 };
 use std::alloc::{Allocator, Global};
+use transactions::{Origin, ServerTold};
 use words::Words;
 
 /// How many runs have an allocation refused at most.
@@ -94,7 +95,7 @@ fn take<A: Allocator + Copy>(
     server: &mut Served<A>,
     now: u64,
     said: Option<&Saying>,
-) -> Result<Effects<A>, Stop> {
+) -> Result<ServerTold<A>, Stop> {
     if now > MAX_MOMENT_MS || now < server.moment() {
         return Err(Stop::Unread(Part::Number));
     }
@@ -112,9 +113,9 @@ fn push_taken<A: Allocator + Copy>(
     said: Option<&Saying>,
     out: &mut String,
 ) -> Result<bool, Stop> {
-    let effects = take(server, now, said)?;
-    push_effects(&effects, out)?;
-    Ok(effects.told.is_some())
+    let told = take(server, now, said)?;
+    push_told(&told, out)?;
+    Ok(told.executed.is_some())
 }
 
 /// Puts an equal server in the server's place, and appends that.

@@ -1,11 +1,13 @@
 //! The device of the rows: Binary Value 1, Integer Value 1 at 7, and fourteen texts of 128 octets.
 
-use objects::{DataLink, SiteObject, SiteObjects, Table, ValueKind};
-use server_tsm::ServerTsm;
-use services::{MaxApdu, ObjectExecutor};
+use apdu::MaxApdu;
+use objects::{SiteObject, SiteObjects, Table, ValueKind};
+use profile::LinkKind;
+use services::ObjectExecutor;
 use sheets::{Part, Stop};
 use std::alloc::{AllocError, Allocator};
 use tags::{Items, Octets, Value};
+use transactions::ServerTsm;
 
 /// A server in memory of `A`.
 pub(crate) type Served<A> = ServerTsm<ObjectExecutor<A>, A>;
@@ -83,7 +85,7 @@ pub(crate) fn executor<A: Allocator + Copy>(alloc: A) -> Result<ObjectExecutor<A
         name: Items::from_slice(alloc, b"d")?,
         instance: 10,
         vendor: 0,
-        data_link: DataLink::BacnetIp,
+        data_link: LinkKind::BacnetIp,
         objects: objects(alloc)?,
     };
     Ok(ObjectExecutor {

@@ -2,10 +2,10 @@
 //! each APDU, `-` for nothing. Of an APDU with more than 40 octets the first five stand there, and their number.
 
 use crate::telling::push_front;
-use objects::Reply;
-use server_tsm::{Effects, Executed, Said};
+use primitives::Reply;
 use sheets::{Stop, push_mark, push_octets};
 use std::alloc::{AllocError, Allocator};
+use transactions::{Executed, ServerSaid, ServerTold};
 use words::Words;
 
 /// How many octets of an APDU are told at most.
@@ -15,7 +15,7 @@ const FEW: usize = 40;
 const FRONT: usize = 5;
 
 /// Appends what is said in words.
-fn push_said<A: Allocator>(said: &Said<A>, out: &mut String) -> Result<(), Stop> {
+fn push_said<A: Allocator>(said: &ServerSaid<A>, out: &mut String) -> Result<(), Stop> {
     let mut octets = Vec::new(*out.allocator());
     said.write(&mut octets)?;
     push_mark(", ", out)?;
@@ -37,14 +37,11 @@ fn push_executed<A: Allocator>(executed: &Executed<A>, out: &mut String) -> Resu
 ///
 /// # Errors
 /// Want of memory.
-pub(crate) fn push_effects<A: Allocator>(
-    effects: &Effects<A>,
-    out: &mut String,
-) -> Result<(), Stop> {
-    for said in effects.said.as_slice() {
+pub(crate) fn push_told<A: Allocator>(told: &ServerTold<A>, out: &mut String) -> Result<(), Stop> {
+    for said in told.said.as_slice() {
         push_said(said, out)?;
     }
-    if let Some(executed) = &effects.told {
+    if let Some(executed) = &told.executed {
         push_executed(executed, out)?;
     }
     if out.is_empty() {

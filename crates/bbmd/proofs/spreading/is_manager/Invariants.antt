@@ -1,6 +1,6 @@
 use Rattle.std.proofs.Common.{◌≡◌}
 use Rattle.std.specs.Prelude.{drop}
-use Rattle.broadcast_tables.specs.Tables.{is_among}
+use Rattle.bbmd_tables.specs.Tables.{is_among}
 use Rattle.bbmd.specs.Reach.{managers_of, owns}
 use Rattle.bbmd.proofs.spreading.is_manager.Given as goal
 

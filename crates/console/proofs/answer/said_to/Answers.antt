@@ -9,4 +9,5 @@ use Rattle.console.proofs.answer.said_to.Goals as goal
 pub returns-clause-responds : goal.returns-clause-responds
 returns-clause-responds g c =
     some_response c.args.datagram.now builtin_device c.respond.new.device c.in_ok-said.said
-    (subst (λ (d : DeviceState _). Responds sender c.args.datagram.now d c.respond.new.device c.in_ok-said.said) c.in_ok-device.ensures.opened c.in_ok-said.ensures.responds)
+    (subst (λ (d : DeviceState _). Responds sender c.args.datagram.now d c.respond.new.device c.in_ok-said.said) c.in_ok-device.ensures.opened
+    c.in_ok-said.ensures.responds)

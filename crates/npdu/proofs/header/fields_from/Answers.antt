@@ -11,14 +11,20 @@ returns-in_err-place-clause-fault c =
 pub returns-in_err-source-clause-fault : goal.returns-in_err-source-clause-fault
 returns-in_err-source-clause-fault c =
     let p = err_from_is_err_and c.from_residual-in_err-source.result c.from_residual-in_err-source.ensures.1 in
-    rw (p.1, p.2) (refuses_source _ c.args.control _ _ _ (rw c.control_in-control.ensures.destination at c.in_ok-place.ensures.read) (rw c.control_in-control.ensures.source at c.in_err-source.ensures.fault))
+    rw (p.1, p.2) (refuses_source _ c.args.control _ _ _ (rw c.control_in-control.ensures.destination at c.in_ok-place.ensures.read)
+    (rw c.control_in-control.ensures.source at c.in_err-source.ensures.fault))
 
 pub returns-in_err-destination-clause-fault : goal.returns-in_err-destination-clause-fault
 returns-in_err-destination-clause-fault c =
     let p = err_from_is_err_and c.from_residual-in_err-destination.result c.from_residual-in_err-destination.ensures.1 in
-    rw (p.1, p.2 ∙ c.in_err-destination.ensures.fault) (cut_at_hops c.args.control _ _ _ _ _ (rw c.control_in-control.ensures.destination at c.in_ok-place.ensures.read) (rw c.control_in-control.ensures.source at c.in_ok-source.ensures.read) c.in_err-destination.ensures.cut)
+    rw (p.1, p.2 ∙ c.in_err-destination.ensures.fault)
+    (cut_at_hops c.args.control _ _ _ _ _ (rw c.control_in-control.ensures.destination at c.in_ok-place.ensures.read)
+    (rw c.control_in-control.ensures.source at c.in_ok-source.ensures.read) c.in_err-destination.ensures.cut)
 
 pub returns-in_err-message-clause-fault : goal.returns-in_err-message-clause-fault
 returns-in_err-message-clause-fault c =
     let p = err_from_is_err_and c.from_residual-in_err-message.result c.from_residual-in_err-message.ensures.1 in
-    rw (p.1, p.2 ∙ c.in_err-message.ensures.fault) (cut_at_message c.args.control _ _ _ _ _ _ _ (rw c.control_in-control.ensures.destination at c.in_ok-place.ensures.read) (rw c.control_in-control.ensures.source at c.in_ok-source.ensures.read) c.in_ok-destination.ensures.read (rw c.control_in-control.ensures.message at c.in_err-message.ensures.cut))
+    rw (p.1, p.2 ∙ c.in_err-message.ensures.fault)
+    (cut_at_message c.args.control _ _ _ _ _ _ _ (rw c.control_in-control.ensures.destination at c.in_ok-place.ensures.read)
+    (rw c.control_in-control.ensures.source at c.in_ok-source.ensures.read) c.in_ok-destination.ensures.read
+    (rw c.control_in-control.ensures.message at c.in_err-message.ensures.cut))

@@ -12,9 +12,12 @@ returns-in_err-tag-clause-rejected c =
 
 pub returns-then-not-is_opening-clause-rejected : goal.returns-then-not-is_opening-clause-rejected
 returns-then-not-is_opening-clause-rejected c =
-    other_behind c.args.reader.now (plain_tag c.in_ok-tag.tag) c.read_tag.new.reader c.args.number c.args.list c.in_ok-tag.ensures.read c.in_default.ensures.other (λ e. false_is_not_true (c.if-not-is_opening.ensures.1 e))
+    other_behind c.args.reader.now (plain_tag c.in_ok-tag.tag) c.read_tag.new.reader c.args.number c.args.list c.in_ok-tag.ensures.read
+    c.in_default.ensures.other (λ e. false_is_not_true (c.if-not-is_opening.ensures.1 e))
 
 pub returns-in_err-read_opening-clause-rejected : goal.returns-in_err-read_opening-clause-rejected
 returns-in_err-read_opening-clause-rejected c =
     let p = err_from_is_err_and c.from_residual-in_err-read_opening.result c.from_residual-in_err-read_opening.ensures.1 in
-    rw (p.1) (opening_tag (Some c.in_ok-n.n) c.read_tag.new.reader (number_taken c.args.reader.now (plain_tag c.in_ok-tag.tag) c.read_tag.new.reader c.args.number c.in-Some.octets.now c.in_ok-n.n c.in_ok-tag.ensures.read c.in-Some.ensures.read c.in_ok-n.ensures.read) (rw (p.2) c.in_err-read_opening.ensures.rejected))
+    rw (p.1) (opening_tag (Some c.in_ok-n.n) c.read_tag.new.reader
+    (number_taken c.args.reader.now (plain_tag c.in_ok-tag.tag) c.read_tag.new.reader c.args.number c.in-Some.octets.now c.in_ok-n.n
+    c.in_ok-tag.ensures.read c.in-Some.ensures.read c.in_ok-n.ensures.read) (rw (p.2) c.in_err-read_opening.ensures.rejected))

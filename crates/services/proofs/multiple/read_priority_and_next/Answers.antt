@@ -12,12 +12,20 @@ returns-in_err-tag-clause-rejected c =
 
 pub returns-in_err-next-clause-rejected : goal.returns-in_err-next-clause-rejected
 returns-in_err-next-clause-rejected c =
-    exit_same _ c.from_residual-in_err-next.result _ c.from_residual-in_err-next.ensures.1 (priority_rejected_without _ c.args.reader.now (plain_tag c.in_ok-tag.tag) c.read_inner_tag.new.reader c.in_ok-tag.ensures.read c.in_default.ensures.other c.in_err-next.ensures.rejected)
+    exit_same _ c.from_residual-in_err-next.result _ c.from_residual-in_err-next.ensures.1
+    (priority_rejected_without _ c.args.reader.now (plain_tag c.in_ok-tag.tag) c.read_inner_tag.new.reader c.in_ok-tag.ensures.read
+    c.in_default.ensures.other c.in_err-next.ensures.rejected)
 
 pub returns-in_err-priority-clause-rejected : goal.returns-in_err-priority-clause-rejected
 returns-in_err-priority-clause-rejected c =
-    exit_same _ c.from_residual-in_err-priority.result _ c.from_residual-in_err-priority.ensures.1 (in_range (Some c.in_ok-number.number) c.read_inner_tag.new.reader (number_taken c.args.reader.now (plain_tag c.in_ok-tag.tag) c.read_inner_tag.new.reader 3 c.in-Some.octets.now c.in_ok-number.number c.in_ok-tag.ensures.read c.in-Some.ensures.read c.in_ok-number.ensures.read) c.in_err-priority.ensures.rejected)
+    exit_same _ c.from_residual-in_err-priority.result _ c.from_residual-in_err-priority.ensures.1
+    (in_range (Some c.in_ok-number.number) c.read_inner_tag.new.reader
+    (number_taken c.args.reader.now (plain_tag c.in_ok-tag.tag) c.read_inner_tag.new.reader 3 c.in-Some.octets.now c.in_ok-number.number
+    c.in_ok-tag.ensures.read c.in-Some.ensures.read c.in_ok-number.ensures.read) c.in_err-priority.ensures.rejected)
 
 pub returns-in_err-next-2-clause-rejected : goal.returns-in_err-next-2-clause-rejected
 returns-in_err-next-2-clause-rejected c =
-    exit_same _ c.from_residual-in_err-next-2.result _ c.from_residual-in_err-next-2.ensures.1 (in_next (Some c.in_ok-number.number) c.read_inner_tag.new.reader (number_taken c.args.reader.now (plain_tag c.in_ok-tag.tag) c.read_inner_tag.new.reader 3 c.in-Some.octets.now c.in_ok-number.number c.in_ok-tag.ensures.read c.in-Some.ensures.read c.in_ok-number.ensures.read) c.in_ok-priority.ensures.read.1 c.in_err-next-2.ensures.rejected)
+    exit_same _ c.from_residual-in_err-next-2.result _ c.from_residual-in_err-next-2.ensures.1
+    (in_next (Some c.in_ok-number.number) c.read_inner_tag.new.reader
+    (number_taken c.args.reader.now (plain_tag c.in_ok-tag.tag) c.read_inner_tag.new.reader 3 c.in-Some.octets.now c.in_ok-number.number
+    c.in_ok-tag.ensures.read c.in-Some.ensures.read c.in_ok-number.ensures.read) c.in_ok-priority.ensures.read.1 c.in_err-next-2.ensures.rejected)

@@ -8,4 +8,5 @@ returns-in_err-object-clause-rejected g c =
 
 pub returns-in_err-refs-clause-rejected : goal.returns-in_err-refs-clause-rejected
 returns-in_err-refs-clause-rejected g c =
-    exit_stop _ _ c.from_residual-in_err-refs.result _ c.from_residual-in_err-refs.ensures.1 c.in_err-refs.ensures.rejected (λ reason h. at_references c.in_ok-object.object c.open_list.new.reader c.in_ok-object.ensures.read h)
+    exit_stop _ _ c.from_residual-in_err-refs.result _ c.from_residual-in_err-refs.ensures.1 c.in_err-refs.ensures.rejected
+    (λ reason h. at_references c.in_ok-object.object c.open_list.new.reader c.in_ok-object.ensures.read h)

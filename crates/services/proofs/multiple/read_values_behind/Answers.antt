@@ -10,7 +10,9 @@ returns-in_err-index-clause-rejected g c =
 
 pub returns-in_err-values-clause-rejected : goal.returns-in_err-values-clause-rejected
 returns-in_err-values-clause-rejected g c =
-    exit_stop _ _ c.from_residual-in_err-values.result _ c.from_residual-in_err-values.ensures.1 c.in_err-values.ensures.rejected (λ reason h. in_values c.in_ok-index.index c.read_opening_behind.new.reader c.in_ok-index.ensures.read h)
+    exit_stop _ _ c.from_residual-in_err-values.result _ c.from_residual-in_err-values.ensures.1 c.in_err-values.ensures.rejected
+    (λ reason h. in_values c.in_ok-index.index c.read_opening_behind.new.reader c.in_ok-index.ensures.read h)
 
 pub returns-clause-sound : goal.returns-clause-sound
-returns-clause-sound g c = let a = opening_shortens c.args.reader.now 1 c.in_ok-index.index 2 c.read_opening_behind.new.reader c.in_ok-index.ensures.read in λ lt. c.in_ok-values.ensures.sound (omega (arith, a, lt))
+returns-clause-sound g c = let a = opening_shortens c.args.reader.now 1 c.in_ok-index.index 2 c.read_opening_behind.new.reader c.in_ok-index.ensures.read in
+    λ lt. c.in_ok-values.ensures.sound (omega (arith, a, lt))

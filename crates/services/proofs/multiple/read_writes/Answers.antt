@@ -8,4 +8,5 @@ returns-in_err-object-clause-rejected g c =
 
 pub returns-in_err-writes-clause-rejected : goal.returns-in_err-writes-clause-rejected
 returns-in_err-writes-clause-rejected g c =
-    exit_stop _ _ c.from_residual-in_err-writes.result _ c.from_residual-in_err-writes.ensures.1 c.in_err-writes.ensures.rejected (λ reason h. at_writes c.in_ok-object.object c.open_list.new.reader c.in_ok-object.ensures.read h)
+    exit_stop _ _ c.from_residual-in_err-writes.result _ c.from_residual-in_err-writes.ensures.1 c.in_err-writes.ensures.rejected
+    (λ reason h. at_writes c.in_ok-object.object c.open_list.new.reader c.in_ok-object.ensures.read h)

@@ -7,7 +7,10 @@ use Rattle.services.proofs.request.body_of.Goals as goal
 
 pub returns-in_err-request-in-ReadProperty-clause-rejected : goal.returns-in_err-request-in-ReadProperty-clause-rejected
 returns-in_err-request-in-ReadProperty-clause-rejected g c =
-    exit_reason _ c.from_residual.result _ c.from_residual.ensures.1 (read (ap service_number c.in-ReadProperty.is) c.in_err-request-in-ReadProperty.ensures.rejected)
+    exit_reason _ c.from_residual.result _ c.from_residual.ensures.1
+    (read (ap service_number c.in-ReadProperty.is) c.in_err-request-in-ReadProperty.ensures.rejected)
 
 pub returns-in-WriteProperty-clause-rejected : goal.returns-in-WriteProperty-clause-rejected
-returns-in-WriteProperty-clause-rejected g c = err_shows _ _ c.request_to_write.result c.request_to_write.ensures.rejected (λ stop h. stops_map _ _ stop h (λ reason k. write (ap service_number c.in-WriteProperty.is) k))
+returns-in-WriteProperty-clause-rejected g c =
+    err_shows _ _ c.request_to_write.result c.request_to_write.ensures.rejected
+    (λ stop h. stops_map _ _ stop h (λ reason k. write (ap service_number c.in-WriteProperty.is) k))

@@ -7,16 +7,19 @@ use Rattle.tags.proofs.element.after_closing.Goals as goal
 pub returns-in_err-tag-clause-refused : goal.returns-in_err-tag-clause-refused
 returns-in_err-tag-clause-refused c =
     let p = err_from_is_err_and c.from_residual.result c.from_residual.ensures.1 in
-    rw (p.1) (walk_is_stuck c.args.octets.now c.loop-depth.depth c.loop-depth.rest.now c.loop-depth.invariant c.loop-depth-test.true c.in_err-tag.ensures.refused)
+    rw (p.1) (walk_is_stuck c.args.octets.now c.loop-depth.depth c.loop-depth.rest.now c.loop-depth.invariant c.loop-depth-test.true
+    c.in_err-tag.ensures.refused)
 
 pub returns-in_err-tag-clause-fault : goal.returns-in_err-tag-clause-fault
 returns-in_err-tag-clause-fault c =
     let p = err_from_is_err_and c.from_residual.result c.from_residual.ensures.1 in
-    rw (p.1) (walk_is_refused _ c.args.octets.now c.loop-depth.depth c.loop-depth.rest.now c.loop-depth.invariant c.loop-depth-test.true (rw (p.2) c.in_err-tag.ensures.fault))
+    rw (p.1) (walk_is_refused _ c.args.octets.now c.loop-depth.depth c.loop-depth.rest.now c.loop-depth.invariant c.loop-depth-test.true
+    (rw (p.2) c.in_err-tag.ensures.fault))
 
 pub loop-depth-preserved : goal.loop-depth-preserved
 loop-depth-preserved c =
-    walk_goes_on c.args.octets.now c.loop-depth.depth c.loop-depth.rest.now (plain_tag c.in_ok-tag.tag) c.in_ok-tag.next.now c.waiting_after-depth.result c.loop-depth.invariant c.loop-depth-test.true c.in_ok-tag.ensures.read c.waiting_after-depth.ensures
+    walk_goes_on c.args.octets.now c.loop-depth.depth c.loop-depth.rest.now (plain_tag c.in_ok-tag.tag) c.in_ok-tag.next.now c.waiting_after-depth.result
+    c.loop-depth.invariant c.loop-depth-test.true c.in_ok-tag.ensures.read c.waiting_after-depth.ensures
 
 pub returns-clause-read : goal.returns-clause-read
 returns-clause-read c =

@@ -2,7 +2,8 @@ use Rattle.std.proofs.Common.{◌≡◌, ◌⊎◌, refl, ap, inl, inr}
 use Rattle.std.proofs.lemmas.Result.{err_from_is_err_and}
 use Rattle.tags.specs.declared.tag.Class.TheVariants.{Application}
 use Rattle.tags.specs.Tag.{plain_tag, plain_content, opening, closing}
-use Rattle.tags.proofs.ElementLaws.{bracket_class, simple_class, context_tag, constructed_taken, no_element_never_closed, no_element_without_tag, no_element_otherwise}
+use Rattle.tags.proofs.ElementLaws.{bracket_class, simple_class, context_tag, constructed_taken, no_element_never_closed, no_element_without_tag}
+use Rattle.tags.proofs.ElementLaws.{no_element_otherwise}
 use Rattle.tags.proofs.element.after_element.Goals as goal
 
 pub returns-in_err-tag-clause-refused : goal.returns-in_err-tag-clause-refused
@@ -23,10 +24,12 @@ returns-in_err-rest-in-Opening-clause-refused c =
     let taken = c.in_ok-tag.ensures.read in
     let is = ap plain_content c.in-Opening.is in
     let p = err_from_is_err_and c.from_residual-in_err-rest-in-Opening.result c.from_residual-in_err-rest-in-Opening.ensures.1 in
-    rw (p.1) (no_element_never_closed _ tag.number _ (context_tag _ tag _ opening taken (bracket_class _ tag _ taken (inl is)) is) c.in_err-rest-in-Opening.ensures.refused)
+    rw (p.1) (no_element_never_closed _ tag.number _ (context_tag _ tag _ opening taken (bracket_class _ tag _ taken (inl is)) is)
+    c.in_err-rest-in-Opening.ensures.refused)
 
 pub returns-in-Application-clause-fault : goal.returns-in-Application-clause-fault
-returns-in-Application-clause-fault c = inr (refl, record { tag = plain_tag c.in_ok-tag.tag; rest = _; taken = c.in_ok-tag.ensures.read; other = inl c.in-Application.is })
+returns-in-Application-clause-fault c = inr
+    (refl, record { tag = plain_tag c.in_ok-tag.tag; rest = _; taken = c.in_ok-tag.ensures.read; other = inl c.in-Application.is })
 
 pub returns-in-Null : goal.returns-in-Null
 returns-in-Null c =

@@ -28,10 +28,12 @@ returns-in-Boolean-clause-read g c = carried_taken _ (plain_tag c.in_ok-tag.tag)
 
 pub returns-in_ok-value-in-Application-clause-read : goal.returns-in_ok-value-in-Application-clause-read
 returns-in_ok-value-in-Application-clause-read g c =
-    carried_taken _ (plain_tag c.in_ok-tag.tag) _ _ c.in_ok-tag.ensures.read (rw c.in-Octets.is (c.in-Application.is, c.in_ok-value-in-Application.ensures.read))
+    carried_taken _ (plain_tag c.in_ok-tag.tag) _ _ c.in_ok-tag.ensures.read
+    (rw c.in-Octets.is (c.in-Application.is, c.in_ok-value-in-Application.ensures.read))
 
 pub returns-in-Opening-clause-refused : goal.returns-in-Opening-clause-refused
 returns-in-Opening-clause-refused g c =
     let tag = plain_tag c.in_ok-tag.tag in
     let taken = c.in_ok-tag.ensures.read in
-    refused_as_element _ c.front_built-in-Opening.result _ tag _ taken (bracket_class _ tag _ taken (inl (ap plain_content c.in-Opening.is))) c.front_built-in-Opening.ensures.refused
+    refused_as_element _ c.front_built-in-Opening.result _ tag _ taken (bracket_class _ tag _ taken (inl (ap plain_content c.in-Opening.is)))
+    c.front_built-in-Opening.ensures.refused

@@ -9,4 +9,5 @@ returns-in_default-clause-refused c = record { none = λ inner e. c.in_default.e
 
 pub returns-in-None-clause-refused : goal.returns-in-None-clause-refused
 unfolding lib.Utf8.encode
-returns-in-None-clause-refused c = no_end c.args.words.now c.in-Some.rest.now (strip_prefix_char 91 c.args.words.now (Some c.in-Some.rest) c.in-Some.ensures.cases (omega arith)) c.in-None.ensures.cases
+returns-in-None-clause-refused c = no_end c.args.words.now c.in-Some.rest.now
+    (strip_prefix_char 91 c.args.words.now (Some c.in-Some.rest) c.in-Some.ensures.cases (omega arith)) c.in-None.ensures.cases

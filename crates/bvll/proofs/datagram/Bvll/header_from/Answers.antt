@@ -10,4 +10,5 @@ returns-in_default-octets-clause-fault c = cut_before_function c.args.octets.now
 
 pub returns-in_default-octets-2-clause-fault : goal.returns-in_default-octets-2-clause-fault
 returns-in_default-octets-2-clause-fault c =
-    cut_behind_function c.args.octets.now c.in_ok-function.function (λ i. omega (arith, c.type_inv.octets i)) (omega arith) (omega arith) c.if-first.false (sym c.in_ok-function.ensures)
+    cut_behind_function c.args.octets.now c.in_ok-function.function (λ i. omega (arith, c.type_inv.octets i)) (omega arith) (omega arith) c.if-first.false
+    (sym c.in_ok-function.ensures)

@@ -18,10 +18,12 @@ returns-clause-refused c =
 pub returns-clause-read : goal.returns-clause-read
 returns-clause-read c =
     let found = c.in_ok-function in
-    spelled_if found.function found.whole c.args.octets.now found.contents.now c.from_contents.result c.in_ok-function.ensures.read (sym c.from.ensures ∙ c.if-from-octets.false) c.in_ok-function.ensures.fits c.from_contents.ensures.read
+    spelled_if found.function found.whole c.args.octets.now found.contents.now c.from_contents.result c.in_ok-function.ensures.read
+    (sym c.from.ensures ∙ c.if-from-octets.false) c.in_ok-function.ensures.fits c.from_contents.ensures.read
 
 pub returns-clause-only : goal.returns-clause-only
 returns-clause-only c =
     let found = c.in_ok-function in
     only_datagram c.args.octets.now c.from_contents.result
-    (spelled_if found.function found.whole c.args.octets.now found.contents.now c.from_contents.result c.in_ok-function.ensures.read (sym c.from.ensures ∙ c.if-from-octets.false) c.in_ok-function.ensures.fits c.from_contents.ensures.read)
+    (spelled_if found.function found.whole c.args.octets.now found.contents.now c.from_contents.result c.in_ok-function.ensures.read
+    (sym c.from.ensures ∙ c.if-from-octets.false) c.in_ok-function.ensures.fits c.from_contents.ensures.read)

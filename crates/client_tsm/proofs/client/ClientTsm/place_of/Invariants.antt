@@ -7,4 +7,5 @@ use Rattle.client_tsm.proofs.client.ClientTsm.place_of.Given as goal
 abbrev pub invariant-loop-transaction : goal.invariant-loop-transaction
 invariant-loop-transaction g l =
     (l.place ≡ l.transaction-index)
-    × (position_from (takes l.now l.from l.invoke_id) l.place (drop l.transaction-index l.transaction-items) ≡ position_from (takes l.now l.from l.invoke_id) 0 l.transaction-items)
+    × (position_from (takes l.now l.from l.invoke_id) l.place (drop l.transaction-index l.transaction-items)
+    ≡ position_from (takes l.now l.from l.invoke_id) 0 l.transaction-items)

@@ -8,6 +8,8 @@ loop-transaction-preserved g c =
     let items = c.deref-transaction-items.result.now in
     let place = c.loop-transaction.transaction-index in
     let here = c.transaction-item.result in (
-      more items place here c.loop-transaction-test.true c.transaction-item.is (said_of c.args.now) c.loop-transaction.said c.wake_one.new.said c.in_ok-wake_one.ensures.said ∙ c.loop-transaction.invariant.0,
-      more items place here c.loop-transaction-test.true c.transaction-item.is (told_of c.args.now) c.loop-transaction.told c.wake_one.new.told c.in_ok-wake_one.ensures.told ∙ c.loop-transaction.invariant.1,
+      more items place here c.loop-transaction-test.true c.transaction-item.is (said_of c.args.now) c.loop-transaction.said c.wake_one.new.said
+          c.in_ok-wake_one.ensures.said ∙ c.loop-transaction.invariant.0,
+      more items place here c.loop-transaction-test.true c.transaction-item.is (told_of c.args.now) c.loop-transaction.told c.wake_one.new.told
+          c.in_ok-wake_one.ensures.told ∙ c.loop-transaction.invariant.1,
     )

@@ -12,8 +12,11 @@ pub returns-else-self-goal : goal.returns-else-self-goal
 returns-else-self-goal c =
     let old = c.args.self.now in
     let goal = c.goal-goal.ensures in
-    let few = min_fits (c.goal-goal.result - old.len) (length c.args.piece.now) c.min-count.result c.min-count.ensures (omega (arith, goal.more, c.requires.ready.len)) c.requires.some in
-    let less : c.append.new.self.len < c.goal-goal.result = omega (arith, few, c.append.ensures.len, c.split_at.ensures.front_len, c.if-self-goal.false, goal.more, c.requires.ready.len) in
+    let few = min_fits (c.goal-goal.result - old.len) (length c.args.piece.now) c.min-count.result c.min-count.ensures
+    (omega (arith, goal.more, c.requires.ready.len)) c.requires.some in
+    let less : c.append.new.self.len < c.goal-goal.result =
+    omega (arith, few, c.append.ensures.len, c.split_at.ensures.front_len, c.if-self-goal.false, goal.more, c.requires.ready.len) in
     appended old c.append.new.self c.args.piece.now c.min-count.result c.requires.kept c.append.ensures.is_whole
     (c.append.ensures.octets ∙ ap (λ o. octets_in old ++ o) c.split_at.ensures.front) few.2 few.1
-    (fill_ready old c.append.new.self _ c.goal-goal.result c.requires.ready c.requires.kept c.requires.begun goal.goal goal.most c.append.ensures.octets c.append.ensures.is_whole c.append.ensures.len less)
+    (fill_ready old c.append.new.self _ c.goal-goal.result c.requires.ready c.requires.kept c.requires.begun goal.goal goal.most c.append.ensures.octets
+    c.append.ensures.is_whole c.append.ensures.len less)

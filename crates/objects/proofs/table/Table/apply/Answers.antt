@@ -2,7 +2,8 @@ use Rattle.objects.proofs.RequestLaws.{reply_sound, reply_answers}
 use Rattle.objects.proofs.table.Table.apply.Goals as goal
 
 pub returns-clause-sound : goal.returns-clause-sound
-returns-clause-sound g c = λ sound. rw (c.in_ok-answer.ensures.machine) (reply_sound c.args.self.now c.args.request.now (rw (← c.self.view_is) c.self.invariant.1) sound)
+returns-clause-sound g c = λ sound. rw (c.in_ok-answer.ensures.machine)
+    (reply_sound c.args.self.now c.args.request.now (rw (← c.self.view_is) c.self.invariant.1) sound)
 
 pub returns-clause-answers : goal.returns-clause-answers
 returns-clause-answers g c = rw (c.in_ok-answer.ensures.machine) (reply_answers c.args.self.now c.args.request.now)

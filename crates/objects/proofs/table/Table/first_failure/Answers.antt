@@ -6,7 +6,8 @@ pub returns-then-not-is_done : goal.returns-then-not-is_done
 returns-then-not-is_done g c =
     rw (c.first_failure_of-reply.ensures, c.as_slice.ensures)
     (sym (group_fails c.args.self.now c.args.asked.now c.loop-group.group-index c.group-item.result c.loop-group-test.true c.group-item.is
-    (not_done c.first_failure_of-reply.result _ c.is_done.result (rw (← c.as_slice.ensures) c.first_failure_of-reply.ensures) c.is_done.ensures.1 (search rules)))
+    (not_done c.first_failure_of-reply.result _ c.is_done.result (rw (← c.as_slice.ensures) c.first_failure_of-reply.ensures) c.is_done.ensures.1
+    (search rules)))
     ∙ c.loop-group.invariant)
 
 pub loop-group-preserved : goal.loop-group-preserved

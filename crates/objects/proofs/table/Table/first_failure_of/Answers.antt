@@ -4,7 +4,8 @@ use Rattle.objects.proofs.table.Table.first_failure_of.Goals as goal
 
 pub returns-in-Some : goal.returns-in-Some
 returns-in-Some g c =
-    sym (fails_at c.args.self.now c.args.object c.args.writes.now c.loop-write.write-index c.write-item.result (c.in-Some.class, c.in-Some.code) c.loop-write-test.true c.write-item.is
+    sym (fails_at c.args.self.now c.args.object c.args.writes.now c.loop-write.write-index c.write-item.result (c.in-Some.class, c.in-Some.code)
+    c.loop-write-test.true c.write-item.is
     (rw (← c.as_slice.ensures) (sym c.refusal.ensures.refused ∙ c.in-Some.is)))
     ∙ c.loop-write.invariant
 

@@ -6,18 +6,21 @@ use Rattle.objects.proofs.WriteLaws.{is_refused, is_written, has_place, identifi
 use Rattle.objects.proofs.table.Table.write.Goals as goal
 
 pub returns-in-Some-clause-refused : goal.returns-in-Some-clause-refused
-returns-in-Some-clause-refused g c = is_refused c.args.self.now c.args.id c.args.asked c.in-Some.refusal (rw (← c.as_slice.ensures) (sym c.refusal.ensures.refused ∙ c.in-Some.is))
+returns-in-Some-clause-refused g c = is_refused c.args.self.now c.args.id c.args.asked c.in-Some.refusal
+    (rw (← c.as_slice.ensures) (sym c.refusal.ensures.refused ∙ c.in-Some.is))
 
 pub put_at-requires : goal.put_at-requires
 put_at-requires g c =
-    place_within c.self.inside.objects.items c.args.id c.in-Some-find.place (ap (λ (ids : List ObjectId). place_of ids c.args.id) (sym c.self.invariant.0) ∙ sym c.in-Some-find.ensures)
+    place_within c.self.inside.objects.items c.args.id c.in-Some-find.place (ap (λ (ids : List ObjectId). place_of ids c.args.id) (sym c.self.invariant.0)
+    ∙ sym c.in-Some-find.ensures)
 
 pub invariant_of-self : goal.invariant_of-self
 invariant_of-self g c =
     let t = c.self.inside.objects.items in
     let at = ap (λ (ids : List ObjectId). place_of ids c.args.id) (sym c.self.invariant.0) ∙ sym c.in-Some-find.ensures in
     let done = is_written t c.args.id c.args.asked c.in-Some-find.place c.put_at.new.objects.items at
-    (rw (c.self.view_is, ← c.as_slice.ensures) (sym c.refusal.ensures.refused ∙ c.in_default.is)) (λ o p here named. rw (← c.level_of.ensures) (c.put_at.ensures o p here named)) in (
+    (rw (c.self.view_is, ← c.as_slice.ensures) (sym c.refusal.ensures.refused ∙ c.in_default.is))
+    (λ o p here named. rw (← c.level_of.ensures) (c.put_at.ensures o p here named)) in (
       c.self.invariant.0 ∙ identifiers_write t c.args.id c.args.asked _ done,
       IsSoundTable-write t c.args.id c.args.asked _ c.self.invariant.1 (rw (← c.as_slice.ensures) (c.refusal.ensures.sound c.in_default.is)) done,
     )
@@ -27,7 +30,8 @@ returns-in-Some-find-clause-done g c =
     let t = c.self.inside.objects.items in
     let at = ap (λ (ids : List ObjectId). place_of ids c.args.id) (sym c.self.invariant.0) ∙ sym c.in-Some-find.ensures in
     rw (← c.self.view_is) (is_written t c.args.id c.args.asked c.in-Some-find.place c.put_at.new.objects.items at
-    (rw (c.self.view_is, ← c.as_slice.ensures) (sym c.refusal.ensures.refused ∙ c.in_default.is)) (λ o p here named. rw (← c.level_of.ensures) (c.put_at.ensures o p here named)))
+    (rw (c.self.view_is, ← c.as_slice.ensures) (sym c.refusal.ensures.refused ∙ c.in_default.is))
+    (λ o p here named. rw (← c.level_of.ensures) (c.put_at.ensures o p here named)))
 
 pub returns-in_default-find-clause-done : goal.returns-in_default-find-clause-done
 returns-in_default-find-clause-done g c =

@@ -9,7 +9,8 @@ pub returns-then-not-is_done : goal.returns-then-not-is_done
 returns-then-not-is_done g c =
     sym c.loop-group.invariant
     ∙ ap (λ (gs : List (ObjectWrites _)). write_all c.loop-group.self (in_order gs)) c.in-Some.ensures.steps.0
-    ∙ group_stops c.loop-group.self c.write_group-reply.new.self c.write_group-reply.result c.in-Some.group c.next.new.self.rest.items c.write_group-reply.ensures
+    ∙ group_stops c.loop-group.self c.write_group-reply.new.self c.write_group-reply.result c.in-Some.group c.next.new.self.rest.items
+    c.write_group-reply.ensures
     (not_done c.write_group-reply.result _ c.is_done.result refl c.is_done.ensures.1 (search rules))
 
 pub loop-group-preserved-else-not-is_done : goal.loop-group-preserved-else-not-is_done

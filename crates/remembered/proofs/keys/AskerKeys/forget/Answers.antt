@@ -15,12 +15,14 @@ returns-in_default g c = record {
 
 pub index-requires : goal.index-requires
 index-requires g c =
-    let within : c.in-Ok.place < length c.self.inside.entries.items = slice_get_within c.self.inside.entries.items c.in-Ok.place (c.args.asker, c.in-Ok.ensures.found.key) (rw c.self.view_is c.in-Ok.ensures.found.is) in
+    let within : c.in-Ok.place < length c.self.inside.entries.items =
+    slice_get_within c.self.inside.entries.items c.in-Ok.place (c.args.asker, c.in-Ok.ensures.found.key) (rw c.self.view_is c.in-Ok.ensures.found.is) in
     grind (arith, common_steps, within)
 
 pub remove-requires : goal.remove-requires
 remove-requires g c =
-    let within : c.in-Ok.place < length c.self.inside.entries.items = slice_get_within c.self.inside.entries.items c.in-Ok.place (c.args.asker, c.in-Ok.ensures.found.key) (rw c.self.view_is c.in-Ok.ensures.found.is) in
+    let within : c.in-Ok.place < length c.self.inside.entries.items =
+    slice_get_within c.self.inside.entries.items c.in-Ok.place (c.args.asker, c.in-Ok.ensures.found.key) (rw c.self.view_is c.in-Ok.ensures.found.is) in
     grind (arith, common_steps, within)
 
 -- it has this key
@@ -32,9 +34,12 @@ returns-then-index-key g c =
     let es = c.self.inside.entries.items in
     let there = c.in-Ok.ensures.found in
     let is : slice_get es c.in-Ok.place ≡ Some (c.args.asker, there.key) = rw c.self.view_is there.is in
-    let read : c.index.result.now ≡ (c.args.asker, there.key) = c.index.ensures ∙ get_or_from_slice_get es c.in-Ok.place (c.args.asker, there.key) c.index.result.now is in
+    let read : c.index.result.now ≡ (c.args.asker, there.key) =
+    c.index.ensures ∙ get_or_from_slice_get es c.in-Ok.place (c.args.asker, there.key) c.index.result.now is in
     let same : there.key ≡ c.args.key = sym (ap (λ e. e.1) read) ∙ grind (arith, common_steps) in
-    let has : get c.args.self.now c.args.asker ≡ Some c.args.key = ap (λ (keys : Keys). get keys c.args.asker) (sym c.self.view_is) ∙ key_there es c.args.asker c.in-Ok.place there.key c.self.invariant is ∙ ap Some same in
+    let has : get c.args.self.now c.args.asker ≡ Some c.args.key =
+    ap (λ (keys : Keys). get keys c.args.asker) (sym c.self.view_is) ∙ key_there es c.args.asker c.in-Ok.place there.key c.self.invariant is
+    ∙ ap Some same in
     record {
       dropped = λ mine. rw (c.remove.ensures.items, ← c.self.view_is) (key_removed es c.args.asker c.in-Ok.place there.key c.self.invariant is);
       left = λ other. absurd (other has);
@@ -46,8 +51,11 @@ returns-else-index-key g c =
     let es = c.self.inside.entries.items in
     let there = c.in-Ok.ensures.found in
     let is : slice_get es c.in-Ok.place ≡ Some (c.args.asker, there.key) = rw c.self.view_is there.is in
-    let read : c.index.result.now ≡ (c.args.asker, there.key) = c.index.ensures ∙ get_or_from_slice_get es c.in-Ok.place (c.args.asker, there.key) c.index.result.now is in
-    let has : get c.args.self.now c.args.asker ≡ Some c.index.result.now.1 = ap (λ (keys : Keys). get keys c.args.asker) (sym c.self.view_is) ∙ key_there es c.args.asker c.in-Ok.place there.key c.self.invariant is ∙ ap Some (sym (ap (λ e. e.1) read)) in
+    let read : c.index.result.now ≡ (c.args.asker, there.key) =
+    c.index.ensures ∙ get_or_from_slice_get es c.in-Ok.place (c.args.asker, there.key) c.index.result.now is in
+    let has : get c.args.self.now c.args.asker ≡ Some c.index.result.now.1 =
+    ap (λ (keys : Keys). get keys c.args.asker) (sym c.self.view_is) ∙ key_there es c.args.asker c.in-Ok.place there.key c.self.invariant is
+    ∙ ap Some (sym (ap (λ e. e.1) read)) in
     record {
       dropped = λ mine. absurd (let same : c.index.result.now.1 ≡ c.args.key = cc (sym has ∙ mine) in grind (arith, common_steps, same));
       left = λ other. refl;

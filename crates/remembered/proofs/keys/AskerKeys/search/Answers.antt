@@ -12,6 +12,9 @@ use Rattle.remembered.proofs.keys.AskerKeys.search.Goals as goal
 pub returns : goal.returns
 returns g c =
     let facts = c.binary_search_by.ensures in
-    let derived = facts.position (λ (e : Asker × ℕ). impl.cmp-value.it e.0 c.args.asker) (always_returns_same _ _ _ (λ a r f called. (search rules, search rules))) in
-    let compared = subst (λ (order : Asker × ℕ → Ordering). IsBinarySearchResult order c.deref.result.now c.binary_search_by.result) (λ i e. one_order e.0 c.args.asker i) derived in
-    rw (← c.self.view_is, ← c.deref.ensures.value) (searched c.deref.result.now c.args.asker (rw c.deref.ensures.value c.self.invariant) c.binary_search_by.result facts.bound compared)
+    let derived = facts.position (λ (e : Asker × ℕ). impl.cmp-value.it e.0 c.args.asker)
+    (always_returns_same _ _ _ (λ a r f called. (search rules, search rules))) in
+    let compared = subst (λ (order : Asker × ℕ → Ordering). IsBinarySearchResult order c.deref.result.now c.binary_search_by.result)
+    (λ i e. one_order e.0 c.args.asker i) derived in
+    rw (← c.self.view_is, ← c.deref.ensures.value)
+    (searched c.deref.result.now c.args.asker (rw c.deref.ensures.value c.self.invariant) c.binary_search_by.result facts.bound compared)

@@ -21,8 +21,10 @@ returns-in-Ok-clause-had g c =
     let es = c.self.inside.entries.items in
     let there = c.in-Ok.ensures.found in
     let is : slice_get es c.in-Ok.place ≡ Some (c.args.asker, there.key) = rw c.self.view_is there.is in
-    let read : c.index.result.now ≡ (c.args.asker, there.key) = c.index.ensures ∙ get_or_from_slice_get es c.in-Ok.place (c.args.asker, there.key) c.index.result.now is in
-    ap (λ (e : Asker × ℕ). Some e.1) read ∙ sym (key_there es c.args.asker c.in-Ok.place there.key c.self.invariant is) ∙ ap (λ (keys : Keys). get keys c.args.asker) c.self.view_is
+    let read : c.index.result.now ≡ (c.args.asker, there.key) =
+    c.index.ensures ∙ get_or_from_slice_get es c.in-Ok.place (c.args.asker, there.key) c.index.result.now is in
+    ap (λ (e : Asker × ℕ). Some e.1) read ∙ sym (key_there es c.args.asker c.in-Ok.place there.key c.self.invariant is)
+    ∙ ap (λ (keys : Keys). get keys c.args.asker) c.self.view_is
 
 pub returns-in-Ok-clause-set : goal.returns-in-Ok-clause-set
 returns-in-Ok-clause-set g c =
@@ -31,13 +33,16 @@ returns-in-Ok-clause-set g c =
 
 -- it is added in the gap
 pub invariant_of-self-in-Err : goal.invariant_of-self-in-Err
-invariant_of-self-in-Err g c = rw c.in_ok-insert-in-Err.ensures.items (sorted_inserted c.self.inside.entries.items c.args.asker c.in-Err.place c.args.key c.self.invariant (rw c.self.view_is c.in-Err.ensures.absent))
+invariant_of-self-in-Err g c = rw c.in_ok-insert-in-Err.ensures.items
+    (sorted_inserted c.self.inside.entries.items c.args.asker c.in-Err.place c.args.key c.self.invariant (rw c.self.view_is c.in-Err.ensures.absent))
 
 pub returns-in_ok-insert-in-Err-clause-had : goal.returns-in_ok-insert-in-Err-clause-had
 returns-in_ok-insert-in-Err-clause-had g c = sym (key_absent c.args.self.now c.args.asker c.in-Err.place c.in-Err.ensures.absent)
 
 pub returns-in_ok-insert-in-Err-clause-set : goal.returns-in_ok-insert-in-Err-clause-set
-returns-in_ok-insert-in-Err-clause-set g c = rw (c.in_ok-insert-in-Err.ensures.items, ← c.self.view_is) (key_inserted c.self.inside.entries.items c.args.asker c.in-Err.place c.args.key (rw c.self.view_is c.in-Err.ensures.absent))
+returns-in_ok-insert-in-Err-clause-set g c =
+    rw (c.in_ok-insert-in-Err.ensures.items, ← c.self.view_is)
+    (key_inserted c.self.inside.entries.items c.args.asker c.in-Err.place c.args.key (rw c.self.view_is c.in-Err.ensures.absent))
 
 -- memory fails only for an asker that was not there
 pub returns-in_err-insert-in-Err-clause-absent : goal.returns-in_err-insert-in-Err-clause-absent

@@ -13,8 +13,13 @@ invariant_of-self-2 g c =
     let order : c.push_back.new.self.items ≡ ks ++ c.vacant_key-key.result ∷ [] = grind (arith, common_steps) in
     let key : c.insert_reserved.result ≡ c.vacant_key-key.result = grind (arith, common_steps) in
     let none : at held c.vacant_key-key.result ≡ None = grind (arith, common_steps, c.insert_reserved.ensures.was_vacant) in
-    rw (order) (kept_pushed held c.insert_reserved.new.self.slots c.self.inside.keys c.set.new.self ks c.vacant_key-key.result c.args.entry c.self.invariant none
-    (record { changed = grind (arith, common_steps, c.insert_reserved.ensures.updates.changed); others = λ j e. grind (arith, common_steps, c.insert_reserved.ensures.updates.others j) })
+    rw (order) (kept_pushed held c.insert_reserved.new.self.slots c.self.inside.keys c.set.new.self ks c.vacant_key-key.result c.args.entry c.self.invariant
+    none
+    (record {
+      changed = grind (arith, common_steps, c.insert_reserved.ensures.updates.changed);
+      others =
+          λ j e. grind (arith, common_steps, c.insert_reserved.ensures.updates.others j);
+    })
     c.in_ok-set.ensures.set)
 
 pub returns-clause-added : goal.returns-clause-added
@@ -25,6 +30,11 @@ returns-clause-added g c =
     let order : c.push_back.new.self.items ≡ ks ++ c.vacant_key-key.result ∷ [] = grind (arith, common_steps) in
     let key : c.insert_reserved.result ≡ c.vacant_key-key.result = grind (arith, common_steps) in
     let none : at held c.vacant_key-key.result ≡ None = grind (arith, common_steps, c.insert_reserved.ensures.was_vacant) in
-    ap (listed c.insert_reserved.new.self.slots) order ∙ listed_pushed held c.insert_reserved.new.self.slots c.self.inside.keys ks c.vacant_key-key.result c.args.entry c.self.invariant none
-    (record { changed = grind (arith, common_steps, c.insert_reserved.ensures.updates.changed); others = λ j e. grind (arith, common_steps, c.insert_reserved.ensures.updates.others j) })
+    ap (listed c.insert_reserved.new.self.slots) order
+    ∙ listed_pushed held c.insert_reserved.new.self.slots c.self.inside.keys ks c.vacant_key-key.result c.args.entry c.self.invariant none
+    (record {
+      changed = grind (arith, common_steps, c.insert_reserved.ensures.updates.changed);
+      others =
+          λ j e. grind (arith, common_steps, c.insert_reserved.ensures.updates.others j);
+    })
     ∙ ap (λ (rs : List _). rs ++ c.args.entry ∷ []) c.self.view_is

@@ -9,7 +9,8 @@ pub invariant_of-self-2 : goal.invariant_of-self-2
 invariant_of-self-2 g c =
     let order : c.self.inside.order.items ≡ c.in-Some.key ∷ c.pop_front.new.self.items = grind (arith, common_steps) in
     let kept : IsKept c.self.inside.held.slots c.self.inside.keys (c.in-Some.key ∷ c.pop_front.new.self.items) = rw (← order) c.self.invariant in
-    kept_forgotten c.self.inside.held.slots c.try_remove.new.self.slots c.self.inside.keys c.forget.new.self c.in-Some.key c.pop_front.new.self.items c.in-Some-try_remove.record kept
+    kept_forgotten c.self.inside.held.slots c.try_remove.new.self.slots c.self.inside.keys c.forget.new.self c.in-Some.key c.pop_front.new.self.items
+    c.in-Some-try_remove.record kept
     (grind (arith, common_steps))
     (record { changed = c.try_remove.ensures.updates.changed; others = c.try_remove.ensures.updates.others })
     c.forget.ensures

@@ -8,9 +8,17 @@ pub returns-in_err-key : goal.returns-in_err-key
 returns-in_err-key g c =
     let key : None ≡ slice_get c.self.inside.order.items c.args.place = grind (arith, common_steps) in
     let none : option_copied c.from_residual.result ≡ None = grind (arith, common_steps) in
-    record { there = none ∙ ap (and_get c.self.inside.held.slots) {x = None} key ∙ sym (listed_at c.self.inside.held.slots c.self.inside.order.items c.args.place c.self.invariant.filled) ∙ ap (λ rs. slice_get rs c.args.place) c.self.view_is }
+    record {
+      there = none ∙ ap (and_get c.self.inside.held.slots) {x = None} key
+          ∙ sym (listed_at c.self.inside.held.slots c.self.inside.order.items c.args.place c.self.invariant.filled)
+          ∙ ap (λ rs. slice_get rs c.args.place) c.self.view_is;
+    }
 
 pub returns : goal.returns
 returns g c =
     let key : Some c.in_ok-key.key ≡ slice_get c.self.inside.order.items c.args.place = grind (arith, common_steps) in
-    record { there = c.get.ensures ∙ ap (and_get c.self.inside.held.slots) {x = Some c.in_ok-key.key} key ∙ sym (listed_at c.self.inside.held.slots c.self.inside.order.items c.args.place c.self.invariant.filled) ∙ ap (λ rs. slice_get rs c.args.place) c.self.view_is }
+    record {
+      there = c.get.ensures ∙ ap (and_get c.self.inside.held.slots) {x = Some c.in_ok-key.key} key
+          ∙ sym (listed_at c.self.inside.held.slots c.self.inside.order.items c.args.place c.self.invariant.filled)
+          ∙ ap (λ rs. slice_get rs c.args.place) c.self.view_is;
+    }

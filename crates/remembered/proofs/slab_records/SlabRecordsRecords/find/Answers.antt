@@ -10,4 +10,7 @@ pub returns : goal.returns
 returns g c =
     let found = c.self.invariant.found c.args.asker in
     let key : Some c.in_ok-key.key ≡ key_of c.self.inside.held.slots c.args.asker c.self.inside.order.items = grind (arith, common_steps) in
-    record { found = c.get-2.ensures ∙ ap (and_get c.self.inside.held.slots) {x = Some c.in_ok-key.key} key ∙ sym (newest_listed c.self.inside.held.slots c.args.asker c.self.inside.order.items) ∙ ap (newest c.args.asker) c.self.view_is }
+    record {
+      found = c.get-2.ensures ∙ ap (and_get c.self.inside.held.slots) {x = Some c.in_ok-key.key} key
+          ∙ sym (newest_listed c.self.inside.held.slots c.args.asker c.self.inside.order.items) ∙ ap (newest c.args.asker) c.self.view_is;
+    }

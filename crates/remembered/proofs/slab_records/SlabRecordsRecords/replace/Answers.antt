@@ -15,9 +15,12 @@ pub returns-in_default : goal.returns-in_default
 returns-in_default g c =
     record {
       replaced =
-          let key : key_of c.self.inside.held.slots c.args.asker c.self.inside.order.items ≡ None = sym (c.self.invariant.found c.args.asker) ∙ grind (arith, common_steps) in
-          let none : newest c.args.asker (listed c.self.inside.held.slots c.self.inside.order.items) ≡ None = newest_listed c.self.inside.held.slots c.args.asker c.self.inside.order.items ∙ ap (and_get c.self.inside.held.slots) key in
-          sym c.self.view_is ∙ sym (not_sent c.args.asker c.args.way c.args.sending (listed c.self.inside.held.slots c.self.inside.order.items) none) ∙ ap (said_again c.args.asker c.args.way c.args.sending) c.self.view_is;
+          let key : key_of c.self.inside.held.slots c.args.asker c.self.inside.order.items ≡ None =
+          sym (c.self.invariant.found c.args.asker) ∙ grind (arith, common_steps) in
+          let none : newest c.args.asker (listed c.self.inside.held.slots c.self.inside.order.items) ≡ None =
+          newest_listed c.self.inside.held.slots c.args.asker c.self.inside.order.items ∙ ap (and_get c.self.inside.held.slots) key in
+          sym c.self.view_is ∙ sym (not_sent c.args.asker c.args.way c.args.sending (listed c.self.inside.held.slots c.self.inside.order.items) none)
+          ∙ ap (said_again c.args.asker c.args.way c.args.sending) c.self.view_is;
     }
 
 pub returns-in_default-try_remove : goal.returns-in_default-try_remove
@@ -25,15 +28,20 @@ returns-in_default-try_remove g c =
     record {
       replaced =
           let same : c.try_remove.new.self.slots ≡ c.self.inside.held.slots = grind (arith, common_steps, c.in_default-try_remove.ensures.absent) in
-          let key : key_of c.self.inside.held.slots c.args.asker c.self.inside.order.items ≡ Some c.in-Some.key = sym (c.self.invariant.found c.args.asker) ∙ sym c.in-Some.ensures in
+          let key : key_of c.self.inside.held.slots c.args.asker c.self.inside.order.items ≡ Some c.in-Some.key =
+          sym (c.self.invariant.found c.args.asker) ∙ sym c.in-Some.ensures in
           let gone : at c.self.inside.held.slots c.in-Some.key ≡ None = grind (arith, common_steps) in
-          let none : newest c.args.asker (listed c.self.inside.held.slots c.self.inside.order.items) ≡ None = newest_listed c.self.inside.held.slots c.args.asker c.self.inside.order.items ∙ ap (and_get c.self.inside.held.slots) key ∙ gone in
-          ap (λ h. listed h c.self.inside.order.items) same ∙ sym (not_sent c.args.asker c.args.way c.args.sending (listed c.self.inside.held.slots c.self.inside.order.items) none) ∙ ap (said_again c.args.asker c.args.way c.args.sending) c.self.view_is;
+          let none : newest c.args.asker (listed c.self.inside.held.slots c.self.inside.order.items) ≡ None =
+          newest_listed c.self.inside.held.slots c.args.asker c.self.inside.order.items ∙ ap (and_get c.self.inside.held.slots) key ∙ gone in
+          ap (λ h. listed h c.self.inside.order.items) same
+          ∙ sym (not_sent c.args.asker c.args.way c.args.sending (listed c.self.inside.held.slots c.self.inside.order.items) none)
+          ∙ ap (said_again c.args.asker c.args.way c.args.sending) c.self.view_is;
     }
 
 pub invariant_of-self-2 : goal.invariant_of-self-2
 invariant_of-self-2 g c =
-    kept_sent c.self.inside.held.slots c.insert_reserved.new.self.slots c.self.inside.keys c.self.inside.order.items c.in-Some.key c.args.way c.args.sending c.in-Some-try_remove.entry c.self.invariant
+    kept_sent c.self.inside.held.slots c.insert_reserved.new.self.slots c.self.inside.keys c.self.inside.order.items c.in-Some.key c.args.way c.args.sending
+    c.in-Some-try_remove.entry c.self.invariant
     (grind (arith, common_steps))
     (record {
       changed = grind (arith, common_steps, c.insert_reserved.ensures.updates.changed);

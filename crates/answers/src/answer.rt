@@ -1,0 +1,58 @@
+//! In which PDU a reply goes (15.5, 15.7, 15.9, 15.10, 20.1.4, 20.1.5 and 20.1.7).
+
+ghost use Rattle.std.specs.Prelude.{◌≡◌, ◌↔◌, IsTrue};
+ghost use Rattle.answers.specs.Answer.{GoesIn};
+
+use apdu::{ObjectPropertyReference, ServiceError};
+use primitives::Reply;
+use std::alloc::Allocator;
+
+/// What an answer has behind its header (20.1.4, 20.1.5, 20.1.7).
+#[derive(Clone, Copy, Debug, PartialEq, Eq)]
+pub enum Answer<'a> {
+    /// A SimpleACK.
+    Simple,
+    /// The service data of a ComplexACK.
+    Complex(&'a [u8]),
+    /// The contents of an Error.
+    Error(ServiceError),
+}
+
+/// The answer in which a reply goes, with its service data where it has some: a SimpleACK where all
+/// was written, a ComplexACK for what was read, an Error where the request was not done (20.1).
+pub fn answer_of<'a, A: Allocator>(reply: &Reply<A>, body: &'a [u8]) -> Answer<'a>
+    ensures { GoesIn reply.now body.entry.now result }
+{
+    match reply {
+        Reply::Done => Answer::Simple,
+        Reply::Values(_) | Reply::Many(_) => Answer::Complex(body),
+        Reply::Error(class, code) => Answer::Error(ServiceError {
+            class: *class,
+            code: *code,
+            first_failed: None,
+        }),
+        Reply::ErrorAt {
+            class,
+            code,
+            object,
+            property,
+            index,
+        } => Answer::Error(ServiceError {
+            class: *class,
+            code: *code,
+            first_failed: Some(ObjectPropertyReference {
+                object: *object,
+                property: *property,
+                index: *index,
+            }),
+        }),
+    }
+}
+
+/// Whether what was read is about the property asked, or about the same element of it (15.5.1).
+pub fn is_about(read: ObjectPropertyReference, asked: ObjectPropertyReference) -> bool
+    ensures { IsTrue result ↔ ((read.object ≡ asked.object) × (read.property ≡ asked.property) ×
+        (read.index ≡ asked.index)) }
+{
+    read == asked
+}

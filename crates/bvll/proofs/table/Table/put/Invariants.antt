@@ -1,8 +1,0 @@
-use Rattle.std.proofs.Common.{◌≡◌, ◌++◌, flat_map}
-use Rattle.std.specs.List.{AllByRecursion}
-use Rattle.bvll.proofs.table.Table.put.Given as goal
-
-abbrev pub invariant-loop-entry : goal.invariant-loop-entry
-invariant-loop-entry g l =
-    (l.out.items ≡ l.fn.out.items ++ flat_map g.E.Entry.octets_of l.yielded)
-    × AllByRecursion g.E.Entry.IsEntry l.yielded

@@ -1,0 +1,6 @@
+pub mod Bodies
+pub mod Speaking
+pub mod Protocol
+pub mod Refined
+pub mod Network
+pub mod Laws

@@ -1,0 +1,11 @@
+pub mod Places
+mod Saying
+pub mod Acting
+mod Sending
+mod Gathered
+pub mod Hearing
+pub mod Waking
+mod Issuing
+pub mod Learning
+pub mod Hears
+pub mod Laws

@@ -1,0 +1,12 @@
+pub mod Listed
+pub mod Records
+pub mod Receiving
+pub mod Sending
+pub mod Saying
+pub mod Keeping
+pub mod Staying
+pub mod Going
+pub mod Served
+pub mod Executing
+pub mod Waking
+pub mod Heard

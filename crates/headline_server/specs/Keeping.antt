@@ -1,0 +1,49 @@
+-- What always holds of what a server remembers, on its network: each answer can be said as its requester hears it.
+use Rattle.std.specs.Prelude.{◌≡◌, ◌≢◌, ◌≤◌, ℕ, false, List, [], ◌∷◌, length, map, Option, Some, None}
+use Rattle.std.specs.List.{AllByRecursion}
+use Rattle.headline_bacnet.specs.Bodies.{led_to}
+use Rattle.remembered.specs.declared.record.Asker.{Asker}
+use Rattle.remembered.specs.declared.record.Record.{Record}
+use Rattle.remembered.specs.declared.record.RememberedAnswer.{RememberedAnswer}
+use Rattle.remembered.specs.declared.record.RememberedAnswer.TheVariants as kept
+use Rattle.segments.specs.Sender.{SenderState}
+use Rattle.segments.specs.Pieces.{piece_count}
+use Rattle.server_answers.specs.Limits.{goes_whole}
+use Rattle.server_tsm.specs.Server.{AreTimely, ServerTsmState}
+
+-- so much service data has 256 pieces of this size at most: each has a sequence number of its own (20.1.5)
+abbrev pub AreNumbered : (chunk : ℕ) → List ℕ → Type 0
+AreNumbered chunk octets = piece_count chunk (length octets) ≤ 256
+
+-- an answer that doesn't go whole can go in segments (5.4.5.3)
+abbrev pub CanBeCut : {A : Type 0} → (chunk : ℕ) → RememberedAnswer A → Type 0
+CanBeCut chunk (kept.Complex octets) = goes_whole chunk (length octets) ≡ false → AreNumbered chunk octets
+CanBeCut chunk answer = Unit {0}
+
+-- segments of it are said in pieces of this size; an answer without service data has none (5.4.5.3)
+abbrev pub IsSentIn : {A : Type 0} → (chunk : ℕ) → RememberedAnswer A → Option SenderState → Type 0
+IsSentIn chunk answer None = Unit {0}
+IsSentIn chunk (kept.Complex octets) (Some c) = (c.chunk ≡ chunk) × AreNumbered chunk octets
+IsSentIn chunk answer (Some c) = ⊥
+
+-- a remembered answer goes to who asked, and is said in pieces of its room
+pub record IsSayable {A : Type 0} (net : ℕ) (r : Record A) : Type 0 where
+  pub chunk : 1 ≤ r.chunk
+  pub way : led_to net r.way ≡ r.asker.station
+  pub cut : CanBeCut r.chunk r.answer
+  pub sent : IsSentIn r.chunk r.answer r.sending
+
+-- none of them stands twice
+abbrev pub AreDistinct : {X : Type 0} → List X → Type 0
+AreDistinct [] = Unit {0}
+AreDistinct (x ∷ xs) = AllByRecursion (λ y. y ≢ x) xs × AreDistinct xs
+
+-- who asked for what is remembered
+abbrev pub askers : {A : Type 0} → List (Record A) → List Asker
+askers rs = map (λ r. r.asker) rs
+
+-- a server keeps one answer for each asker at most, in order of execution, and each can be said (5.4.5)
+pub record IsWellKept {A : Type 0} (net : ℕ) (st : ServerTsmState A) : Type 0 where
+  pub sayable : AllByRecursion (IsSayable net) st.records
+  pub distinct : AreDistinct (askers st.records)
+  pub timely : AreTimely st.moment st.records

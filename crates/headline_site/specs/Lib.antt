@@ -1,0 +1,3 @@
+pub mod AllStations
+pub mod Fair
+pub mod Laws

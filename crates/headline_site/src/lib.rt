@@ -1,0 +1,81 @@
+//! All stations of a site, clients and devices, as their contracts have them, and the promise over every fair list of
+//! what can happen to them (ANSI/ASHRAE 135, clause 5.4).
+//!
+//! It has no code. Each function is a law: its contract. In `specs/`, from below:
+//!
+//! - `AllStations`: the clients and devices of a site over one book, and what comes of an event.
+//! - `Fair`: which events are fair, and how a site begins.
+//! - `Laws`: what the functions state.
+#![tactic(auto)]
+
+ghost use Rattle.headline.specs.Promised.{AnswersAreWhole, ExecutesWhatIsIssued, RequestsAreWhole, TransactionsAreOfIssues};
+ghost use Rattle.headline.specs.Promised as core;
+ghost use Rattle.history.specs.Legal.{AnswersWereExecuted, AreClosedOnce, AreExecutedOnce, AreNumbered, StandAfterIssue};
+ghost use Rattle.headline_bacnet.specs.Protocol.{bacnet};
+ghost use Rattle.headline_site.specs.Laws.{Always, BeginsWell, ClientHearingGoes, DeviceHearingGoes, ExecutedIsIssued, IsReached, OutcomesAreOfIssues, SaidStays, StepRefines, TablesAreLeft};
+
+use std::alloc::Allocator;
+
+/// What comes of a fair event is a list of honest happenings, and the core stays what safety sees of each station; so
+/// it is where a site begins.
+pub fn step_refines<A: Allocator>()
+    ensures step { StepRefines A }
+    ensures begin { BeginsWell A }
+{}
+
+/// What a client or a device does on an NPDU by its contract, where what it brings was said, goes as well.
+pub fn hearing_goes<A: Allocator>()
+    ensures client { ClientHearingGoes A }
+    ensures device { DeviceHearingGoes A }
+{}
+
+/// Fair events lead where honest happenings lead.
+pub fn honest_happenings_lead_there<A: Allocator>()
+    ensures { Always A (λ s w. IsReached s w.core) }
+{}
+
+/// Issues are numbered in order, each other entry stands after its issue, each issue is executed at most once, each
+/// answer has the reply of an earlier execution of that very issue, and no issue is answered or ended twice.
+pub fn histories_are_legal<A: Allocator>()
+    ensures numbered { Always A (λ s w. AreNumbered w.core.book.history) }
+    ensures after_issue { Always A (λ s w. StandAfterIssue w.core.book.history) }
+    ensures executed { Always A (λ s w. AreExecutedOnce w.core.book.history) }
+    ensures answered { Always A (λ s w. AnswersWereExecuted w.core.book.history) }
+    ensures closed { Always A (λ s w. AreClosedOnce w.core.book.history) }
+{}
+
+/// The objects of each device are what the executions of its requests leave, in their order.
+pub fn tables_are_what_executions_leave<A: Allocator>()
+    ensures { Always A (λ s w. TablesAreLeft s w) }
+{}
+
+/// What is executed, open or closed is of the last issue of its client under its invoke ID, which has its request and
+/// names the instance of the device; a reply that is given is that of an execution of it.
+pub fn all_is_of_an_issue<A: Allocator>()
+    ensures executed { Always A (λ s w. ExecutesWhatIsIssued (bacnet A) s w.core) }
+    ensures opened { Always A (λ s w. TransactionsAreOfIssues (bacnet A) s w.core) }
+    ensures closed { Always A (λ s w. core.OutcomesAreOfIssues (bacnet A) s w.core) }
+{}
+
+/// What a device executes is the request of the last issue of the asker under its invoke ID, which names the instance
+/// of the device.
+pub fn executed_is_issued<A: Allocator>()
+    ensures { Always A (λ s w. ExecutedIsIssued s w) }
+{}
+
+/// What a client tells is of its last issue under that invoke ID, which has the request of the transaction and names
+/// the instance of the station addressed; a reply is that of an execution of it.
+pub fn outcomes_are_of_issues<A: Allocator>()
+    ensures { OutcomesAreOfIssues A }
+{}
+
+/// Each request that was gathered is the whole body of one issue, each gathered answer the whole of one execution's.
+pub fn whole_bodies<A: Allocator>()
+    ensures requests { Always A (λ s w. RequestsAreWhole (bacnet A) s w.core) }
+    ensures answers { Always A (λ s w. AnswersAreWhole (bacnet A) s w.core) }
+{}
+
+/// Nothing that was said is taken back.
+pub fn said_stays_said<A: Allocator>()
+    ensures { SaidStays A }
+{}

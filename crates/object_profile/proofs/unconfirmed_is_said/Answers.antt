@@ -1,5 +1,0 @@
-use Rattle.object_profile.proofs.Speaking.{i_am_is_said, who_is_is_said}
-use Rattle.object_profile.proofs.unconfirmed_is_said.Goals as goal
-
-pub returns : goal.returns
-returns c = record { i_am = i_am_is_said; who_is = who_is_is_said }

@@ -1,0 +1,4 @@
+pub mod Times
+pub mod Limits
+pub mod LinkKind
+pub mod Ages

@@ -1,0 +1,5 @@
+pub mod Limits
+pub mod Said
+pub mod Gathering
+pub mod Answering
+pub mod Plan

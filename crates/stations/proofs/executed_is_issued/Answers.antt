@@ -1,5 +1,0 @@
-use Rattle.stations.proofs.Executions.{executed_is_issued}
-use Rattle.stations.proofs.executed_is_issued.Goals as goal
-
-pub returns : goal.returns
-returns g c = executed_is_issued

@@ -1,5 +1,0 @@
-use Rattle.stations.proofs.Steps.{begins_well, step_goes}
-use Rattle.stations.proofs.step_refines.Goals as goal
-
-pub returns : goal.returns
-returns g c = record { step = step_goes; begin = begins_well }

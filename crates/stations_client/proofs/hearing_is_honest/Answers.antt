@@ -1,5 +1,0 @@
-use Rattle.stations_client.proofs.Laws.{hearing}
-use Rattle.stations_client.proofs.hearing_is_honest.Goals as goal
-
-pub returns : goal.returns
-returns g c = hearing

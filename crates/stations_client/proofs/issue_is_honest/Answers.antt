@@ -1,5 +1,0 @@
-use Rattle.stations_client.proofs.Laws.{issuing}
-use Rattle.stations_client.proofs.issue_is_honest.Goals as goal
-
-pub returns : goal.returns
-returns g c = issuing

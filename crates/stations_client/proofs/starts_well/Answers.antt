@@ -1,5 +1,0 @@
-use Rattle.stations_client.proofs.Laws.{starts}
-use Rattle.stations_client.proofs.starts_well.Goals as goal
-
-pub returns : goal.returns
-returns g c = starts

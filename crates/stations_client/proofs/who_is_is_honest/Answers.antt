@@ -1,5 +1,0 @@
-use Rattle.stations_client.proofs.Laws.{who_is}
-use Rattle.stations_client.proofs.who_is_is_honest.Goals as goal
-
-pub returns : goal.returns
-returns g c = who_is

@@ -1,5 +1,0 @@
-use Rattle.stations_device.proofs.Doing.{opens_at_start}
-use Rattle.stations_device.proofs.opens_at_start.Goals as goal
-
-pub returns : goal.returns
-returns g c = opens_at_start

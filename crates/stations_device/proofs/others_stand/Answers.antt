@@ -1,5 +1,0 @@
-use Rattle.stations_device.proofs.Doing.{others_stand}
-use Rattle.stations_device.proofs.others_stand.Goals as goal
-
-pub returns : goal.returns
-returns g c = others_stand

@@ -1,5 +1,0 @@
-use Rattle.stations_server.proofs.Waking.{announce_refines}
-use Rattle.stations_server.proofs.announce_refines.Goals as goal
-
-pub returns : goal.returns
-returns g c = announce_refines

@@ -1,5 +1,0 @@
-use Rattle.stations_server.proofs.Waking.{new_is_served}
-use Rattle.stations_server.proofs.new_is_served.Goals as goal
-
-pub returns : goal.returns
-returns g c = new_is_served

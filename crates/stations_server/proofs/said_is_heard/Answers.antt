@@ -1,5 +1,0 @@
-use Rattle.stations_server.proofs.Heard.{said_is_heard}
-use Rattle.stations_server.proofs.said_is_heard.Goals as goal
-
-pub returns : goal.returns
-returns g c = said_is_heard

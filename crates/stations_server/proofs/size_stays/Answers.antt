@@ -1,5 +1,0 @@
-use Rattle.stations_server.proofs.Waking.{size_stays}
-use Rattle.stations_server.proofs.size_stays.Goals as goal
-
-pub returns : goal.returns
-returns g c = size_stays

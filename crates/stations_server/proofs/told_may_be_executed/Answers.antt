@@ -1,5 +1,0 @@
-use Rattle.stations_server.proofs.Executing.{told_may_be_executed}
-use Rattle.stations_server.proofs.told_may_be_executed.Goals as goal
-
-pub returns : goal.returns
-returns g c = told_may_be_executed
