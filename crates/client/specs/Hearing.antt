@@ -13,7 +13,7 @@ use Rattle.npdu.specs.declared.mac.Mac.{Mac}
 use Rattle.npdu.specs.declared.mac.Station.{Station}
 use Rattle.npdu.specs.declared.mac.Target.{Target}
 use Rattle.npdu.specs.declared.mac.Way.{Way}
-use Rattle.unitdata.specs.Hearing.{Brings, BringsNothing, Content, Heard, OnlyBrings, refuses, says}
+use Rattle.unitdata.specs.Hearing.{Brings, BringsNothing, HeardContent, Heard, OnlyBrings, refuses, says}
 use Rattle.bindings.specs.Binding.{has_place, introduced, mark_refused, put_binding}
 use Rattle.client.specs.Client.{ClientState}
 use Rattle.client.specs.Saying.{told_of}
@@ -78,7 +78,8 @@ pub record Learnt {A : Type 0} (station : Station) (way : Way) (service : ℕ) (
   pub holds : Holds bindings old told new
 
 -- what it does on a message from this station
-abbrev pub Does : {A : Type 0} → ℕ → Station → Way → Content → ClientState A → ClientTold A → ClientState A → Type 0
+abbrev pub Does : {A : Type 0} → ℕ → Station → Way → HeardContent → ClientState A → ClientTold A → ClientState A →
+    Type 0
 Does now from way (says (unconfirmed service octets)) old told new = Learnt from way service octets old told new
 Does now from way (says apdu) old told new = Transacts now from apdu old told new
 Does now from way (refuses r) old told new = Holds (mark_refused r.reason r.net old.bindings) old told new
@@ -111,7 +112,7 @@ pub record Overflows (service : ℕ) (octets : List ℕ) (old : List Binding) : 
   pub full : has_place i_am.instance old ≡ false
 
 -- this message is an I-Am for whose device there is no place (16.10.3)
-abbrev pub IsTooMany : Content → List Binding → Type 0
+abbrev pub IsTooMany : HeardContent → List Binding → Type 0
 IsTooMany (says (unconfirmed service octets)) old = Overflows service octets old
 IsTooMany content old = ⊥
 

@@ -9,7 +9,7 @@ use bindings::{introduced, mark_refused, put_binding};
 use npdu::{Parcel, Rejected, Station, Way};
 use std::alloc::Allocator;
 use tags::{Fault, Items};
-use unitdata::{Content, hear};
+use unitdata::{HeardContent, hear};
 
 /// Nothing is said or told.
 fn silence<A: Allocator + Copy>(alloc: A) -> ClientTold<A>
@@ -61,8 +61,8 @@ impl<A: Allocator + Copy> Client<A> {
             return Ok(silence(self.alloc));
         };
         match heard.content {
-            Content::Apdu(apdu) => self.on_apdu(heard.station, heard.way, &apdu, now),
-            Content::Rejected(rejected) => {
+            HeardContent::Apdu(apdu) => self.on_apdu(heard.station, heard.way, &apdu, now),
+            HeardContent::Rejected(rejected) => {
                 self.refuse(rejected);
                 Ok(silence(self.alloc))
             }

@@ -7,7 +7,7 @@ use Rattle.server_tsm.specs.Server.{ServerTsmState, committed}
 use Rattle.server_answers.specs.declared.asked.Origin.{Origin}
 use Rattle.server_answers.specs.declared.plan.ServerChange.{ServerChange}
 use Rattle.server_answers.specs.declared.plan.ServerChange.TheVariants.{Stays, Says, Gathers, GivesUp, Executes, Wakes}
-use Rattle.unitdata.specs.Hearing.{Content, refuses, says}
+use Rattle.unitdata.specs.Hearing.{HeardContent, refuses, says}
 use Rattle.device.specs.Device.{DeviceState}
 use Rattle.device.specs.Hearing.{DeviceHears, Does, Serves}
 use Rattle.device.specs.declared.device.DeviceTold.{DeviceTold}
@@ -41,7 +41,7 @@ module _ {A : Type 0} where
     mac = ap (λ (d : DeviceState A). d.mac) s.new_is;
   }
 
-  does_there : (now : ℕ) (from : Origin) (c : Content) (old : DeviceState A) (told : DeviceTold A) (new : DeviceState A) → Does now from c old told new →
+  does_there : (now : ℕ) (from : Origin) (c : HeardContent) (old : DeviceState A) (told : DeviceTold A) (new : DeviceState A) → Does now from c old told new →
       Stays_there now old new
   does_there now from (refuses rejected) old told new d = same_there now old new d.1
   does_there now from (says (application.unconfirmed service octets)) old told new d = same_there now old new d.1

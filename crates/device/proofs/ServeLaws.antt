@@ -15,7 +15,7 @@ use Rattle.device.specs.declared.device.DeviceTold.{DeviceTold}
 use Rattle.npdu.specs.declared.mac.Mac.{Mac}
 use Rattle.npdu.specs.declared.mac.Target.{Target}
 use Rattle.npdu.specs.declared.rejected.Rejected.{Rejected}
-use Rattle.unitdata.specs.Hearing.{Brings, Content, Heard, OnlyBrings, refuses}
+use Rattle.unitdata.specs.Hearing.{Brings, HeardContent, Heard, OnlyBrings, refuses}
 use Rattle.device.specs.Saying.{parcels_of}
 use Rattle.unitdata.proofs.HearLaws.{something}
 
@@ -45,7 +45,7 @@ ignored now from to npdu heard rejected d told brings only refused silent = inl 
   heard = heard;
   brings = brings;
   only = only;
-  does = subst (λ (c : Content). Does now (origin_of heard) c d told d) (sym refused) (silent, refl);
+  does = subst (λ (c : HeardContent). Does now (origin_of heard) c d told d) (sym refused) (silent, refl);
 })
 
 pub ruleset heard_rules = (something)

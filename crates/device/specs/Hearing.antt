@@ -10,7 +10,7 @@ use Rattle.server_tsm.specs.Steps.{IsStep}
 use Rattle.server_answers.specs.declared.asked.Origin.{Origin}
 use Rattle.server_answers.specs.declared.plan.ServerTold.{ServerTold}
 use Rattle.unitdata.specs.Asking.{AsksOther, AsksWho}
-use Rattle.unitdata.specs.Hearing.{Brings, BringsNothing, Content, Heard, OnlyBrings, refuses, says}
+use Rattle.unitdata.specs.Hearing.{Brings, BringsNothing, HeardContent, Heard, OnlyBrings, refuses, says}
 use Rattle.device.specs.Device.{DeviceState, i_am_of}
 use Rattle.device.specs.Saying.{i_am_parcel, told_of}
 use Rattle.device.specs.declared.device.DeviceTold.{DeviceTold}
@@ -46,7 +46,7 @@ pub record Serves {A : Type 0} (now : ℕ) (from : Origin) (plain : PlainApdu) (
   pub new_is : new ≡ record old { server = left }
 
 -- what it does on a message from there; that a router refused one is nothing to it
-abbrev pub Does : {A : Type 0} → ℕ → Origin → Content → DeviceState A → DeviceTold A → DeviceState A → Type 0
+abbrev pub Does : {A : Type 0} → ℕ → Origin → HeardContent → DeviceState A → DeviceTold A → DeviceState A → Type 0
 Does now from (says (unconfirmed service octets)) old told new = AnswersWho now old service octets told × (new ≡ old)
 Does now from (says apdu) old told new = Serves now from apdu old told new
 Does now from (refuses rejected) old told new = (told ≡ silence) × (new ≡ old)

@@ -11,7 +11,7 @@ use npdu::Parcel;
 use server_tsm::Origin;
 use std::alloc::Allocator;
 use tags::{Fault, Items};
-use unitdata::{Content, Heard, asks_who, hear};
+use unitdata::{Heard, HeardContent, asks_who, hear};
 
 /// Nothing is said, and nothing executed.
 fn silence<A: Allocator + Copy>(alloc: A) -> DeviceTold<A>
@@ -61,8 +61,8 @@ impl<A: Allocator + Copy> Device<A> {
         };
         let origin = origin_of(&heard);
         match heard.content {
-            Content::Apdu(apdu) => self.on_apdu(&origin, &apdu, now),
-            Content::Rejected(_) => Ok(silence(self.alloc)),
+            HeardContent::Apdu(apdu) => self.on_apdu(&origin, &apdu, now),
+            HeardContent::Rejected(_) => Ok(silence(self.alloc)),
         }
     }
 

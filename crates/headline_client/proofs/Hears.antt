@@ -27,7 +27,7 @@ use Rattle.npdu.specs.declared.mac.Station.{Station}
 use Rattle.npdu.specs.declared.mac.Target.{Target}
 use Rattle.npdu.specs.declared.mac.Way.{Way}
 use Rattle.headline_bacnet.specs.Bodies.{Says, led_to}
-use Rattle.unitdata.specs.Hearing.{Content, refuses, says}
+use Rattle.unitdata.specs.Hearing.{HeardContent, refuses, says}
 use Rattle.headline_client.specs.Kept.{Leads}
 use Rattle.headline_bacnet.specs.Network.{BringsWhatWasSaid, WasSaid}
 use Rattle.headline_client.specs.Laws.{ActsHonestly, IsClient}
@@ -132,7 +132,7 @@ module _ {A : Type 0} (own : Station → MaxApdu) (s : ObjectSite A) (w : Object
       does.learns
 
   -- what it does on a message
-  does : (from : Station) (way : Way) (content : Content) (told : ClientTold A) (next : ClientState A) → led_to c.net way ≡ from →
+  does : (from : Station) (way : Way) (content : HeardContent) (told : ClientTold A) (next : ClientState A) → led_to c.net way ≡ from →
       ((a : PlainApdu) → content ≡ says a → WasSaid (own (station_of c)) w.book (station_of c) from a) →
       (d : Does w.book.moment from way content c told next) →
       ActsHonestly own s w c (said_on w.book.moment from way content c told next d) told.said told.outcomes next

@@ -10,11 +10,11 @@ use Rattle.npdu.specs.declared.mac.Mac.{Mac}
 use Rattle.npdu.specs.declared.mac.Station.{Station}
 use Rattle.npdu.specs.declared.mac.Target.{Target}
 use Rattle.npdu.specs.declared.mac.Way.{Way}
-use Rattle.unitdata.specs.Hearing.{Content, refuses, says}
+use Rattle.unitdata.specs.Hearing.{HeardContent, refuses, says}
 
 -- what a client says of a message: nothing of an unconfirmed request, or where a router refused one; else what its
 -- client of transactions says (5.4.4, 6.4.4, 16.10.3)
-abbrev pub said_on : {A : Type 0} (now : ℕ) (from : Station) (way : Way) (content : Content) (c : ClientState A)
+abbrev pub said_on : {A : Type 0} (now : ℕ) (from : Station) (way : Way) (content : HeardContent) (c : ClientState A)
     (told : ClientTold A) (next : ClientState A) → Does now from way content c told next → List (ClientSaid A)
 said_on now from way (says (unconfirmed service octets)) c told next does = []
 said_on now from way (says (confirmed segment accepted max_segments max_apdu invoke service octets)) c told next does =

@@ -24,7 +24,7 @@ use Rattle.headline_server.specs.Safe.{safe_device}
 use Rattle.server_tsm.specs.Server.{ServerTsmState}
 use Rattle.server_tsm.specs.Waking.{woken}
 use Rattle.server_answers.specs.declared.plan.ServerTold.{ServerTold}
-use Rattle.unitdata.specs.Hearing.{Brings, Content, Heard, destination_if, refuses, way_to}
+use Rattle.unitdata.specs.Hearing.{Brings, HeardContent, Heard, destination_if, refuses, way_to}
 use Rattle.unitdata.specs.Hearing as content
 
 module _ {A : Type 0} (s : Site Station (PlainTable A)) (w : ObjectCore A) (device : DeviceState A) (v : IsDevice s w device) where
@@ -92,7 +92,7 @@ module _ {A : Type 0} (s : Site Station (PlainTable A)) (w : ObjectCore A) (devi
   said_done h (reject_pdu invoke reason) told left way said does = serve_done h (reject_pdu invoke reason) told left way said does
   said_done h (abort_pdu server invoke reason) told left way said does = serve_done h (abort_pdu server invoke reason) told left way said does
 
-  content_done : (h : Heard) (told : DeviceTold A) (left : DeviceState A) (c : Content) →
+  content_done : (h : Heard) (told : DeviceTold A) (left : DeviceState A) (c : HeardContent) →
       ((a : PlainApdu) → c ≡ content.says a → WasSaid device.server.max_apdu w.book (station_of device) h.station a) → led_to device.net h.way ≡ h.station →
       (does : Does w.book.moment (origin_of h) c device told left) → IsDone s w device (deed_on w.book.moment (origin_of h) c device told left does) told left
   content_done h told left (content.says a) said way does = said_done h a told left way (said a refl) does

@@ -46,7 +46,7 @@ use Rattle.server_answers.specs.Said.{said_octets, said_way}
 use Rattle.server_tsm.specs.Server.{ServerTsmState}
 use Rattle.server_answers.specs.declared.plan.ServerTold.{ServerTold}
 use Rattle.server_answers.specs.declared.said.ServerSaid.{ServerSaid}
-use Rattle.unitdata.specs.Hearing.{Brings, Content, Heard, SpellsContent, is_global, is_here, sender}
+use Rattle.unitdata.specs.Hearing.{Brings, HeardContent, Heard, SpellsContent, is_global, is_here, sender}
 use Rattle.unitdata.specs.Hearing as content
 use Rattle.unitdata.specs.Saying.{destination_to, everywhere, global_npdu, header_to, is_spelled, npdu_to}
 
@@ -176,7 +176,7 @@ module _ {A : Type 0} (w : ObjectCore A) (device : DeviceState A) where
       IsSaidIn (after_deed device (serves server_told left) w).book device.net (parcel_to w.book.moment device.mac x) mac h a
   said_by_way server_told left x mac h a None there e t reach b is =
       let brought = local_brought device.net device.mac (One (said_way x).to) h (expects_reply x) (said_octets x) b in
-      let spelled = subst (λ (c : Content). SpellsContent None (said_octets x) c) is brought.contents in
+      let spelled = subst (λ (c : HeardContent). SpellsContent None (said_octets x) c) is brought.contents in
       record {
         message = message_of (station_of device) w.book.moment x;
         there = has_back _ (map (message_of (station_of device) w.book.moment) server_told.said)
@@ -217,7 +217,7 @@ module _ {A : Type 0} (w : ObjectCore A) (device : DeviceState A) where
   announced_said p mac h a numbers same b is =
       let i = i_am_of device in
       let brought = i_am_brought i All h (subst (λ (z : Parcel A). Brings device.net z.from z.to z.npdu h) (sym same) b) in
-      let spelled = subst (λ (c : Content). SpellsContent None (writing.canonical (unconfirmed (service_number kind.IAm) (i_am_octets i))) c) is
+      let spelled = subst (λ (c : HeardContent). SpellsContent None (writing.canonical (unconfirmed (service_number kind.IAm) (i_am_octets i))) c) is
       brought.contents in
       subst (λ (z : Parcel A). IsSaidIn (after_deed device announces w).book device.net z mac h a) same
       (record {

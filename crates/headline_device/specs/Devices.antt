@@ -23,7 +23,7 @@ use Rattle.server_tsm.specs.Steps.{told_of_plan}
 use Rattle.server_tsm.specs.Waking.{woken}
 use Rattle.server_answers.specs.declared.asked.Origin.{Origin}
 use Rattle.server_answers.specs.declared.plan.ServerTold.{ServerTold}
-use Rattle.unitdata.specs.Hearing.{Content, refuses, says}
+use Rattle.unitdata.specs.Hearing.{HeardContent, refuses, says}
 
 -- the station that a device is (6.1)
 abbrev pub station_of : {A : Type 0} → DeviceState A → Station
@@ -74,7 +74,8 @@ deed_on_asking now device service octets told (inl asks) = announces
 deed_on_asking now device service octets told (inr other) = idles
 
 -- what it does on a message: on an APDU that is no unconfirmed request, a step of its server
-abbrev pub deed_on : {A : Type 0} (now : ℕ) (from : Origin) (c : Content) (device : DeviceState A) (told : DeviceTold A)
+abbrev pub deed_on : {A : Type 0} (now : ℕ) (from : Origin) (c : HeardContent)
+    (device : DeviceState A) (told : DeviceTold A)
     (left : DeviceState A) → Does now from c device told left → Deed A
 deed_on now from (says (unconfirmed service octets)) device told left does =
     deed_on_asking now device service octets told does.0

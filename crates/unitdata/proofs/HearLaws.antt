@@ -10,7 +10,8 @@ use Rattle.npdu.specs.declared.mac.Way.{Way}
 use Rattle.npdu.specs.declared.message.Message.{Message}
 use Rattle.npdu.specs.declared.message.Message.TheVariants.{WhoIsRouterToNetwork, IAmRouterToNetwork, RejectMessageToNetwork, Other, Proprietary}
 use Rattle.npdu.specs.declared.rejected.Rejected.{Rejected}
-use Rattle.unitdata.specs.Hearing.{Content, says, refuses, Heard, Brings, OnlyBrings, BringsNothing, BringsSomething, OnlyContent, NoContent, SpellsContent}
+use Rattle.unitdata.specs.Hearing.{HeardContent, says, refuses, Heard, Brings, OnlyBrings, BringsNothing, BringsSomething, OnlyContent, NoContent}
+use Rattle.unitdata.specs.Hearing.{SpellsContent}
 use Rattle.unitdata.specs.Hearing.{is_here, sender, way_to}
 use Rattle.unitdata.specs.Hearing.{is_alone}
 
@@ -26,28 +27,28 @@ false_true e = cc
 pub only_apdu : (octets : List ℕ) (a : PlainApdu) → OnlyApdu octets a → OnlyContent None octets (says a)
 only_apdu octets a one = record { only = λ x s. is_it x s }
   where
-    is_it : (x : Content) → SpellsContent None octets x → says a ≡ x
+    is_it : (x : HeardContent) → SpellsContent None octets x → says a ≡ x
     is_it (says b) s = ap says (one.only b s)
     is_it (refuses r) s = absurd s
 
 pub no_apdu : (octets : List ℕ) → NoApdu octets → NoContent None octets
 no_apdu octets lacks = record { none = λ x s. is_none x s }
   where
-    is_none : (x : Content) → SpellsContent None octets x → ⊥
+    is_none : (x : HeardContent) → SpellsContent None octets x → ⊥
     is_none (says b) s = lacks.none b s
     is_none (refuses r) s = s
 
 pub only_refusal : (octets : List ℕ) (r : Rejected) → OnlyRejected octets r → OnlyContent (Some RejectMessageToNetwork) octets (refuses r)
 only_refusal octets r one = record { only = λ x s. is_it x s }
   where
-    is_it : (x : Content) → SpellsContent (Some RejectMessageToNetwork) octets x → refuses r ≡ x
+    is_it : (x : HeardContent) → SpellsContent (Some RejectMessageToNetwork) octets x → refuses r ≡ x
     is_it (refuses q) s = ap refuses (one.only q s)
     is_it (says b) s = absurd s
 
 pub no_refusal : (octets : List ℕ) → NoRejected octets → NoContent (Some RejectMessageToNetwork) octets
 no_refusal octets lacks = record { none = λ x s. is_none x s }
   where
-    is_none : (x : Content) → SpellsContent (Some RejectMessageToNetwork) octets x → ⊥
+    is_none : (x : HeardContent) → SpellsContent (Some RejectMessageToNetwork) octets x → ⊥
     is_none (refuses r) s = lacks.none r s
     is_none (says b) s = s
 
@@ -65,7 +66,7 @@ same_heard x y station way alone content =
     ap (λ (s : Station). record { station = s; way = x.way; alone = x.alone; content = x.content }) station
     ∙ ap (λ (w : Way). record { station = y.station; way = w; alone = x.alone; content = x.content }) way
     ∙ ap (λ (b : Bool). record { station = y.station; way = y.way; alone = b; content = x.content }) alone
-    ∙ ap (λ (c : Content). record { station = y.station; way = y.way; alone = y.alone; content = c }) content
+    ∙ ap (λ (c : HeardContent). record { station = y.station; way = y.way; alone = y.alone; content = c }) content
 
 module _ (net : ℕ) (from : Mac) (to : Target) (npdu : List ℕ) (h : Header) (one : OnlyHeader npdu h) where
   same_header : (y : Heard) (b : Brings net from to npdu y) → h ≡ b.header

@@ -53,30 +53,30 @@ way_to net from s =
     record { to = from; destination = destination_if (same_station s (record { net = net; mac = from })) s }
 
 -- an APDU, or that a message was not passed on
-pub data Content : Type 0 where
-  says : PlainApdu → Content
-  refuses : Rejected → Content
+pub data HeardContent : Type 0 where
+  says : PlainApdu → HeardContent
+  refuses : Rejected → HeardContent
 
 -- what stands behind a header says this: an APDU, or the contents of a Reject-Message-To-Network (6.2.4, 6.4.4, 20.1)
-abbrev pub SpellsContent : Option Message → List ℕ → Content → Type 0
+abbrev pub SpellsContent : Option Message → List ℕ → HeardContent → Type 0
 SpellsContent None octets (says apdu) = application.Spells octets apdu
 SpellsContent (Some RejectMessageToNetwork) octets (refuses rejected) = SpellsRejected octets rejected
 SpellsContent message octets content = ⊥
 
 -- what stands behind a header says this and nothing else
-pub record OnlyContent (message : Option Message) (octets : List ℕ) (content : Content) : Type 0 where
-  pub only : (x : Content) → SpellsContent message octets x → content ≡ x
+pub record OnlyContent (message : Option Message) (octets : List ℕ) (content : HeardContent) : Type 0 where
+  pub only : (x : HeardContent) → SpellsContent message octets x → content ≡ x
 
 -- what stands behind a header says nothing that a station's application hears
 pub record NoContent (message : Option Message) (octets : List ℕ) : Type 0 where
-  pub none : (x : Content) → SpellsContent message octets x → ⊥
+  pub none : (x : HeardContent) → SpellsContent message octets x → ⊥
 
 -- who says a thing, how an answer goes there, and whether it came to this station alone
 pub record Heard : Type 0 where
   pub station : Station
   pub way : Way
   pub alone : Bool
-  pub content : Content
+  pub content : HeardContent
 
 -- an NPDU that was sent from an address to a target brings this to a station of that network
 pub record Brings (net : ℕ) (from : Mac) (to : Target) (npdu : List ℕ) (h : Heard) : Type 0 where

@@ -12,7 +12,7 @@ use npdu::{Destination, Dnet, Mac, Message, Source, Station, Target, View, Way};
 
 /// What a station's application hears of a message.
 #[derive(Clone, Copy, Debug, PartialEq, Eq)]
-pub enum Content<'a> {
+pub enum HeardContent<'a> {
     /// An APDU (20.1).
     Apdu(Apdu<'a>),
     /// That a router didn't pass a message on (6.4.4).
@@ -29,7 +29,7 @@ pub struct Heard<'a> {
     /// Whether it came to this station alone, and not by a broadcast.
     pub alone: bool,
     /// What it says.
-    pub content: Content<'a>,
+    pub content: HeardContent<'a>,
 }
 
 /// What an NPDU brings to a station of the network `net`, where it was sent there from the address `from` to the
@@ -110,7 +110,7 @@ fn way_to(net: u16, from: Mac, station: Station) -> Way
 
 /// What stands behind a header.
 #[tactic(auto, using(crate::proofs::HearLaws::content_rules))]
-fn behind(message: Option<Message>, octets: &[u8]) -> Option<Content<'_>>
+fn behind(message: Option<Message>, octets: &[u8]) -> Option<HeardContent<'_>>
     ensures says { IfSome result (λ content. SpellsContent message octets.now (content_of content)) }
     ensures only { IfSome result (λ content. OnlyContent message octets.now (content_of content)) }
     ensures named { IfSome result IsNamed }
@@ -118,12 +118,12 @@ fn behind(message: Option<Message>, octets: &[u8]) -> Option<Content<'_>>
 {
     match message {
         None => match Apdu::read(octets) {
-            Ok(apdu) => Some(Content::Apdu(apdu)),
+            Ok(apdu) => Some(HeardContent::Apdu(apdu)),
             Err(_) => None,
         },
         Some(Message::RejectMessageToNetwork) => {
             let rejected = npdu::Rejected::read(octets)?;
-            Some(Content::Rejected(rejected))
+            Some(HeardContent::Rejected(rejected))
         }
         Some(_) => None,
     }

@@ -20,5 +20,5 @@ mod hearing;
 mod saying;
 
 pub use asking::asks_who;
-pub use hearing::{Content, Heard, hear};
+pub use hearing::{Heard, HeardContent, hear};
 pub use saying::{begin, begin_global, expects_reply, is_spelled};
