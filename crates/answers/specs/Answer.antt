@@ -7,6 +7,8 @@ use Rattle.apdu.specs.declared.service_error.ObjectPropertyReference.{ObjectProp
 use Rattle.apdu.specs.declared.service_error.ServiceError.{ServiceError}
 use Rattle.answers.specs.declared.answer.Answer.{Answer}
 use Rattle.answers.specs.declared.answer.Answer.TheVariants as answer
+use Rattle.answers.specs.declared.answer.ReplyPdu.{ReplyPdu}
+use Rattle.answers.specs.declared.answer.ReplyPdu.TheVariants as pdu
 
 -- the write that failed (15.10.1.3)
 abbrev pub failed_at : ObjectId → ℕ → Option ℕ → Option ObjectPropertyReference
@@ -18,6 +20,15 @@ SpellsFailure e (Error class code) = (e.class ≡ class) × (e.code ≡ code) ×
 SpellsFailure e (ErrorAt class code object property index) = (e.class ≡ class) × (e.code ≡ code) ×
     (e.first_failed ≡ failed_at object property index)
 SpellsFailure e reply = ⊥
+
+-- the PDU in which a reply goes: a SimpleACK for what was written, a ComplexACK for what was read, an Error for what was
+-- not done (20.1.4, 20.1.5, 20.1.7)
+abbrev pub GoesInPdu : {A : Type 0} → Reply A → ReplyPdu → Type 0
+GoesInPdu Done pdu.SimpleAck = Unit {0}
+GoesInPdu (Values values) pdu.ComplexAck = Unit {0}
+GoesInPdu (Many results) pdu.ComplexAck = Unit {0}
+GoesInPdu reply (pdu.Error e) = SpellsFailure e reply
+GoesInPdu reply pdu = ⊥
 
 -- the answer in which a reply goes: its service data in a ComplexACK where it has some (20.1.4, 20.1.5, 20.1.7)
 abbrev pub GoesIn : {A : Type 0} → Reply A → List ℕ → Answer → Type 0

@@ -1,7 +1,7 @@
 //! In which PDU a reply goes (15.5, 15.7, 15.9, 15.10, 20.1.4, 20.1.5 and 20.1.7).
 
 ghost use Rattle.std.specs.Prelude.{◌≡◌, ◌↔◌, IsTrue};
-ghost use Rattle.answers.specs.Answer.{GoesIn};
+ghost use Rattle.answers.specs.Answer.{GoesIn, GoesInPdu};
 
 use apdu::{ObjectPropertyReference, ServiceError};
 use primitives::Reply;
@@ -18,15 +18,26 @@ pub enum Answer<'a> {
     Error(ServiceError),
 }
 
-/// The answer in which a reply goes, with its service data where it has some: a SimpleACK where all
-/// was written, a ComplexACK for what was read, an Error where the request was not done (20.1).
-pub fn answer_of<'a, A: Allocator>(reply: &Reply<A>, body: &'a [u8]) -> Answer<'a>
-    ensures { GoesIn reply.now body.entry.now result }
+/// A PDU in which a reply goes, without its service data.
+#[derive(Clone, Copy, Debug, PartialEq, Eq)]
+pub enum ReplyPdu {
+    /// A SimpleACK (20.1.4).
+    SimpleAck,
+    /// A ComplexACK (20.1.5).
+    ComplexAck,
+    /// An Error with these contents (20.1.7).
+    Error(ServiceError),
+}
+
+/// In which PDU a reply goes: a SimpleACK where all was written, a ComplexACK for what was read, an Error where the
+/// request was not done (20.1).
+pub fn pdu_of<A: Allocator>(reply: &Reply<A>) -> ReplyPdu
+    ensures { GoesInPdu reply.now result }
 {
     match reply {
-        Reply::Done => Answer::Simple,
-        Reply::Values(_) | Reply::Many(_) => Answer::Complex(body),
-        Reply::Error(class, code) => Answer::Error(ServiceError {
+        Reply::Done => ReplyPdu::SimpleAck,
+        Reply::Values(_) | Reply::Many(_) => ReplyPdu::ComplexAck,
+        Reply::Error(class, code) => ReplyPdu::Error(ServiceError {
             class: *class,
             code: *code,
             first_failed: None,
@@ -37,7 +48,7 @@ pub fn answer_of<'a, A: Allocator>(reply: &Reply<A>, body: &'a [u8]) -> Answer<'
             object,
             property,
             index,
-        } => Answer::Error(ServiceError {
+        } => ReplyPdu::Error(ServiceError {
             class: *class,
             code: *code,
             first_failed: Some(ObjectPropertyReference {
@@ -46,6 +57,17 @@ pub fn answer_of<'a, A: Allocator>(reply: &Reply<A>, body: &'a [u8]) -> Answer<'
                 index: *index,
             }),
         }),
+    }
+}
+
+/// The answer in which a reply goes, with its service data where it has some (20.1).
+pub fn answer_of<'a, A: Allocator>(reply: &Reply<A>, body: &'a [u8]) -> Answer<'a>
+    ensures { GoesIn reply.now body.entry.now result }
+{
+    match pdu_of(reply) {
+        ReplyPdu::SimpleAck => Answer::Simple,
+        ReplyPdu::ComplexAck => Answer::Complex(body),
+        ReplyPdu::Error(error) => Answer::Error(error),
     }
 }
 

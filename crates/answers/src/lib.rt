@@ -16,7 +16,7 @@ mod answers;
 mod executor;
 mod stop;
 
-pub use answer::{Answer, answer_of, is_about};
+pub use answer::{Answer, ReplyPdu, answer_of, is_about, pdu_of};
 pub use answers::is_answer_to;
 pub use executor::{Executor, ObjectExecutor};
 pub use stop::{Stop, reject_reason};

@@ -57,6 +57,17 @@ type_of (error_pdu invoke service class code first_failed) = kind.Error
 type_of (reject_pdu invoke reason) = kind.Reject
 type_of (abort_pdu server invoke reason) = kind.Abort
 
+-- its invoke ID, where it has one (20.1.2.6)
+abbrev pub invoke_id_of : PlainApdu → Option ℕ
+invoke_id_of (confirmed segment accepted max_segments max_apdu invoke service octets) = Some invoke
+invoke_id_of (unconfirmed service octets) = None
+invoke_id_of (simple_ack invoke service) = Some invoke
+invoke_id_of (complex_ack segment invoke service octets) = Some invoke
+invoke_id_of (segment_ack negative server invoke sequence window) = Some invoke
+invoke_id_of (error_pdu invoke service class code first_failed) = Some invoke
+invoke_id_of (reject_pdu invoke reason) = Some invoke
+invoke_id_of (abort_pdu server invoke reason) = Some invoke
+
 -- SEG is bit 3 of the first octet, and MOR, which says something of a segment alone, bit 2 (20.1.2.1, 20.1.2.2)
 pub record IsSegmented (first : ℕ) (segment : Option Segment) : Type 0 where
   pub is : (first / 8 % 2 == 1) ≡ is_some segment

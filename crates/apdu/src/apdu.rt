@@ -85,7 +85,7 @@ pub enum Apdu<'a> {
 
 impl Apdu<'_> {
     ghost use Rattle.std.specs.Prelude.{◌≡◌};
-    ghost use Rattle.apdu.specs.Apdu.{apdu_of, type_of};
+    ghost use Rattle.apdu.specs.Apdu.{apdu_of, invoke_id_of, type_of};
 
     /// The type of the APDU.
     pub fn pdu_type(&self) -> PduType
@@ -100,6 +100,22 @@ impl Apdu<'_> {
             Apdu::Error { .. } => PduType::Error,
             Apdu::Reject { .. } => PduType::Reject,
             Apdu::Abort { .. } => PduType::Abort,
+        }
+    }
+
+    /// Its invoke ID: all but an Unconfirmed-Request have one (20.1.2.6).
+    pub fn invoke_id(&self) -> Option<u8>
+        ensures { result ≡ invoke_id_of (apdu_of self.now) }
+    {
+        match self {
+            Apdu::UnconfirmedRequest { .. } => None,
+            Apdu::ConfirmedRequest { invoke_id, .. }
+            | Apdu::SimpleAck { invoke_id, .. }
+            | Apdu::ComplexAck { invoke_id, .. }
+            | Apdu::SegmentAck { invoke_id, .. }
+            | Apdu::Error { invoke_id, .. }
+            | Apdu::Reject { invoke_id, .. }
+            | Apdu::Abort { invoke_id, .. } => Some(*invoke_id),
         }
     }
 }
@@ -323,7 +339,12 @@ impl Apdu<'_> {
         match self {
             Apdu::ConfirmedRequest { max_apdu, .. } => u8::from(*max_apdu) < 16,
             Apdu::Error { service, error, .. } => error.is_sound(*service),
-            _ => true,
+            Apdu::UnconfirmedRequest { .. }
+            | Apdu::SimpleAck { .. }
+            | Apdu::ComplexAck { .. }
+            | Apdu::SegmentAck { .. }
+            | Apdu::Reject { .. }
+            | Apdu::Abort { .. } => true,
         }
     }
 

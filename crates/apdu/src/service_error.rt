@@ -78,7 +78,23 @@ impl ServiceError {
         }
     }
 
-    /// Appends the shortest contents of an Error (20.1.7).
+    /// Appends the shortest contents of an Error (20.1.7), for an object that has a spelling.
+    ///
+    /// # Errors
+    /// `Memory` alone. The buffer is then as it was.
+    pub fn write<B: Allocator>(&self, out: &mut Vec<u8, B>) -> Result<(), Fault>
+        requires { CanBeNamed self.now.first_failed }
+        ensures written { OnOk result (out.new.items ≡ out.old.items ++ error_octets (class_number self.now.class)
+            (code_number self.now.code) self.now.first_failed) }
+        ensures memory { IfErr result (λ e. e ≡ Fault.Memory) }
+        ensures unchanged { OnErr result (out.new.items ≡ out.old.items) }
+    {
+        let start = out.len();
+        let put = self.put(out);
+        all_or_none(put, start, out)
+    }
+
+    /// Appends the shortest contents of an Error.
     pub(crate) fn put<B: Allocator>(&self, out: &mut Vec<u8, B>) -> Result<(), Fault>
         requires { CanBeNamed self.now.first_failed }
         ensures put { OnOk result (out.new.items ≡ out.old.items ++ error_octets (class_number self.now.class)

@@ -3,7 +3,7 @@
 //! datagram is BACnet/IP to one station, and its NPDU has neither DNET nor SNET.
 #![tactic(auto)]
 
-use calls::{Answering, Reading, decode};
+use calls::{Answering, Reading, decode, gather};
 use std::alloc::Global;
 
 /// Decodes a datagram with a confirmed request `times` times, down to the request. Its invoke ID is changed.
@@ -35,4 +35,10 @@ pub extern "C" fn bench_calls_read(alloc: Global, objects: u16, times: u64) -> u
         return 0;
     };
     reading.go(times).unwrap_or(0)
+}
+
+/// A device hears the first `segments` of a request, each with these octets and more to follow: how many parcels it says.
+#[unsafe(no_mangle)]
+pub extern "C" fn bench_calls_gather(alloc: Global, octets: &[u8], segments: u8) -> u64 {
+    gather(alloc, segments, octets).unwrap_or(0)
 }

@@ -84,6 +84,13 @@ pub fn binding_of(bindings: &[Binding], instance: u32) -> Option<Binding>
     None
 }
 
+/// Whether a binding can be held for the device of this instance: there is one, or there are less than 256 (16.10.3).
+pub fn has_place(bindings: &[Binding], instance: u32) -> bool
+    ensures { result ≡ has_place instance bindings.now }
+{
+    binding_of(bindings, instance).is_some() || bindings.len() < MAX_BINDINGS
+}
+
 /// A binding takes the place of the one of its instance, or stands behind all (16.10.3).
 ///
 /// # Errors

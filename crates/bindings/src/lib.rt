@@ -19,7 +19,7 @@ mod limits;
 mod station;
 
 pub use accepts::{Accepts, accepts_of};
-pub use binding::{Binding, binding_of, introduced, mark_refused, put_binding};
+pub use binding::{Binding, binding_of, has_place, introduced, mark_refused, put_binding};
 pub use bound::Bound;
 pub use limits::{apdu_limit, begun, is_too_long};
 pub use station::is_same_station;

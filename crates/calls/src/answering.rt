@@ -11,7 +11,7 @@ use std::mem;
 use tags::{Fault, Octets};
 
 /// From where the datagram comes.
-const FROM: Mac = Mac::Six([127, 0, 0, 1, 0xBA, 0xC2]);
+pub(crate) const FROM: Mac = Mac::Six([127, 0, 0, 1, 0xBA, 0xC2]);
 
 /// A device that hears one datagram again and again, each time with another invoke ID, and so many ms later. What it
 /// hears and what it says lie each in one buffer that is kept.

@@ -4,14 +4,15 @@ use Rattle.apdu.proofs.OneName.{one_abort, one_reject}
 use Rattle.apdu.specs.declared.apdu.Apdu.TheVariants as apdu
 use Rattle.apdu.specs.declared.apdu.Segment.{Segment}
 use Rattle.apdu.specs.declared.numbers.AbortReason.{AbortReason}
-use Rattle.client_tsm.specs.Hearing.{Heard, Message, acknowledges, answer_heard, answers, closes, nothing, of_server}
+use Rattle.client_tsm.specs.Hearing.{Heard, Message, acknowledges, answer_heard, answers, closes, heard_of, nothing, of_server}
 use Rattle.client_tsm.specs.declared.plan.Outcome.TheVariants.{Aborted, Rejected}
 use Rattle.primitives.proofs.ErrorNames.{one_class, one_code}
 use Rattle.primitives.specs.declared.error.ErrorClass.{ErrorClass}
 use Rattle.primitives.specs.declared.error.ErrorCode.{ErrorCode}
 use Rattle.apdu.specs.declared.service_error.ObjectPropertyReference.{ObjectPropertyReference}
 use Rattle.services.specs.Contents.{PlainAnswer, failed, simple}
-use Rattle.client.specs.Laws.{OneHeard}
+use Rattle.apdu.specs.Apdu.{apdu_of, HasNamedNumbers}
+use Rattle.apdu.specs.declared.apdu.Apdu.{Apdu}
 
 abbrev heard : {A : Type 0} → ℕ → Message A → Heard A
 heard invoke message = record { invoke_id = invoke; message = message }
@@ -41,7 +42,7 @@ same_abort : {A : Type 0} (s t : Bool) (r u : AbortReason) → s ≡ t → r ≡
     of_server {A = A} s (closes (Aborted r)) ≡ of_server t (closes (Aborted u))
 same_abort s t r u e f = cc
 
-pub one_heard : {A : Type 0} → OneHeard A
+pub one_heard : {A : Type 0} (a b : Apdu) → HasNamedNumbers a → HasNamedNumbers b → apdu_of a ≡ apdu_of b → heard_of {A = A} a ≡ heard_of b
 one_heard (apdu.ConfirmedRequest s a m p i k x) (apdu.ConfirmedRequest t b n q j l y) na nb e =
     same_message i j nothing nothing (cc e) refl
 one_heard (apdu.UnconfirmedRequest k x) (apdu.UnconfirmedRequest l y) na nb e = refl

@@ -1,3 +1,4 @@
 mod HearLaws
 mod BindingLaws
 mod HeardLaws
+pub mod OnceLaws

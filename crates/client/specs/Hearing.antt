@@ -13,12 +13,12 @@ use Rattle.npdu.specs.declared.mac.Mac.{Mac}
 use Rattle.npdu.specs.declared.mac.Station.{Station}
 use Rattle.npdu.specs.declared.mac.Target.{Target}
 use Rattle.npdu.specs.declared.mac.Way.{Way}
-use Rattle.unitdata.specs.Hearing.{Brings, BringsNothing, HeardContent, Heard, OnlyBrings, refuses, says}
+use Rattle.unitdata.specs.Hearing.{Brings, BringsNothing, HeardContent, Heard, refuses, says}
 use Rattle.bindings.specs.Binding.{has_place, introduced, mark_refused, put_binding}
 use Rattle.client.specs.Client.{ClientState}
 use Rattle.client.specs.Saying.{told_of}
 use Rattle.bindings.specs.declared.binding.Binding.{Binding}
-use Rattle.client.specs.declared.client.ClientTold.{ClientTold}
+use Rattle.client.specs.declared.plan.ClientTold.{ClientTold}
 
 -- nothing is said or told
 abbrev pub silence : {A : Type 0} → ClientTold A
@@ -89,7 +89,6 @@ pub record Hears {A : Type 0} (now : ℕ) (from : Mac) (to : Target) (npdu : Lis
     (told : ClientTold A) (new : ClientState A) : Type 0 where
   pub heard : Heard
   pub brings : Brings old.net from to npdu heard
-  pub only : OnlyBrings old.net from to npdu heard
   pub does : Does now heard.station heard.way heard.content old told new
 
 -- an NPDU brings it nothing: nothing is said or told, and it stays as it is
@@ -120,5 +119,4 @@ IsTooMany content old = ⊥
 pub record BringsTooMany (net : ℕ) (from : Mac) (to : Target) (npdu : List ℕ) (old : List Binding) : Type 0 where
   pub heard : Heard
   pub brings : Brings net from to npdu heard
-  pub only : OnlyBrings net from to npdu heard
   pub too_many : IsTooMany heard.content old

@@ -11,7 +11,7 @@ use Rattle.bindings.specs.Binding.{binding_of}
 use Rattle.client.specs.Client.{ClientState}
 use Rattle.client.specs.Saying.{parcels_of}
 use Rattle.bindings.specs.declared.binding.Binding.{Binding}
-use Rattle.client.specs.declared.client.ClientIssued.{ClientIssued}
+use Rattle.client.specs.declared.plan.ClientIssued.{ClientIssued}
 
 -- a network that a router refused, before what the client of transactions refuses
 abbrev pub refusal_if : {A : Type 0} → (refused : Bool) → ℕ → Request A → Bound → ClientTsmState A → Option Fault

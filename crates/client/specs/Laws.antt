@@ -1,10 +1,12 @@
--- What holds of any client and its bindings, for the proofs of the layers above (6.4.4, 16.10.3, 20.1).
+-- What holds of any client and its bindings, for the proofs of the layers above (5.4.4, 6.4.4, 16.10.3).
 use Rattle.std.specs.Prelude.{◌≡◌, ◌≢◌, ℕ, List, [], ◌∷◌, map, option_map, Some, None}
-use Rattle.apdu.specs.Apdu.{apdu_of, HasNamedNumbers}
-use Rattle.apdu.specs.declared.apdu.Apdu.{Apdu}
-use Rattle.client_tsm.specs.Hearing.{heard_of}
 use Rattle.bindings.specs.Binding.{binding_of, marked, put_binding}
 use Rattle.bindings.specs.declared.binding.Binding.{Binding}
+use Rattle.client.specs.Client.{ClientState}
+use Rattle.client.specs.Hearing.{ClientHears}
+use Rattle.client.specs.declared.plan.ClientTold.{ClientTold}
+use Rattle.npdu.specs.declared.mac.Mac.{Mac}
+use Rattle.npdu.specs.declared.mac.Target.{Target}
 
 -- a binding that is put is that of its instance
 abbrev pub PutIsHeld : Type 0
@@ -33,7 +35,8 @@ PutIsOnce = (b : Binding) (bs : List Binding) → IsOnce bs → IsOnce (put_bind
 abbrev pub MarkedIsOnce : Type 0
 MarkedIsOnce = (net : ℕ) (bs : List Binding) → IsOnce bs → IsOnce (map (marked net) bs)
 
--- what an APDU says to a client of transactions doesn't hang on where its octets lie (20.1)
-abbrev pub OneHeard : Type 0 → Type 0
-OneHeard A = (a b : Apdu) → HasNamedNumbers a → HasNamedNumbers b → apdu_of a ≡ apdu_of b →
-    heard_of {A = A} a ≡ heard_of {A = A} b
+-- what comes of an NPDU is one thing: what is said and told, and what the client is then
+abbrev pub HeardOnce : Type 0 → Type 0
+HeardOnce A = (now : ℕ) (from : Mac) (to : Target) (npdu : List ℕ) (old x y : ClientState A)
+    (told other : ClientTold A) → ClientHears now from to npdu old told x → ClientHears now from to npdu old other y →
+    (told ≡ other) × (x ≡ y)

@@ -1,5 +1,6 @@
 pub mod Client
 pub mod Hearing
 pub mod Issuing
+pub mod Plan
 pub mod Laws
 pub mod Saying

@@ -1,31 +1,14 @@
-//! A client on its network, and its wake.
+//! A client on its network, its wake, and the commit of what is planned.
 
-use crate::saying::parcels_of;
-use apdu::MaxApdu;
-use bindings::{Binding, binding_of};
-use client_tsm::{ClientPlan, ClientTsm};
-use npdu::{Mac, Parcel, Station};
+use crate::plan::{ClientChange, ClientPlan, ClientTold};
+use bindings::{Binding, binding_of, mark_refused, put_binding};
+use client_tsm::{ClientTsm, ClientTsmPlan};
+use npdu::{Mac, Station};
+use profile::LinkKind;
 use std::alloc::{AllocError, Allocator};
 use std::marker::Model;
-use tags::{Fault, Items};
-
-/// What comes of an issue.
-#[derive(Drop)]
-pub struct ClientIssued<A: Allocator> {
-    /// The invoke ID that was given.
-    pub invoke_id: u8,
-    /// What is said, in order.
-    pub said: Items<Parcel<A>, A>,
-}
-
-/// What comes of any other input.
-#[derive(Drop)]
-pub struct ClientTold<A: Allocator> {
-    /// What is said, in order.
-    pub said: Items<Parcel<A>, A>,
-    /// What came of transactions, in order.
-    pub outcomes: Items<client_tsm::TransactionOutcome<A>, A>,
-}
+use tags::Fault;
+use unitdata::{longest_apdu, parcels_of};
 
 /// A client on its network.
 #[derive(Drop)]
@@ -52,25 +35,25 @@ impl<A: Allocator> Model for Client<A> {
 
 impl<A: Allocator + Copy> Client<A> {
     ghost use Rattle.std.specs.Prelude.{◌≡◌, ◌<◌, ◌≤◌, ◌^◌, IfOk, IfErr, OnOk, OnErr};
-    ghost use Rattle.apdu.specs.Sizes.{apdu_code};
     ghost use Rattle.client_tsm.specs.Client.{committed};
     ghost use Rattle.client_tsm.specs.Steps.{told_of_plan};
     ghost use Rattle.client_tsm.specs.Waking.{woken};
     ghost use Rattle.bindings.specs.Binding as spec;
     ghost use Rattle.client.specs.Client.{new_client};
+    ghost use Rattle.client.specs.Plan.{ChangesSomething, IsPlanned, IsPlannedChange, left_by, left_of, told_by};
+    ghost use Rattle.unitdata.specs.Sizes.{longest_apdu};
     ghost use Rattle.client.specs.Saying.{told_of};
     ghost use Rattle.profile.specs.Times.{MAX_MOMENT_MS};
 
-    /// A client at this address that is bound to no device and has asked nothing, whose memory will be that of
-    /// `alloc`. It takes answers in segments or not, in APDUs of at most this size, whose code has four bits
-    /// (20.1.2.5). It takes no memory.
-    pub fn new(alloc: A, address: Station, segmented: bool, max_apdu: MaxApdu) -> Self
-        requires { apdu_code max_apdu < 16 }
-        ensures { result ≡ new_client address segmented max_apdu }
+    /// A client at this address on this kind of link, that is bound to no device and has asked nothing, whose memory will
+    /// be that of `alloc`. It takes answers in segments or not, in APDUs of at most what the link carries (20.1.2.5). It
+    /// takes no memory.
+    pub fn new(alloc: A, address: Station, segmented: bool, link: LinkKind) -> Self
+        ensures { result ≡ new_client address segmented (longest_apdu link) }
     {
         Client {
             alloc,
-            machine: ClientTsm::new(alloc, segmented, max_apdu),
+            machine: ClientTsm::new(alloc, segmented, longest_apdu(link)),
             bindings: Vec::new(alloc),
             net: address.net,
             mac: address.mac,
@@ -129,28 +112,82 @@ impl<A: Allocator + Copy> Client<A> {
         ensures cause { IfErr result (λ fault. fault ≡ Fault.Memory) }
         ensures unchanged { OnErr result (self.new ≡ self.old) }
     {
-        let plan = self.machine.plan_tick(now)?;
-        self.act(plan, now)
+        let plan = self.plan_tick(now)?;
+        self.commit(plan, now)
     }
 
-    /// What was planned at the moment `now`, in milliseconds, is said, told and done. Nothing takes memory once its
-    /// client of transactions has changed.
-    pub(crate) fn act(&mut self, plan: ClientPlan<A>, now: u64) -> Result<ClientTold<A>, Fault>
+    /// What it does when it wakes at the moment `now`, in milliseconds: `commit` does it.
+    ///
+    /// # Errors
+    /// `Memory` alone.
+    pub fn plan_tick(&self, now: u64) -> Result<ClientPlan<A>, Fault>
+        ensures told { IfOk result (λ plan. told_by plan ≡
+            told_of now self.now.mac (told_of_plan (woken now self.now.machine.open_ones))) }
+        ensures left { IfOk result (λ plan. left_by now plan self.now ≡ record self.now {
+          machine = committed now (woken now self.now.machine.open_ones).change self.now.machine;
+        }) }
+        ensures planned { IfOk result (IsPlanned now self.now) }
+        ensures cause { IfErr result (λ fault. fault ≡ Fault.Memory) }
+    {
+        let plan = self.machine.plan_tick(now)?;
+        self.said_by(plan, now)
+    }
+
+    /// What its client of transactions plans at the moment `now`, in milliseconds, with what is said in parcels.
+    pub(crate) fn said_by(&self, plan: ClientTsmPlan<A>, now: u64) -> Result<ClientPlan<A>, Fault>
+        ensures told { IfOk result (λ done. told_by done ≡ told_of now self.now.mac (told_of_plan plan)) }
+        ensures change { IfOk result (λ done. done.change ≡ ClientChange.Transacts plan.change) }
+        ensures cause { IfErr result (λ fault. fault ≡ Fault.Memory) }
+    {
+        let ClientTsmPlan { said, told, change } = plan;
+        let said = parcels_of(self.alloc, self.mac, now, said.as_slice())?;
+        Ok(ClientPlan {
+            said,
+            outcomes: told,
+            change: ClientChange::Transacts(change),
+        })
+    }
+
+    /// Does what was planned at the moment `now`, in milliseconds, with no other input between, and answers what is said
+    /// and told. It takes what memory it must first, and none once anything has changed.
+    ///
+    /// # Errors
+    /// `Memory` alone, and only where something is to change. The client is then as it was.
+    pub fn commit(&mut self, plan: ClientPlan<A>, now: u64) -> Result<ClientTold<A>, Fault>
         requires greatest { now ≤ MAX_MOMENT_MS }
         requires order { self.old.machine.moment ≤ now }
-        ensures told { IfOk result (λ told. told ≡ told_of now self.old.mac (told_of_plan plan)) }
-        ensures left { OnOk result (self.new ≡ record self.old {
-          machine = committed now plan.change self.old.machine;
-        }) }
+        requires planned { IsPlanned now self.old plan }
+        ensures told { IfOk result (λ told. told ≡ told_by plan) }
+        ensures left { OnOk result (self.new ≡ left_by now plan self.old) }
+        ensures changes { OnErr result (ChangesSomething plan.change) }
         ensures cause { IfErr result (λ fault. fault ≡ Fault.Memory) }
         ensures unchanged { OnErr result (self.new ≡ self.old) }
     {
-        let ClientPlan { said, told, change } = plan;
-        let said = parcels_of(self.alloc, self.mac, now, said.as_slice())?;
-        self.machine.commit(change, now)?;
-        Ok(ClientTold {
+        let ClientPlan {
             said,
-            outcomes: told,
-        })
+            outcomes,
+            change,
+        } = plan;
+        self.change(change, now)?;
+        Ok(ClientTold { said, outcomes })
+    }
+
+    /// Makes a change.
+    fn change(&mut self, change: ClientChange<A>, now: u64) -> Result<(), Fault>
+        requires greatest { now ≤ MAX_MOMENT_MS }
+        requires order { self.old.machine.moment ≤ now }
+        requires planned { IsPlannedChange now self.old change }
+        ensures left { OnOk result (self.new ≡ left_of now change self.old) }
+        ensures changes { OnErr result (ChangesSomething change) }
+        ensures cause { IfErr result (λ fault. fault ≡ Fault.Memory) }
+        ensures unchanged { OnErr result (self.new ≡ self.old) }
+    {
+        match change {
+            ClientChange::Stays => {}
+            ClientChange::Refuses(rejected) => mark_refused(&mut self.bindings, rejected),
+            ClientChange::Binds(binding) => put_binding(&mut self.bindings, binding)?,
+            ClientChange::Transacts(change) => self.machine.commit(change, now)?,
+        }
+        Ok(())
     }
 }

@@ -1,23 +1,25 @@
 //! What a client does with a parcel that it hears.
 
-ghost use Rattle.std.specs.Prelude.{◌≡◌, IfSome, IfNone};
-ghost use Rattle.client.specs.Hearing.{IsIAm, IsNoIAm, silence};
+ghost use Rattle.std.specs.Prelude.{◌≡◌, [], IfSome, IfNone};
+ghost use Rattle.client.specs.Hearing.{IsIAm, IsNoIAm};
 
-use crate::client::{Client, ClientTold};
+use crate::client::Client;
+use crate::plan::{ClientChange, ClientPlan, ClientTold};
 use apdu::{Apdu, IAm, UnconfirmedService, i_am_from};
-use bindings::{introduced, mark_refused, put_binding};
-use npdu::{Parcel, Rejected, Station, Way};
+use bindings::{has_place, introduced};
+use npdu::{Parcel, Station, Way};
 use std::alloc::Allocator;
 use tags::{Fault, Items};
 use unitdata::{HeardContent, hear};
 
-/// Nothing is said or told.
-fn silence<A: Allocator + Copy>(alloc: A) -> ClientTold<A>
-    ensures { result ≡ silence }
+/// Nothing is said or told, and this changes.
+fn quiet<A: Allocator + Copy>(alloc: A, change: ClientChange<A>) -> ClientPlan<A>
+    ensures { result ≡ record { said = []; outcomes = []; change = change } }
 {
-    ClientTold {
+    ClientPlan {
         said: Items::new(alloc),
         outcomes: Items::new(alloc),
+        change,
     }
 }
 
@@ -34,10 +36,10 @@ fn i_am_in(service: u8, octets: &[u8]) -> Option<IAm>
 }
 
 impl<A: Allocator + Copy> Client<A> {
-    ghost use Rattle.std.specs.Prelude.{◌≡◌, ◌≤◌, ◌^◌, ◌⊎◌, true, false, IfOk, IfErr, OnOk, OnErr};
+    ghost use Rattle.std.specs.Prelude.{◌≡◌, ◌≤◌, ◌⊎◌, IfOk, IfErr, OnErr};
     ghost use Rattle.apdu.specs.Apdu.{HasNamedNumbers, apdu_of};
-    ghost use Rattle.bindings.specs.Binding.{has_place, introduced, mark_refused, put_binding};
     ghost use Rattle.client.specs.Hearing.{BringsTooMany, ClientHears, Does, IsTooMany, Learnt, Overflows, Transacts};
+    ghost use Rattle.client.specs.Plan.{ChangesSomething, IsPlanned, left_by, told_by};
     ghost use Rattle.unitdata.specs.Hearing.{BringsSomething, says};
     ghost use Rattle.profile.specs.Times.{MAX_MOMENT_MS};
 
@@ -46,7 +48,7 @@ impl<A: Allocator + Copy> Client<A> {
     ///
     /// # Errors
     /// `TableFull` for an I-Am for whose device there is no place, or `Memory`. The client is then as it was.
-    #[tactic(auto, using(crate::proofs::HearLaws::heard_rules))]
+    #[tactic(auto, using(crate::proofs::HearLaws::carry_rules))]
     pub fn on_parcel(&mut self, parcel: &Parcel<A>, now: u64) -> Result<ClientTold<A>, Fault>
         requires greatest { now ≤ MAX_MOMENT_MS }
         requires order { self.old.machine.moment ≤ now }
@@ -57,37 +59,57 @@ impl<A: Allocator + Copy> Client<A> {
         ensures heard { OnErr result (BringsSomething self.old.net parcel.now.from parcel.now.to parcel.now.npdu) }
         ensures unchanged { OnErr result (self.new ≡ self.old) }
     {
+        let plan = self.plan_parcel(parcel, now)?;
+        let told = self.commit(plan, now)?;
+        Ok(told)
+    }
+
+    /// What it does where it hears a parcel at the moment `now`, in milliseconds: `commit` does it. A parcel that brings
+    /// nothing to the client is dropped without memory.
+    ///
+    /// # Errors
+    /// `TableFull` for an I-Am for whose device there is no place, or `Memory`.
+    #[tactic(auto, using(crate::proofs::HearLaws::heard_rules))]
+    pub fn plan_parcel(&self, parcel: &Parcel<A>, now: u64) -> Result<ClientPlan<A>, Fault>
+        ensures step { IfOk result (λ plan. ClientHears now parcel.now.from parcel.now.to parcel.now.npdu self.now
+            (told_by plan) (left_by now plan self.now)) }
+        ensures planned { IfOk result (IsPlanned now self.now) }
+        ensures changes { IfOk result (λ plan. ChangesSomething plan.change →
+            BringsSomething self.now.net parcel.now.from parcel.now.to parcel.now.npdu) }
+        ensures cause { IfErr result (λ fault. (fault ≡ Fault.Memory) ⊎ ((fault ≡ Fault.TableFull) ×
+            BringsTooMany self.now.net parcel.now.from parcel.now.to parcel.now.npdu self.now.bindings)) }
+        ensures heard { OnErr result (BringsSomething self.now.net parcel.now.from parcel.now.to parcel.now.npdu) }
+    {
         let Some(heard) = hear(self.net, parcel.from, parcel.to, parcel.npdu.as_slice()) else {
-            return Ok(silence(self.alloc));
+            return Ok(quiet(self.alloc, ClientChange::Stays));
         };
         match heard.content {
-            HeardContent::Apdu(apdu) => self.on_apdu(heard.station, heard.way, &apdu, now),
+            HeardContent::Apdu(apdu) => self.plan_apdu(heard.station, heard.way, &apdu, now),
             HeardContent::Rejected(rejected) => {
-                self.refuse(rejected);
-                Ok(silence(self.alloc))
+                Ok(quiet(self.alloc, ClientChange::Refuses(rejected)))
             }
         }
     }
 
     /// What it does on an APDU from this station.
-    fn on_apdu(
-        &mut self,
+    fn plan_apdu(
+        &self,
         station: Station,
         way: Way,
         apdu: &Apdu<'_>,
         now: u64,
-    ) -> Result<ClientTold<A>, Fault>
-        requires greatest { now ≤ MAX_MOMENT_MS }
-        requires order { self.old.machine.moment ≤ now }
+    ) -> Result<ClientPlan<A>, Fault>
         requires named { HasNamedNumbers apdu.now }
-        ensures does { IfOk result (λ told.
-            Does now station way (says (apdu_of apdu.now)) self.old told self.new) }
+        ensures does { IfOk result (λ plan. Does now station way (says (apdu_of apdu.now)) self.now (told_by plan)
+            (left_by now plan self.now)) }
+        ensures planned { IfOk result (IsPlanned now self.now) }
         ensures cause { IfErr result (λ fault. (fault ≡ Fault.Memory) ⊎ ((fault ≡ Fault.TableFull) ×
-            IsTooMany (says (apdu_of apdu.now)) self.old.bindings)) }
-        ensures unchanged { OnErr result (self.new ≡ self.old) }
+            IsTooMany (says (apdu_of apdu.now)) self.now.bindings)) }
     {
         match apdu {
-            Apdu::UnconfirmedRequest { service, data } => self.learn(station, way, *service, data),
+            Apdu::UnconfirmedRequest { service, data } => {
+                self.learn(station, way, *service, data, now)
+            }
             Apdu::ConfirmedRequest { .. }
             | Apdu::SimpleAck { .. }
             | Apdu::ComplexAck { .. }
@@ -98,67 +120,42 @@ impl<A: Allocator + Copy> Client<A> {
         }
     }
 
-    /// A router refused a message.
-    fn refuse(&mut self, rejected: Rejected)
-        ensures { self.new ≡ record self.old {
-          bindings = mark_refused rejected.reason rejected.net self.old.bindings;
-        } }
-    {
-        mark_refused(&mut self.bindings, rejected);
-    }
-
-    /// A device is bound by its I-Am from this station.
-    fn bind(&mut self, station: Station, way: Way, i_am: &IAm) -> Result<(), Fault>
-        ensures bound { OnOk result (self.new ≡ record self.old {
-          bindings = put_binding (introduced station way i_am.now) self.old.bindings;
-        }) }
-        ensures place { OnOk result (has_place i_am.now.instance self.old.bindings ≡ true) }
-        ensures refused { IfErr result (λ fault. (fault ≡ Fault.Memory) ⊎
-            ((fault ≡ Fault.TableFull) × (has_place i_am.now.instance self.old.bindings ≡ false))) }
-        ensures unchanged { OnErr result (self.new ≡ self.old) }
-    {
-        put_binding(&mut self.bindings, introduced(station, way, i_am))?;
-        Ok(())
-    }
-
     /// What it does on an unconfirmed request.
     #[tactic(auto, using(crate::proofs::HearLaws::learn_rules))]
     fn learn(
-        &mut self,
+        &self,
         station: Station,
         way: Way,
         service: u8,
         octets: &[u8],
-    ) -> Result<ClientTold<A>, Fault>
-        ensures learnt { IfOk result (λ told. Learnt station way service octets.now self.old told self.new) }
-        ensures cause { IfErr result (λ fault. (fault ≡ Fault.Memory) ⊎ ((fault ≡ Fault.TableFull) ×
-            Overflows service octets.now self.old.bindings)) }
-        ensures unchanged { OnErr result (self.new ≡ self.old) }
+        now: u64,
+    ) -> Result<ClientPlan<A>, Fault>
+        ensures learnt { IfOk result (λ plan. Learnt station way service octets.now self.now (told_by plan)
+            (left_by now plan self.now)) }
+        ensures planned { IfOk result (IsPlanned now self.now) }
+        ensures cause { IfErr result (λ fault. (fault ≡ Fault.TableFull) × Overflows service octets.now self.now.bindings) }
     {
         let Some(i_am) = i_am_in(service, octets) else {
-            return Ok(silence(self.alloc));
+            return Ok(quiet(self.alloc, ClientChange::Stays));
         };
-        self.bind(station, way, &i_am)?;
-        Ok(silence(self.alloc))
+        if !has_place(self.bindings.as_slice(), i_am.instance) {
+            return Err(Fault::TableFull);
+        }
+        let binding = introduced(station, way, &i_am);
+        Ok(quiet(self.alloc, ClientChange::Binds(binding)))
     }
 
     /// What its client of transactions does on an APDU.
     #[tactic(auto, using(crate::proofs::HearLaws::transact_rules))]
-    fn transact(
-        &mut self,
-        station: Station,
-        apdu: &Apdu<'_>,
-        now: u64,
-    ) -> Result<ClientTold<A>, Fault>
-        requires greatest { now ≤ MAX_MOMENT_MS }
-        requires order { self.old.machine.moment ≤ now }
+    fn transact(&self, station: Station, apdu: &Apdu<'_>, now: u64) -> Result<ClientPlan<A>, Fault>
         requires named { HasNamedNumbers apdu.now }
-        ensures transacts { IfOk result (λ told. Transacts now station (apdu_of apdu.now) self.old told self.new) }
+        ensures transacts { IfOk result (λ plan. Transacts now station (apdu_of apdu.now) self.now (told_by plan)
+            (left_by now plan self.now)) }
+        ensures planned { IfOk result (IsPlanned now self.now) }
         ensures cause { IfErr result (λ fault. fault ≡ Fault.Memory) }
-        ensures unchanged { OnErr result (self.new ≡ self.old) }
     {
         let plan = self.machine.plan(station, apdu, now)?;
-        let told = self.act(plan, now)?;
-        Ok(told)
+        let plan = self.said_by(plan, now)?;
+        Ok(plan)
     }
 }

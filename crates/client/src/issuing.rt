@@ -1,9 +1,9 @@
 //! What a client asks.
 
-use crate::client::{Client, ClientIssued};
-use crate::saying::{parcels_of, who_is_parcel};
+use crate::client::Client;
+use crate::plan::{ClientIssuePlan, ClientIssued};
+use crate::saying::who_is_parcel;
 use apdu::Limits;
-use client_tsm::ClientPlan;
 use npdu::Parcel;
 use primitives::Request;
 use std::alloc::Allocator;
@@ -13,6 +13,7 @@ impl<A: Allocator + Copy> Client<A> {
     ghost use Rattle.std.specs.Prelude.{◌≡◌, ◌≤◌, ◌^◌, ◌⊎◌, Some, None, IfOk, IfErr, OnOk, OnErr};
     ghost use Rattle.primitives.specs.Sound.{IsSoundRequest};
     ghost use Rattle.client.specs.Issuing.{Issues, refusal};
+    ghost use Rattle.client.specs.Plan.{IsPlanned, issued_by, left_by};
     ghost use Rattle.client.specs.Saying as saying;
     ghost use Rattle.profile.specs.Times.{MAX_MOMENT_MS};
 
@@ -22,6 +23,8 @@ impl<A: Allocator + Copy> Client<A> {
     /// # Errors
     /// `Memory` alone.
     pub fn who_is(&self, limits: Option<Limits>, now: u64) -> Result<Parcel<A>, Fault>
+        requires greatest { now ≤ MAX_MOMENT_MS }
+        requires order { self.now.machine.moment ≤ now }
         ensures parcel { IfOk result (λ parcel. parcel ≡ saying.who_is_parcel now self.now.mac limits) }
         ensures cause { IfErr result (λ fault. fault ≡ Fault.Memory) }
     {
@@ -50,18 +53,43 @@ impl<A: Allocator + Copy> Client<A> {
             (refusal now instance request.now self.old ≡ Some fault)) }
         ensures unchanged { OnErr result (self.new ≡ self.old) }
     {
+        let ClientIssuePlan { invoke_id, plan } = self.plan_issue(instance, request, now)?;
+        let told = self.commit(plan, now)?;
+        Ok(ClientIssued {
+            invoke_id,
+            said: told.said,
+        })
+    }
+
+    /// What an issue of a request to the device of this instance comes to at the moment `now`, in milliseconds: `commit`
+    /// does it (5.4.4.1).
+    ///
+    /// # Errors
+    /// Those of `issue`.
+    pub fn plan_issue(
+        &self,
+        instance: u32,
+        request: &Request<A>,
+        now: u64,
+    ) -> Result<ClientIssuePlan<A>, Fault>
+        requires sound { IsSoundRequest request.now }
+        ensures issued { IfOk result (λ p.
+            Issues now instance request.now self.now (issued_by p) (left_by now p.plan self.now)) }
+        ensures planned { IfOk result (λ p. IsPlanned now self.now p.plan) }
+        ensures free { OnOk result (refusal now instance request.now self.now ≡ None) }
+        ensures refused { IfErr result (λ fault. (fault ≡ Fault.Memory) ⊎
+            (refusal now instance request.now self.now ≡ Some fault)) }
+    {
         let Some(binding) = self.binding(instance) else {
             return Err(Fault::Unbound);
         };
         if binding.refused {
             return Err(Fault::NoRoute);
         }
-        let ClientPlan { said, change, .. } = self
-            .machine
-            .plan_issue(request, &binding.bound, now)?;
-        let said = parcels_of(self.alloc, self.mac, now, said.as_slice())?;
-        let invoke_id = self.machine.next_invoke_id();
-        self.machine.commit(change, now)?;
-        Ok(ClientIssued { invoke_id, said })
+        let plan = self.machine.plan_issue(request, &binding.bound, now)?;
+        Ok(ClientIssuePlan {
+            invoke_id: self.machine.next_invoke_id(),
+            plan: self.said_by(plan, now)?,
+        })
     }
 }

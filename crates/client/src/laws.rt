@@ -3,6 +3,8 @@
 
 ghost use Rattle.client.specs.Laws as spec;
 
+use std::alloc::Allocator;
+
 /// An I-Am sets the binding of its instance and no other.
 pub fn put_is_held()
     ensures held { spec.PutIsHeld }
@@ -20,8 +22,7 @@ pub fn once()
     ensures marked { spec.MarkedIsOnce }
 {}
 
-/// What an APDU says to a client of transactions doesn't hang on where its octets lie: so a parcel is heard in one way.
-#[tactic(auto, using(crate::proofs::HeardLaws::one_heard))]
-pub fn one_heard<A>()
-    ensures { spec.OneHeard A }
+/// A parcel is heard in one way: what is said and told, and what the client is then, is one thing.
+pub fn heard_once<A: Allocator>()
+    ensures { spec.HeardOnce A }
 {}

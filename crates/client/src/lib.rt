@@ -4,9 +4,12 @@
 //! To the layer above it promises: each call is one step of a relation on plain data, whose witness is what the parcel
 //! brings and what the client of transactions does on it; what is refused leaves the client as it was. An I-Am binds
 //! its device and no other; a router that has no route to a network closes the bindings on it, each until a new I-Am
-//! of its device; an issue goes to where the device is bound; all else is for the client of transactions.
+//! of its device; an issue goes to where the device is bound; all else is for the client of transactions. A call is a
+//! plan, which changes nothing, and its commit: whoever has more to grow makes that between the two, and copies no
+//! client.
 //!
-//! - `client`: the client, and its wake.
+//! - `plan`: what a client would do, before anything changes.
+//! - `client`: the client, its wake, and the commit of a plan.
 //! - `issuing`, `hearing`: what it asks, and what it does on a parcel.
 //! - `saying`: what it says, in parcels.
 //! - `laws`: what holds of any client and its bindings, for the proofs of the layers above.
@@ -16,8 +19,10 @@ mod client;
 mod hearing;
 mod issuing;
 mod laws;
+mod plan;
 mod saying;
 
 pub use bindings::Binding;
-pub use client::{Client, ClientIssued, ClientTold};
-pub use laws::{marked_alone, once, one_heard, put_is_held};
+pub use client::Client;
+pub use laws::{heard_once, marked_alone, once, put_is_held};
+pub use plan::{ClientIssuePlan, ClientIssued, ClientPlan, ClientTold};

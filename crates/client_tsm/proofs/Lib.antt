@@ -4,3 +4,6 @@ mod Wakes
 pub mod Telling
 mod Ending
 mod Places
+mod Apart
+mod Committing
+mod Joining

@@ -1,15 +1,17 @@
 -- The client of transactions: what it knows, and what changes of it (5.4.1, 5.4.4).
-use Rattle.std.specs.Prelude.{ℕ, ◌+◌, ◌%◌, ◌==◌, ◌&&◌, not, option_map, Bool, List, [], ◌∷◌, ◌++◌, remove, replicate, Option, Some, None, slice_get, slice_index, slice_set}
+use Rattle.std.specs.Prelude.{◌≡◌, ℕ, ◌+◌, ◌%◌, ◌==◌, ◌&&◌, not, option_map, Bool, false, List, [], ◌∷◌, ◌++◌, remove, replicate, Option, Some, None, slice_get, slice_index, slice_set}
 use Rattle.std.specs.List.{list_any}
+use Rattle.segments.specs.Receiver.{Joined, ReceiverState, granted_window, joins, nothing_joined}
 use Rattle.segments.specs.Sender.{SenderState}
 use Rattle.profile.specs.Ages as age
 use Rattle.profile.specs.Times.{REUSE_MS}
+use Rattle.apdu.specs.declared.apdu.Segment.{Segment}
 use Rattle.bindings.specs.Accepts.{PlainAccepts}
 use Rattle.client_tsm.specs.Open.{Open}
 use Rattle.client_tsm.specs.Waking.{all_left}
 use Rattle.client_tsm.specs.declared.gathering.Gathering.{Gathering}
-use Rattle.client_tsm.specs.declared.plan.ClientChange.{ClientChange}
-use Rattle.client_tsm.specs.declared.plan.ClientChange.TheVariants.{Stays, Opens, Sends, Gathers, Renews, Ends, Wakes}
+use Rattle.client_tsm.specs.declared.plan.ClientTsmChange.{ClientTsmChange}
+use Rattle.client_tsm.specs.declared.plan.ClientTsmChange.TheVariants.{Stays, Opens, Sends, Gathers, Renews, Ends, Wakes}
 
 -- accepts: what it takes of an answer; next: the next invoke ID; free_from: for each invoke ID the moment from which it
 -- may be given again; open_ones: the transactions that have no end, in order of issue; moment: that of the last change
@@ -33,6 +35,11 @@ new_client accepts =
 abbrev pub is_open : {A : Type 0} → ℕ → List (Open A) → Bool
 is_open id os = list_any (λ o. o.invoke_id == id) os
 
+-- the invoke IDs of the transactions differ from each other (5.4.1)
+abbrev pub AreApart : {A : Type 0} → List (Open A) → Type 0
+AreApart [] = Unit {0}
+AreApart (o ∷ os) = (is_open o.invoke_id os ≡ false) × AreApart os
+
 -- the next invoke ID may be given: it was last given long enough ago, and no transaction has it (5.4.1)
 abbrev pub may_issue : {A : Type 0} → ℕ → ClientTsmState A → Bool
 may_issue now st = age.is_free (slice_index st.free_from st.next) now && not (is_open st.next st.open_ones)
@@ -51,9 +58,19 @@ opens now o st =
 abbrev pub sends_on : {A : Type 0} → ℕ → Option SenderState → Open A → Open A
 sends_on now sending o = record o { sent = now; sending = sending }
 
+-- what gathers the segments of an answer, where this window is proposed (5.4.4.3)
+abbrev pub receiver_of : {A : Type 0} → Option (Gathering A) → ℕ → ReceiverState
+receiver_of None window = nothing_joined (granted_window window)
+receiver_of (Some g) window = g.receiver
+
+-- what gathers the segments of the answer, after this one, and what it does (5.4.4.4)
+abbrev pub gathered_at : {A : Type 0} → ℕ → Open A → Segment → List ℕ → Joined
+gathered_at now o s octets = joins now s.sequence_number s.more_follows octets (receiver_of o.gathering s.window)
+
 -- a segment of the answer came: the request came whole (5.4.4.4)
-abbrev pub gathers_on : {A : Type 0} → Option (Gathering A) → Open A → Open A
-gathers_on gathering o = record o { sending = None; gathering = gathering }
+abbrev pub gathers : {A : Type 0} → ℕ → Segment → List ℕ → Open A → Open A
+gathers now s octets o =
+    record o { sending = None; gathering = Some (record { receiver = (gathered_at now o s octets).state; at = now }) }
 
 -- the same segments, one of which was heard at this moment
 abbrev pub heard_at : {A : Type 0} → ℕ → Gathering A → Gathering A
@@ -61,7 +78,7 @@ heard_at now g = record { receiver = g.receiver; at = now }
 
 -- a segment of the answer was heard and not taken
 abbrev pub renews : {A : Type 0} → ℕ → Open A → Open A
-renews now o = gathers_on (option_map (heard_at now) o.gathering) o
+renews now o = record o { sending = None; gathering = option_map (heard_at now) o.gathering }
 
 -- the same, but for the one that was found at this place
 abbrev pub changed_if : {X : Type 0} → Option X → ℕ → (X → X) → List X → List X
@@ -77,11 +94,11 @@ abbrev pub with_open : {A : Type 0} → ℕ → List (Open A) → ClientTsmState
 with_open now os st = record st { open_ones = os; moment = now }
 
 -- what a change leaves
-abbrev pub committed : {A : Type 0} → ℕ → ClientChange A → ClientTsmState A → ClientTsmState A
+abbrev pub committed : {A : Type 0} → ℕ → ClientTsmChange A → ClientTsmState A → ClientTsmState A
 committed now Stays st = with_open now st.open_ones st
 committed now (Opens o) st = opens now o st
 committed now (Sends place sending) st = with_open now (changed_at place (sends_on now sending) st.open_ones) st
-committed now (Gathers place g) st = with_open now (changed_at place (gathers_on (Some g)) st.open_ones) st
+committed now (Gathers place s octets) st = with_open now (changed_at place (gathers now s octets) st.open_ones) st
 committed now (Renews place) st = with_open now (changed_at place (renews now) st.open_ones) st
 committed now (Ends place) st = with_open now (remove st.open_ones place) st
 committed now Wakes st = with_open now (all_left now st.open_ones) st

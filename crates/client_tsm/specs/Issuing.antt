@@ -8,8 +8,8 @@ use Rattle.client_tsm.specs.Asking.{asked_by}
 use Rattle.client_tsm.specs.Client.{ClientTsmState, may_issue}
 use Rattle.bindings.specs.Limits.{apdu_limit, begun, is_too_long}
 use Rattle.client_tsm.specs.Open.{Open}
-use Rattle.client_tsm.specs.declared.plan.ClientChange.TheVariants.{Opens}
-use Rattle.client_tsm.specs.declared.plan.ClientPlan.{ClientPlan}
+use Rattle.client_tsm.specs.declared.plan.ClientTsmChange.TheVariants.{Opens}
+use Rattle.client_tsm.specs.declared.plan.ClientTsmPlan.{ClientTsmPlan}
 use Rattle.bindings.specs.declared.bound.Bound.{Bound}
 
 -- too long before no free invoke ID
@@ -42,9 +42,9 @@ opened now request to st =
     }
 
 -- it is opened, and says its request from the beginning (5.4.4.1, SendConfirmedUnsegmented, SendConfirmedSegmented)
-abbrev pub opening : {A : Type 0} → Open A → ClientPlan A
+abbrev pub opening : {A : Type 0} → Open A → ClientTsmPlan A
 opening o = record { said = asked_by o.sending o; told = []; change = Opens o }
 
 -- what is said and left at an issue
-abbrev pub issued : {A : Type 0} → ℕ → Request A → Bound → ClientTsmState A → ClientPlan A
+abbrev pub issued : {A : Type 0} → ℕ → Request A → Bound → ClientTsmState A → ClientTsmPlan A
 issued now request to st = opening (opened now request to st)

@@ -6,4 +6,5 @@ pub mod Client
 pub mod Issuing
 pub mod Hearing
 pub mod Steps
+pub mod Planned
 pub mod Laws

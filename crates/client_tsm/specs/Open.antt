@@ -1,5 +1,5 @@
 -- A transaction of a client (5.4.4).
-use Rattle.std.specs.Prelude.{ℕ, ◌==◌, ◌&&◌, not, Bool, true, Option, Some, None}
+use Rattle.std.specs.Prelude.{ℕ, ◌==◌, ◌&&◌, not, Bool, true, List, [], Option, Some, None}
 use Rattle.npdu.specs.Mac.{same_station}
 use Rattle.npdu.specs.declared.mac.Station.{Station}
 use Rattle.npdu.specs.declared.mac.Way.{Way}
@@ -25,6 +25,11 @@ pub record Open (A : Type 0) : Type 0 where
   pub repeats : ℕ
   pub sending : Option SenderState
   pub gathering : Option (Gathering A)
+
+-- the octets of the segments of an answer that came, in order
+abbrev pub got_of : {A : Type 0} → Option (Gathering A) → List ℕ
+got_of None = []
+got_of (Some g) = g.receiver.octets
 
 -- what is gathered of an answer isn't too old (5.4.4.4, Timeout)
 abbrev pub gathers_still : {A : Type 0} → ℕ → Option (Gathering A) → Bool

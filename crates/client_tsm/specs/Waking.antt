@@ -11,9 +11,9 @@ use Rattle.client_tsm.specs.Asking.{asked_by}
 use Rattle.bindings.specs.Limits.{begun}
 use Rattle.client_tsm.specs.Open.{Open, goes_on}
 use Rattle.client_tsm.specs.declared.gathering.Gathering.{Gathering}
-use Rattle.client_tsm.specs.declared.plan.ClientChange.TheVariants.{Wakes}
+use Rattle.client_tsm.specs.declared.plan.ClientTsmChange.TheVariants.{Wakes}
 use Rattle.client_tsm.specs.declared.plan.Outcome.TheVariants.{TimedOut}
-use Rattle.client_tsm.specs.declared.plan.ClientPlan.{ClientPlan}
+use Rattle.client_tsm.specs.declared.plan.ClientTsmPlan.{ClientTsmPlan}
 use Rattle.client_tsm.specs.declared.plan.TransactionOutcome.{TransactionOutcome}
 use Rattle.client_tsm.specs.declared.said.ClientSaid.{ClientSaid}
 
@@ -90,5 +90,5 @@ abbrev pub all_left : {A : Type 0} → ℕ → List (Open A) → List (Open A)
 all_left now os = flat_map (left_of now) os
 
 -- what is said, told and left of all when the client wakes, in order of issue
-abbrev pub woken : {A : Type 0} → ℕ → List (Open A) → ClientPlan A
+abbrev pub woken : {A : Type 0} → ℕ → List (Open A) → ClientTsmPlan A
 woken now os = record { said = flat_map (said_of now) os; told = flat_map (told_of now) os; change = Wakes }

@@ -1,13 +1,12 @@
 //! The client of transactions: what it knows, and what changes of it (5.4.1, 5.4.4).
 
-ghost use Rattle.std.specs.Prelude.{◌≡◌, Some, remove};
-ghost use Rattle.client_tsm.specs.Client.{changed_at, gathers_on, never_given, renews, sends_on};
+ghost use Rattle.std.specs.Prelude.{◌≡◌, OnOk, OnErr, remove};
+ghost use Rattle.client_tsm.specs.Client.{changed_at, gathers, never_given, renews, sends_on};
 
-use crate::gathering::Gathering;
-use crate::plan::ClientChange;
+use crate::plan::ClientTsmChange;
 use crate::transaction::Transaction;
 use crate::waking::wake_all;
-use apdu::MaxApdu;
+use apdu::{MaxApdu, Segment};
 use bindings::{Accepts, accepts_of};
 use profile::{REUSE_MS, is_free};
 use segments::Sender;
@@ -34,7 +33,7 @@ pub struct ClientTsm<A: Allocator> {
 }
 
 impl<A: Allocator> Model for ClientTsm<A> {
-    ghost use Rattle.client_tsm.specs.Client.{ClientTsmState};
+    ghost use Rattle.client_tsm.specs.Client.{AreApart, ClientTsmState};
 
     ghost Value = { ClientTsmState A };
 
@@ -45,6 +44,8 @@ impl<A: Allocator> Model for ClientTsm<A> {
       open_ones = c.open_ones.items;
       moment = c.moment;
     } };
+
+    ghost invariant = { λ c. AreApart c.open_ones.items };
 }
 
 /// More of the request at this place came, and this goes on sending it.
@@ -61,17 +62,26 @@ fn send_on_at<A: Allocator>(
     }
 }
 
-/// The answer to the request at this place came so far.
-fn gather_at<A: Allocator>(
+/// A segment of the answer to the request at this place came, with these octets.
+///
+/// # Errors
+/// Want of memory. The transactions are then as they were.
+fn gather_at<A: Allocator + Copy>(
     open_ones: &mut Vec<Transaction<A>, A>,
     place: usize,
-    gathering: Gathering<A>,
-)
-    ensures { open_ones.new.items ≡ changed_at place (gathers_on (Some gathering)) open_ones.old.items }
+    segment: &Segment,
+    octets: &[u8],
+    now: u64,
+) -> Result<(), AllocError>
+    ensures gathered { OnOk result (open_ones.new.items ≡
+        changed_at place (gathers now segment.now octets.now) open_ones.old.items) }
+    ensures unchanged { OnErr result (open_ones.new.items ≡ open_ones.old.items) }
 {
     if place < open_ones.len() {
-        open_ones[place].gather(gathering);
+        let alloc = *open_ones.allocator();
+        open_ones[place].gather(alloc, segment, octets, now)?;
     }
+    Ok(())
 }
 
 /// A segment of the answer to the request at this place was heard, and not taken.
@@ -93,10 +103,11 @@ fn end_at<A: Allocator>(open_ones: &mut Vec<Transaction<A>, A>, place: usize)
 }
 
 impl<A: Allocator + Copy> ClientTsm<A> {
-    ghost use Rattle.std.specs.Prelude.{◌≡◌, ◌<◌, ◌≤◌, ◌^◌, IfOk, OnOk, OnErr};
+    ghost use Rattle.std.specs.Prelude.{◌≡◌, ◌<◌, ◌≤◌, ◌^◌, false, IfOk, OnOk, OnErr};
     ghost use Rattle.apdu.specs.Sizes.{apdu_code};
     ghost use Rattle.bindings.specs.Accepts.{accepts_of};
     ghost use Rattle.client_tsm.specs.Client.{committed, is_open, may_issue, new_client, opens};
+    ghost use Rattle.client_tsm.specs.Planned.{IsPlanned};
     ghost use Rattle.profile.specs.Times.{MAX_MOMENT_MS};
 
     /// A client that has asked nothing, whose memory will be that of `alloc`. It takes answers in segments or
@@ -154,12 +165,9 @@ impl<A: Allocator + Copy> ClientTsm<A> {
     fn is_open(&self, invoke_id: u8) -> bool
         ensures { result ≡ is_open invoke_id self.now.open_ones }
     {
-        for transaction in &self.open_ones {
-            if transaction.has_id(invoke_id) {
-                return true;
-            }
-        }
-        false
+        self.open_ones
+            .iter()
+            .any(|transaction| transaction.has_id(invoke_id))
     }
 
     /// Whether the next invoke ID may be given at the moment `now`, in milliseconds.
@@ -169,41 +177,46 @@ impl<A: Allocator + Copy> ClientTsm<A> {
         is_free(self.free_from[self.next as usize], now) && !self.is_open(self.next)
     }
 
-    /// Makes a change that was planned, at the moment `now`, in milliseconds. It was planned at that moment, with
-    /// no other input between.
+    /// Makes a change that was planned at this moment `now`, in milliseconds, for the client as it is.
     ///
     /// # Errors
-    /// Want of memory, where a transaction is to be opened. The client is then as it was.
-    pub fn commit(&mut self, change: ClientChange<A>, now: u64) -> Result<(), AllocError>
+    /// Want of memory, where a transaction is to be opened or a segment joined. The client is then as it was.
+    #[tactic(auto, using(crate::proofs::Apart::apart_rules))]
+    pub fn commit(&mut self, change: ClientTsmChange<A>, now: u64) -> Result<(), AllocError>
         requires greatest { now ≤ MAX_MOMENT_MS }
         requires order { self.old.moment ≤ now }
+        requires planned { IsPlanned now self.old change }
         ensures done { OnOk result (self.new ≡ committed now change self.old) }
         ensures unchanged { OnErr result (self.new ≡ self.old) }
     {
         match change {
-            ClientChange::Stays => {}
-            ClientChange::Opens(transaction) => self.open(now, transaction)?,
-            ClientChange::Sends(place, sending) => send_on_at(
+            ClientTsmChange::Stays => {}
+            ClientTsmChange::Opens(transaction) => self.open(now, transaction)?,
+            ClientTsmChange::Sends(place, sending) => send_on_at(
                 &mut self.open_ones,
                 place,
                 now,
                 sending,
             ),
-            ClientChange::Gathers(place, gathering) => gather_at(
+            ClientTsmChange::Gathers(place, segment, octets) => gather_at(
                 &mut self.open_ones,
                 place,
-                gathering,
-            ),
-            ClientChange::Renews(place) => renew_at(&mut self.open_ones, place, now),
-            ClientChange::Ends(place) => end_at(&mut self.open_ones, place),
-            ClientChange::Wakes => wake_all(&mut self.open_ones, now),
+                &segment,
+                octets.as_slice(),
+                now,
+            )?,
+            ClientTsmChange::Renews(place) => renew_at(&mut self.open_ones, place, now),
+            ClientTsmChange::Ends(place) => end_at(&mut self.open_ones, place),
+            ClientTsmChange::Wakes => wake_all(&mut self.open_ones, now),
         }
         self.moment = now;
         Ok(())
     }
 
-    /// Opens a transaction under the next invoke ID.
+    /// Opens a transaction under the next invoke ID, which no other has.
+    #[tactic(auto, using(crate::proofs::Apart::apart_rules))]
     fn open(&mut self, now: u64, transaction: Transaction<A>) -> Result<(), AllocError>
+        requires free { is_open transaction.invoke_id self.old.open_ones ≡ false }
         requires greatest { now ≤ MAX_MOMENT_MS }
         ensures opened { OnOk result (self.new ≡ opens now transaction self.old) }
         ensures unchanged { OnErr result (self.new ≡ self.old) }

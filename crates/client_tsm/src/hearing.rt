@@ -6,55 +6,24 @@ ghost use Rattle.client_tsm.specs.Hearing as spec;
 ghost use Rattle.client_tsm.specs.Steps.{IsFinished};
 
 use crate::client::ClientTsm;
-use crate::gathering::Gathering;
-use crate::plan::{ClientChange, ClientPlan, ClientTsmTold, Outcome, TransactionOutcome};
+use crate::plan::{ClientTsmChange, ClientTsmPlan, ClientTsmTold, Outcome, TransactionOutcome};
 use crate::said::ClientSaid;
 use crate::transaction::Transaction;
 use apdu::{Apdu, Segment};
 use npdu::Station;
-use segments::{Receiver, Sender, Step, Turn, granted_window};
+use segments::{Sender, Step, Turn, granted_window};
 use services::{Answer, decode_reply};
 use std::alloc::{AllocError, Allocator};
-use tags::Items;
-
-/// The invoke ID of an APDU, 0 where it has none.
-fn invoke_id_of(apdu: &Apdu<'_>) -> u8
-    ensures { result ≡ spec.invoke_id_of apdu.now }
-{
-    match apdu {
-        Apdu::UnconfirmedRequest { .. } => 0,
-        Apdu::ConfirmedRequest { invoke_id, .. }
-        | Apdu::SimpleAck { invoke_id, .. }
-        | Apdu::ComplexAck { invoke_id, .. }
-        | Apdu::SegmentAck { invoke_id, .. }
-        | Apdu::Error { invoke_id, .. }
-        | Apdu::Reject { invoke_id, .. }
-        | Apdu::Abort { invoke_id, .. } => *invoke_id,
-    }
-}
+use tags::{Items, Octets};
 
 /// Nothing is said or told, and this changes.
-fn quiet<A: Allocator + Copy>(alloc: A, change: ClientChange<A>) -> ClientPlan<A>
+fn quiet<A: Allocator + Copy>(alloc: A, change: ClientTsmChange<A>) -> ClientTsmPlan<A>
     ensures { result ≡ spec.quiet change }
 {
-    ClientPlan {
+    ClientTsmPlan {
         said: Items::new(alloc),
         told: Items::new(alloc),
         change,
-    }
-}
-
-/// What gathers the segments of an answer, where this window is proposed.
-fn receiver_of<A: Allocator + Copy>(
-    alloc: A,
-    gathering: &Option<Gathering<A>>,
-    window: u8,
-) -> Result<Receiver<A>, AllocError>
-    ensures { IfOk result (λ receiver. receiver ≡ spec.receiver_of gathering.now window) }
-{
-    match gathering {
-        None => Ok(Receiver::new(alloc, granted_window(window))),
-        Some(gathering) => gathering.receiver.copy(),
     }
 }
 
@@ -73,9 +42,9 @@ impl<A: Allocator + Copy> Taker<'_, A> {
         &self,
         said: Items<ClientSaid<A>, A>,
         outcome: Outcome<A>,
-    ) -> Result<ClientPlan<A>, AllocError>
+    ) -> Result<ClientTsmPlan<A>, AllocError>
         ensures { IfOk result (λ plan. plan ≡
-            spec.closing said self.now.place self.now.transaction.now outcome) }
+            spec.closing said (spec.taking_of self.now) outcome) }
     {
         let transaction = self.transaction;
         let mut told = Items::new(self.alloc);
@@ -83,10 +52,10 @@ impl<A: Allocator + Copy> Taker<'_, A> {
             invoke_id: transaction.invoke_id,
             outcome,
         })?;
-        Ok(ClientPlan {
+        Ok(ClientTsmPlan {
             said,
             told,
-            change: ClientChange::Ends(self.place),
+            change: ClientTsmChange::Ends(self.place),
         })
     }
 
@@ -96,11 +65,10 @@ impl<A: Allocator + Copy> Taker<'_, A> {
         &self,
         answer: &Answer<'_>,
         said: Items<ClientSaid<A>, A>,
-        otherwise: ClientChange<A>,
-    ) -> Result<ClientPlan<A>, AllocError>
+        otherwise: ClientTsmChange<A>,
+    ) -> Result<ClientTsmPlan<A>, AllocError>
         ensures { IfOk result (IsFinished (spec.completes (record {
-          place = self.now.place;
-          transaction = self.now.transaction.now;
+          taking = spec.taking_of self.now;
           contents = answer_contents answer.now;
           says = said;
           otherwise = otherwise;
@@ -108,7 +76,7 @@ impl<A: Allocator + Copy> Taker<'_, A> {
     {
         let transaction = self.transaction;
         match decode_reply(self.alloc, &transaction.request, answer)? {
-            None => Ok(ClientPlan {
+            None => Ok(ClientTsmPlan {
                 said,
                 told: Items::new(self.alloc),
                 change: otherwise,
@@ -118,17 +86,27 @@ impl<A: Allocator + Copy> Taker<'_, A> {
     }
 
     /// An answer that came in one APDU.
-    fn whole_heard(&self, answer: &Answer<'_>) -> Result<ClientPlan<A>, AllocError>
+    fn whole_heard(&self, answer: &Answer<'_>) -> Result<ClientTsmPlan<A>, AllocError>
         ensures { IfOk result (IsFinished
-            (spec.whole_heard self.now.place self.now.transaction.now (answer_contents answer.now))) }
+            (spec.whole_heard (spec.taking_of self.now) (answer_contents answer.now))) }
     {
-        self.answered(answer, Items::new(self.alloc), ClientChange::Stays)
+        self.answered(answer, Items::new(self.alloc), ClientTsmChange::Stays)
+    }
+
+    /// The window of each SegmentACK of the answer.
+    fn window_for(&self, segment: &Segment) -> u8
+        ensures { result ≡ spec.window_for self.now.transaction.now segment.now }
+    {
+        let transaction = self.transaction;
+        match &transaction.gathering {
+            None => granted_window(segment.window),
+            Some(gathering) => gathering.receiver.window(),
+        }
     }
 
     /// A SegmentACK of the answer.
-    fn ack_said(&self, negative: bool, sequence_number: u8, receiver: &Receiver<A>) -> ClientSaid<A>
-        ensures { result ≡
-            spec.ack_said negative sequence_number receiver.now self.now.transaction.now }
+    fn ack_said(&self, negative: bool, sequence_number: u8, segment: &Segment) -> ClientSaid<A>
+        ensures { result ≡ spec.ack_said negative sequence_number self.now.transaction.now segment.now }
     {
         let transaction = self.transaction;
         ClientSaid::SegmentAck {
@@ -136,7 +114,7 @@ impl<A: Allocator + Copy> Taker<'_, A> {
             negative,
             invoke_id: transaction.invoke_id,
             sequence_number,
-            window: receiver.window(),
+            window: self.window_for(segment),
         }
     }
 
@@ -144,118 +122,119 @@ impl<A: Allocator + Copy> Taker<'_, A> {
     fn ack_if(
         &self,
         number: Option<u8>,
-        receiver: &Receiver<A>,
+        segment: &Segment,
     ) -> Result<Items<ClientSaid<A>, A>, AllocError>
-        ensures { IfOk result (λ said. said ≡
-            spec.ack_if number receiver.now self.now.transaction.now) }
+        ensures { IfOk result (λ said. said ≡ spec.ack_if number self.now.transaction.now segment.now) }
     {
         let mut said = Items::new(self.alloc);
         if let Some(number) = number {
-            said.push(self.ack_said(false, number, receiver))?;
+            said.push(self.ack_said(false, number, segment))?;
         }
         Ok(said)
     }
 
     /// A segment that isn't taken renews what is gathered, where something is.
-    fn renewed_if(&self) -> ClientChange<A>
+    fn renewed_if(&self) -> ClientTsmChange<A>
         ensures { result ≡ spec.renewed_if self.now.transaction.now.gathering self.now.place }
     {
         let transaction = self.transaction;
         if transaction.gathering.is_some() {
-            ClientChange::Renews(self.place)
+            ClientTsmChange::Renews(self.place)
         } else {
-            ClientChange::Stays
+            ClientTsmChange::Stays
         }
     }
 
-    /// The answer came so far, and this is said.
-    fn gathered(&self, said: Items<ClientSaid<A>, A>, receiver: Receiver<A>) -> ClientPlan<A>
-        ensures { result ≡ spec.gathered self.now.moment said self.now.place receiver }
+    /// A segment of the answer came, and this is said.
+    fn gathered(
+        &self,
+        said: Items<ClientSaid<A>, A>,
+        segment: &Segment,
+        octets: &[u8],
+    ) -> Result<ClientTsmPlan<A>, AllocError>
+        ensures { IfOk result (λ plan. plan ≡
+            spec.gathered said (spec.taking_of self.now) segment.now octets.now) }
     {
-        let gathering = Gathering {
-            receiver,
-            at: self.moment,
-        };
-        ClientPlan {
+        let octets = Octets::from_slice(self.alloc, octets)?;
+        Ok(ClientTsmPlan {
             said,
             told: Items::new(self.alloc),
-            change: ClientChange::Gathers(self.place, gathering),
-        }
+            change: ClientTsmChange::Gathers(self.place, *segment, octets),
+        })
     }
 
-    /// What comes of a segment of the answer.
-    fn gathered_by(
+    /// A segment of the answer was taken.
+    fn taken(
         &self,
-        step: Step,
-        more: bool,
-        receiver: Receiver<A>,
-    ) -> Result<ClientPlan<A>, AllocError>
-        ensures { IfOk result (IsFinished (spec.gathered_by step more self.now.moment self.now.place
-            self.now.transaction.now receiver)) }
+        ack: Option<u8>,
+        segment: &Segment,
+        octets: &[u8],
+    ) -> Result<ClientTsmPlan<A>, AllocError>
+        ensures { IfOk result (IsFinished (spec.taken_if segment.now.more_follows
+            (spec.ack_if ack self.now.transaction.now segment.now) (spec.taking_of self.now) segment.now octets.now)) }
     {
-        match step {
-            Step::Taken(ack) => {
-                let said = self.ack_if(ack, &receiver)?;
-                if more {
-                    return Ok(self.gathered(said, receiver));
-                }
-                let answer = Answer::Complex(receiver.octets());
-                self.answered(&answer, said, ClientChange::Renews(self.place))
-            }
+        let said = self.ack_if(ack, segment)?;
+        if segment.more_follows {
+            return self.gathered(said, segment, octets);
+        }
+        let whole = self.transaction.whole_with(self.alloc, octets)?;
+        let answer = Answer::Complex(whole.as_slice());
+        self.answered(&answer, said, ClientTsmChange::Renews(self.place))
+    }
+
+    /// A segment of the answer.
+    fn part_heard(&self, segment: &Segment, octets: &[u8]) -> Result<ClientTsmPlan<A>, AllocError>
+        ensures { IfOk result (IsFinished
+            (spec.part_heard (spec.taking_of self.now) segment.now octets.now)) }
+    {
+        match self
+            .transaction
+            .step_on(self.alloc, segment, octets, self.moment)
+        {
+            Step::Taken(ack) => self.taken(ack, segment, octets),
             Step::Nak(number) => {
                 let mut said = Items::new(self.alloc);
-                said.push(self.ack_said(true, number, &receiver))?;
-                Ok(self.gathered(said, receiver))
+                said.push(self.ack_said(true, number, segment))?;
+                self.gathered(said, segment, octets)
             }
             Step::Dropped => Ok(quiet(self.alloc, self.renewed_if())),
             Step::Full => self.closing(Items::new(self.alloc), Outcome::TimedOut),
         }
     }
 
-    /// A segment of the answer.
-    fn part_heard(&self, segment: &Segment, octets: &[u8]) -> Result<ClientPlan<A>, AllocError>
-        ensures { IfOk result (IsFinished (spec.part_heard self.now.moment self.now.place
-            self.now.transaction.now segment.now octets.now)) }
-    {
-        let Segment {
-            more_follows,
-            sequence_number,
-            window,
-        } = *segment;
-        let transaction = self.transaction;
-        let mut receiver = receiver_of(self.alloc, &transaction.gathering, window)?;
-        let step = receiver.on_segment(sequence_number, more_follows, octets, self.moment)?;
-        self.gathered_by(step, more_follows, receiver)
-    }
-
     /// What comes of a SegmentACK of the request.
-    fn turned_by(&self, turn: Turn, sender: Sender) -> Result<ClientPlan<A>, AllocError>
+    fn turned_by(&self, turn: Turn, sender: Sender) -> Result<ClientTsmPlan<A>, AllocError>
         ensures { IfOk result (λ plan. plan ≡
-            spec.turned_by turn self.now.place self.now.transaction.now sender) }
+            spec.turned_by turn (spec.taking_of self.now) sender) }
     {
         match turn {
-            Turn::Waits => Ok(quiet(self.alloc, ClientChange::Stays)),
+            Turn::Waits => Ok(quiet(self.alloc, ClientTsmChange::Stays)),
             Turn::Sends => {
                 let mut said = Items::new(self.alloc);
                 self.transaction.ask(self.alloc, Some(sender), &mut said)?;
-                Ok(ClientPlan {
+                Ok(ClientTsmPlan {
                     said,
                     told: Items::new(self.alloc),
-                    change: ClientChange::Sends(self.place, Some(sender)),
+                    change: ClientTsmChange::Sends(self.place, Some(sender)),
                 })
             }
-            Turn::Ends => Ok(quiet(self.alloc, ClientChange::Sends(self.place, None))),
+            Turn::Ends => Ok(quiet(self.alloc, ClientTsmChange::Sends(self.place, None))),
         }
     }
 
     /// A SegmentACK of the request.
-    fn ack_heard(&self, negative: bool, number: u8, window: u8) -> Result<ClientPlan<A>, AllocError>
+    fn ack_heard(
+        &self,
+        negative: bool,
+        number: u8,
+        window: u8,
+    ) -> Result<ClientTsmPlan<A>, AllocError>
         ensures { IfOk result (λ plan. plan ≡ spec.ack_heard self.now.transaction.now.sending
-            self.now.moment self.now.place self.now.transaction.now negative number window) }
+            (spec.taking_of self.now) negative number window) }
     {
         let transaction = self.transaction;
         match transaction.sending {
-            None => Ok(quiet(self.alloc, ClientChange::Stays)),
+            None => Ok(quiet(self.alloc, ClientTsmChange::Stays)),
             Some(mut sender) => {
                 let turn = sender.on_ack(number, window, negative, self.moment);
                 self.turned_by(turn, sender)
@@ -280,9 +259,9 @@ impl<A: Allocator + Copy> Taker<'_, A> {
     }
 
     /// What an APDU comes to, that has the service of the request where it has one.
-    fn asked_told(&self, apdu: &Apdu<'_>) -> Result<ClientPlan<A>, AllocError>
-        ensures { IfOk result (IsFinished (spec.asked_told self.now.moment self.now.place
-            self.now.transaction.now (spec.message_of apdu.now))) }
+    fn asked_told(&self, apdu: &Apdu<'_>) -> Result<ClientTsmPlan<A>, AllocError>
+        ensures { IfOk result (IsFinished
+            (spec.asked_told (spec.taking_of self.now) (spec.message_of apdu.now))) }
     {
         match apdu {
             Apdu::SimpleAck { .. } => self.whole_heard(&Answer::Simple),
@@ -313,22 +292,22 @@ impl<A: Allocator + Copy> Taker<'_, A> {
                 ..
             } => self.closing(Items::new(self.alloc), Outcome::Aborted(*reason)),
             // What no server says is not for a client. An arm for each: where they join, no proof is found.
-            Apdu::SegmentAck { server: false, .. } => Ok(quiet(self.alloc, ClientChange::Stays)),
-            Apdu::Abort { server: false, .. } => Ok(quiet(self.alloc, ClientChange::Stays)),
-            Apdu::ConfirmedRequest { .. } => Ok(quiet(self.alloc, ClientChange::Stays)),
-            Apdu::UnconfirmedRequest { .. } => Ok(quiet(self.alloc, ClientChange::Stays)),
+            Apdu::SegmentAck { server: false, .. } => Ok(quiet(self.alloc, ClientTsmChange::Stays)),
+            Apdu::Abort { server: false, .. } => Ok(quiet(self.alloc, ClientTsmChange::Stays)),
+            Apdu::ConfirmedRequest { .. } => Ok(quiet(self.alloc, ClientTsmChange::Stays)),
+            Apdu::UnconfirmedRequest { .. } => Ok(quiet(self.alloc, ClientTsmChange::Stays)),
         }
     }
 
     /// What an APDU comes to.
-    fn told_open(&self, apdu: &Apdu<'_>) -> Result<ClientPlan<A>, AllocError>
-        ensures { IfOk result (IsFinished (spec.told_open self.now.moment self.now.place
-            self.now.transaction.now (spec.message_of apdu.now))) }
+    fn told_open(&self, apdu: &Apdu<'_>) -> Result<ClientTsmPlan<A>, AllocError>
+        ensures { IfOk result (IsFinished
+            (spec.told_open (spec.taking_of self.now) (spec.message_of apdu.now))) }
     {
         if self.is_asked(apdu) {
             self.asked_told(apdu)
         } else {
-            Ok(quiet(self.alloc, ClientChange::Stays))
+            Ok(quiet(self.alloc, ClientTsmChange::Stays))
         }
     }
 }
@@ -336,6 +315,7 @@ impl<A: Allocator + Copy> Taker<'_, A> {
 impl<A: Allocator + Copy> ClientTsm<A> {
     ghost use Rattle.std.specs.Prelude.{◌≡◌, ◌≤◌, ◌^◌, IfOk, OnErr};
     ghost use Rattle.client_tsm.specs.Hearing.{heard_of, place_of};
+    ghost use Rattle.client_tsm.specs.Planned.{IsPlanned};
     ghost use Rattle.client_tsm.specs.Steps.{IsPlan, IsStep};
     ghost use Rattle.profile.specs.Times.{MAX_MOMENT_MS};
 
@@ -343,14 +323,9 @@ impl<A: Allocator + Copy> ClientTsm<A> {
     fn place_of(&self, now: u64, from: Station, invoke_id: u8) -> Option<usize>
         ensures { result ≡ place_of now from invoke_id self.now.open_ones }
     {
-        let mut place = 0;
-        for transaction in &self.open_ones {
-            if transaction.takes(now, from, invoke_id) {
-                return Some(place);
-            }
-            place += 1;
-        }
-        None
+        self.open_ones
+            .iter()
+            .position(|transaction| transaction.takes(now, from, invoke_id))
     }
 
     /// What is said, told and left where this station says this APDU to the client at the moment `now`, in
@@ -363,14 +338,15 @@ impl<A: Allocator + Copy> ClientTsm<A> {
         from: Station,
         apdu: &Apdu<'_>,
         now: u64,
-    ) -> Result<ClientPlan<A>, AllocError>
-        ensures { IfOk result (IsPlan now from (heard_of apdu.now) self.now) }
+    ) -> Result<ClientTsmPlan<A>, AllocError>
+        ensures is { IfOk result (IsPlan now from (heard_of apdu.now) self.now) }
+        ensures planned { IfOk result (λ plan. IsPlanned now self.now plan.change) }
     {
-        let Some(place) = self.place_of(now, from, invoke_id_of(apdu)) else {
-            return Ok(quiet(self.alloc, ClientChange::Stays));
+        let Some(place) = self.place_of(now, from, apdu.invoke_id().unwrap_or(0)) else {
+            return Ok(quiet(self.alloc, ClientTsmChange::Stays));
         };
         let Some(transaction) = self.open_ones.get(place) else {
-            return Ok(quiet(self.alloc, ClientChange::Stays));
+            return Ok(quiet(self.alloc, ClientTsmChange::Stays));
         };
         let taker = Taker {
             alloc: self.alloc,
@@ -396,7 +372,7 @@ impl<A: Allocator + Copy> ClientTsm<A> {
         ensures step { IfOk result (λ told. IsStep now from (heard_of apdu.now) self.old told self.new) }
         ensures unchanged { OnErr result (self.new ≡ self.old) }
     {
-        let ClientPlan { said, told, change } = self.plan(from, apdu, now)?;
+        let ClientTsmPlan { said, told, change } = self.plan(from, apdu, now)?;
         self.commit(change, now)?;
         Ok(ClientTsmTold { said, told })
     }

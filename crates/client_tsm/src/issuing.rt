@@ -5,7 +5,7 @@ ghost use Rattle.client_tsm.specs.Issuing.{opening};
 
 use crate::asking::octets_of;
 use crate::client::ClientTsm;
-use crate::plan::{ClientChange, ClientPlan, ClientTsmIssued};
+use crate::plan::{ClientTsmChange, ClientTsmIssued, ClientTsmPlan};
 use crate::transaction::Transaction;
 use bindings::{Bound, apdu_limit, begun, is_too_long};
 use primitives::Request;
@@ -16,15 +16,15 @@ use tags::{Fault, Items, Octets};
 fn opening<A: Allocator + Copy>(
     alloc: A,
     transaction: Transaction<A>,
-) -> Result<ClientPlan<A>, AllocError>
+) -> Result<ClientTsmPlan<A>, AllocError>
     ensures { IfOk result (λ plan. plan ≡ opening transaction) }
 {
     let mut said = Items::new(alloc);
     transaction.ask(alloc, transaction.sending, &mut said)?;
-    Ok(ClientPlan {
+    Ok(ClientTsmPlan {
         said,
         told: Items::new(alloc),
-        change: ClientChange::Opens(transaction),
+        change: ClientTsmChange::Opens(transaction),
     })
 }
 
@@ -34,6 +34,7 @@ impl<A: Allocator + Copy> ClientTsm<A> {
     ghost use Rattle.services.specs.Asked.{request_octets};
     ghost use Rattle.client_tsm.specs.Client.{committed};
     ghost use Rattle.client_tsm.specs.Issuing.{issued, opened, refusal};
+    ghost use Rattle.client_tsm.specs.Planned.{IsPlanned};
     ghost use Rattle.bindings.specs.Limits.{apdu_limit};
     ghost use Rattle.profile.specs.Times.{MAX_MOMENT_MS};
 
@@ -48,9 +49,10 @@ impl<A: Allocator + Copy> ClientTsm<A> {
         request: &Request<A>,
         to: &Bound,
         now: u64,
-    ) -> Result<ClientPlan<A>, Fault>
+    ) -> Result<ClientTsmPlan<A>, Fault>
         requires sound { IsSoundRequest request.now }
-        ensures planned { IfOk result (λ plan. plan ≡ issued now request.now to.now self.now) }
+        ensures is { IfOk result (λ plan. plan ≡ issued now request.now to.now self.now) }
+        ensures planned { IfOk result (λ plan. IsPlanned now self.now plan.change) }
         ensures free { OnOk result (refusal now request.now to.now self.now ≡ None) }
         ensures refused { IfErr result (λ fault. (fault ≡ Fault.Memory) ⊎
             (refusal now request.now to.now self.now ≡ Some fault)) }
@@ -120,7 +122,7 @@ impl<A: Allocator + Copy> ClientTsm<A> {
             (refusal now request.now to.now self.old ≡ Some fault)) }
         ensures unchanged { OnErr result (self.new ≡ self.old) }
     {
-        let ClientPlan { said, change, .. } = self.plan_issue(request, to, now)?;
+        let ClientTsmPlan { said, change, .. } = self.plan_issue(request, to, now)?;
         let invoke_id = self.next;
         self.commit(change, now)?;
         Ok(ClientTsmIssued { invoke_id, said })

@@ -12,15 +12,21 @@ pub fn told_is_open<A: Allocator>()
     ensures told { spec.ToldIsOpen A }
 {}
 
-/// An answer that counts and means a reply is given: a whole one, and one whose last segment is taken.
-pub fn whole_is_given<A: Allocator>()
-    ensures whole { spec.WholeIsGiven A }
-    ensures gathered { spec.GatheredIsGiven A }
+/// Where the invoke IDs of the open transactions differ, an outcome of one for which what is heard counts is told, and
+/// nothing else: so each answer that counts and means a reply is given, a whole one, and one whose last segment is
+/// taken.
+pub fn counted_is_told<A: Allocator>()
+    ensures { spec.CountedIsTold A }
 {}
 
 /// What is heard is planned in one way.
 pub fn one_plan<A: Allocator>()
     ensures { spec.OnePlan A }
+{}
+
+/// A change that was planned keeps the invoke IDs of the open transactions apart.
+pub fn planned_keep_apart<A: Allocator>()
+    ensures { spec.PlannedKeepApart A }
 {}
 
 /// At a wake each transaction is told to have timed out, where it has its end, or left.

@@ -50,9 +50,9 @@ mod waking;
 pub use bindings::{Accepts, Bound};
 pub use client::ClientTsm;
 pub use gathering::Gathering;
-pub use laws::{one_plan, told_is_open, whole_is_given, woken_are_ended};
+pub use laws::{counted_is_told, one_plan, planned_keep_apart, told_is_open, woken_are_ended};
 pub use plan::{
-    ClientChange, ClientPlan, ClientTsmIssued, ClientTsmTold, Outcome, TransactionOutcome,
+    ClientTsmChange, ClientTsmIssued, ClientTsmPlan, ClientTsmTold, Outcome, TransactionOutcome,
 };
 pub use said::ClientSaid;
 pub use transaction::Transaction;

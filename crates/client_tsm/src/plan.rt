@@ -1,13 +1,12 @@
 //! What is planned for an input, before anything changes.
 
-use crate::gathering::Gathering;
 use crate::said::ClientSaid;
 use crate::transaction::Transaction;
-use apdu::{AbortReason, RejectReason};
+use apdu::{AbortReason, RejectReason, Segment};
 use primitives::Reply;
 use segments::Sender;
 use std::alloc::Allocator;
-use tags::Items;
+use tags::{Items, Octets};
 
 /// What comes of a transaction.
 #[derive(Drop)]
@@ -33,15 +32,15 @@ pub struct TransactionOutcome<A: Allocator> {
 
 /// What is to change of a client. Places count its open transactions, in order of issue.
 #[derive(Drop)]
-pub enum ClientChange<A: Allocator> {
+pub enum ClientTsmChange<A: Allocator> {
     /// Nothing.
     Stays,
     /// A transaction is opened, under the next invoke ID.
     Opens(Transaction<A>),
     /// More of the request of the transaction at this place came: what goes on sending it, or none.
     Sends(usize, Option<Sender>),
-    /// The answer to the transaction at this place came so far; its request came whole.
-    Gathers(usize, Gathering<A>),
+    /// This segment of the answer to the transaction at this place came, with these octets; its request came whole.
+    Gathers(usize, Segment, Octets<A>),
     /// A segment of the answer to the transaction at this place was heard and not taken; its request came whole.
     Renews(usize),
     /// The transaction at this place ends.
@@ -52,13 +51,13 @@ pub enum ClientChange<A: Allocator> {
 
 /// What is said of an input, what is told of it, and what it changes.
 #[derive(Drop)]
-pub struct ClientPlan<A: Allocator> {
+pub struct ClientTsmPlan<A: Allocator> {
     /// What is said, in order.
     pub said: Items<ClientSaid<A>, A>,
     /// What is told, in order.
     pub told: Items<TransactionOutcome<A>, A>,
     /// What changes.
-    pub change: ClientChange<A>,
+    pub change: ClientTsmChange<A>,
 }
 
 /// What comes of an issue.

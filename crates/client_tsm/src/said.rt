@@ -1,10 +1,11 @@
-//! What a client says, and to whom.
+//! What a client says, and to whom; it goes out as all that a station says (6.1).
 
-use apdu::Segment;
+use apdu::{PduType, Segment};
 use bindings::Accepts;
 use npdu::Way;
 use std::alloc::Allocator;
-use tags::Octets;
+use tags::{Fault, Octets};
+use unitdata::Say;
 
 /// What a client says of a transaction.
 #[derive(Drop)]
@@ -79,5 +80,28 @@ impl<A: Allocator> ClientSaid<A> {
         match self {
             ClientSaid::Request { way, .. } | ClientSaid::SegmentAck { way, .. } => *way,
         }
+    }
+}
+
+impl<A: Allocator> Say for ClientSaid<A> {
+    ghost use Rattle.client_tsm.specs.Said.{spoken_of};
+
+    ghost spoken = { spoken_of };
+
+    fn way(&self) -> Way {
+        ClientSaid::way(self)
+    }
+
+    fn expects_reply(&self) -> bool {
+        match self {
+            ClientSaid::Request { segment, .. } => {
+                unitdata::expects_reply(PduType::ConfirmedRequest, segment.is_some())
+            }
+            ClientSaid::SegmentAck { .. } => unitdata::expects_reply(PduType::SegmentAck, false),
+        }
+    }
+
+    fn write<B: Allocator>(&self, out: &mut Vec<u8, B>) -> Result<(), Fault> {
+        self.apdu().write(out)
     }
 }

@@ -1,11 +1,12 @@
 //! A transaction of a client: a request that has neither an answer nor an end (5.4.4).
 
 use crate::gathering::Gathering;
+use apdu::Segment;
 use bindings::{Accepts, begun, is_same_station};
 use npdu::{Station, Way};
 use primitives::Request;
 use profile::{APDU_TIMEOUT_MS, NUMBER_OF_APDU_RETRIES, gathers_still, is_in_time};
-use segments::{Sender, Turn};
+use segments::{Receiver, Sender, Step, Turn, granted_window};
 use services::service_of;
 use std::alloc::{AllocError, Allocator};
 use std::marker::Model;
@@ -55,7 +56,7 @@ impl<A: Allocator> Model for Transaction<A> {
 impl<A: Allocator> Transaction<A> {
     ghost use Rattle.std.specs.Prelude.{◌≡◌, ◌==◌, length, Some};
     ghost use Rattle.services.specs.Asked.{service_asked};
-    ghost use Rattle.client_tsm.specs.Client.{gathers_on, renews, sends_on};
+    ghost use Rattle.client_tsm.specs.Client.{renews, sends_on};
     ghost use Rattle.client_tsm.specs.Open.{gathers_still, goes_on, sends_still, takes};
     ghost use Rattle.client_tsm.specs.Waking.{again, is_overdue, turn_of};
 
@@ -166,14 +167,6 @@ impl<A: Allocator> Transaction<A> {
         self.sending = sending;
     }
 
-    /// More of its answer came.
-    pub(crate) fn gather(&mut self, gathering: Gathering<A>)
-        ensures { self.new ≡ gathers_on (Some gathering) self.old }
-    {
-        self.sending = None;
-        self.gathering = Some(gathering);
-    }
-
     /// A segment of its answer was heard, and not taken.
     pub(crate) fn renew(&mut self, now: u64)
         ensures { self.new ≡ renews now self.old }
@@ -186,7 +179,71 @@ impl<A: Allocator> Transaction<A> {
 }
 
 impl<A: Allocator + Copy> Transaction<A> {
-    ghost use Rattle.std.specs.Prelude.{◌≡◌, IfOk};
+    ghost use Rattle.std.specs.Prelude.{◌≡◌, IfOk, OnOk, OnErr};
+    ghost use Rattle.client_tsm.specs.Client.{gathered_at, gathers};
+    ghost use Rattle.client_tsm.specs.Hearing.{whole_with};
+
+    /// What it does at the moment `now`, in milliseconds, on this segment of its answer, with these octets.
+    #[tactic(auto, using(crate::proofs::Joining::step_rules))]
+    pub(crate) fn step_on(&self, alloc: A, segment: &Segment, octets: &[u8], now: u64) -> Step
+        ensures { result ≡ (gathered_at now self.now segment.now octets.now).step }
+    {
+        let (number, more) = (segment.sequence_number, segment.more_follows);
+        match &self.gathering {
+            None => {
+                let receiver = Receiver::new(alloc, granted_window(segment.window));
+                receiver.step(number, more, octets, now)
+            }
+            Some(gathering) => gathering.receiver.step(number, more, octets, now),
+        }
+    }
+
+    /// A segment of its answer came at the moment `now`, in milliseconds, with these octets.
+    ///
+    /// # Errors
+    /// Want of memory. The transaction is then as it was.
+    pub(crate) fn gather(
+        &mut self,
+        alloc: A,
+        segment: &Segment,
+        octets: &[u8],
+        now: u64,
+    ) -> Result<(), AllocError>
+        ensures gathered { OnOk result (self.new ≡ gathers now segment.now octets.now self.old) }
+        ensures unchanged { OnErr result (self.new ≡ self.old) }
+    {
+        let (number, more) = (segment.sequence_number, segment.more_follows);
+        match &mut self.gathering {
+            None => {
+                let mut receiver = Receiver::new(alloc, granted_window(segment.window));
+                receiver.on_segment(number, more, octets, now)?;
+                self.gathering = Some(Gathering { receiver, at: now });
+            }
+            Some(gathering) => {
+                gathering.receiver.on_segment(number, more, octets, now)?;
+                gathering.at = now;
+            }
+        }
+        self.sending = None;
+        Ok(())
+    }
+
+    /// The octets of its answer, of which these are those of the last segment.
+    ///
+    /// # Errors
+    /// Want of memory.
+    pub(crate) fn whole_with(&self, alloc: A, octets: &[u8]) -> Result<Vec<u8, A>, AllocError>
+        ensures { IfOk result (λ whole. whole.items ≡ whole_with octets.now self.now) }
+    {
+        let mut whole = Vec::new(alloc);
+        if let Some(gathering) = &self.gathering {
+            let so_far = gathering.receiver.octets();
+            whole.reserve(so_far.len() + octets.len())?;
+            whole.extend_from_slice(so_far)?;
+        }
+        whole.extend_from_slice(octets)?;
+        Ok(whole)
+    }
 
     /// An equal transaction, in memory of `alloc`.
     pub(crate) fn copy(&self, alloc: A) -> Result<Self, AllocError>

@@ -4,7 +4,7 @@ ghost use Rattle.std.specs.Prelude.{◌≡◌, ◌++◌, OnOk};
 ghost use Rattle.client_tsm.specs.Waking.{all_left, said_of, told_of};
 
 use crate::client::ClientTsm;
-use crate::plan::{ClientChange, ClientPlan, ClientTsmTold, Outcome, TransactionOutcome};
+use crate::plan::{ClientTsmChange, ClientTsmPlan, ClientTsmTold, Outcome, TransactionOutcome};
 use crate::said::ClientSaid;
 use crate::transaction::Transaction;
 use segments::Turn;
@@ -55,6 +55,7 @@ pub(crate) fn wake_all<A: Allocator>(open_ones: &mut Vec<Transaction<A>, A>, now
 impl<A: Allocator + Copy> ClientTsm<A> {
     ghost use Rattle.std.specs.Prelude.{◌≡◌, ◌≤◌, ◌^◌, IfOk, OnOk, OnErr};
     ghost use Rattle.client_tsm.specs.Client.{committed};
+    ghost use Rattle.client_tsm.specs.Planned.{IsPlanned};
     ghost use Rattle.client_tsm.specs.Steps.{told_of_plan};
     ghost use Rattle.client_tsm.specs.Waking.{woken};
     ghost use Rattle.profile.specs.Times.{MAX_MOMENT_MS};
@@ -64,18 +65,19 @@ impl<A: Allocator + Copy> ClientTsm<A> {
     ///
     /// # Errors
     /// Want of memory.
-    pub fn plan_tick(&self, now: u64) -> Result<ClientPlan<A>, AllocError>
-        ensures { IfOk result (λ plan. plan ≡ woken now self.now.open_ones) }
+    pub fn plan_tick(&self, now: u64) -> Result<ClientTsmPlan<A>, AllocError>
+        ensures is { IfOk result (λ plan. plan ≡ woken now self.now.open_ones) }
+        ensures planned { IfOk result (λ plan. IsPlanned now self.now plan.change) }
     {
         let mut said = Items::new(self.alloc);
         let mut told = Items::new(self.alloc);
         for transaction in &self.open_ones {
             wake_one(self.alloc, now, transaction, &mut said, &mut told)?;
         }
-        Ok(ClientPlan {
+        Ok(ClientTsmPlan {
             said,
             told,
-            change: ClientChange::Wakes,
+            change: ClientTsmChange::Wakes,
         })
     }
 
@@ -90,7 +92,7 @@ impl<A: Allocator + Copy> ClientTsm<A> {
         ensures left { OnOk result (self.new ≡ committed now (woken now self.old.open_ones).change self.old) }
         ensures unchanged { OnErr result (self.new ≡ self.old) }
     {
-        let ClientPlan { said, told, change } = self.plan_tick(now)?;
+        let ClientTsmPlan { said, told, change } = self.plan_tick(now)?;
         self.commit(change, now)?;
         Ok(ClientTsmTold { said, told })
     }

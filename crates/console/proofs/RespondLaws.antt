@@ -5,12 +5,11 @@ use Rattle.npdu.specs.declared.mac.Mac.{Mac}
 use Rattle.npdu.specs.declared.mac.Target.{Target}
 use Rattle.server_tsm.specs.Server.{ServerTsmState, committed}
 use Rattle.server_answers.specs.declared.asked.Origin.{Origin}
-use Rattle.server_answers.specs.declared.plan.ServerChange.{ServerChange}
-use Rattle.server_answers.specs.declared.plan.ServerChange.TheVariants.{Stays, Says, Gathers, GivesUp, Executes, Wakes}
+use Rattle.server_answers.specs.Plan.{ServerChange, Stays, Says, Gathers, GivesUp, Executes, Wakes}
 use Rattle.unitdata.specs.Hearing.{HeardContent, refuses, says}
 use Rattle.device.specs.Device.{DeviceState}
 use Rattle.device.specs.Hearing.{DeviceHears, Does, Serves}
-use Rattle.device.specs.declared.device.DeviceTold.{DeviceTold}
+use Rattle.device.specs.declared.plan.DeviceTold.{DeviceTold}
 use Rattle.console.specs.Hearing.{HandsUp, HandsUpNothing, OnlyHandsUp, Sent}
 use Rattle.console.specs.Respond.{Responds, Said, SaysTo}
 
@@ -22,7 +21,7 @@ module _ {A : Type 0} where
   committed_at : (now : ℕ) (change : ServerChange A) (st : ServerTsmState A) → (committed now change st).moment ≡ now
   committed_at now Stays st = refl
   committed_at now (Says saying) st = refl
-  committed_at now (Gathers a) st = refl
+  committed_at now (Gathers asked segment octets) st = refl
   committed_at now (GivesUp asker) st = refl
   committed_at now (Executes request r) st = refl
   committed_at now (Wakes sayings) st = refl

@@ -5,8 +5,9 @@ use Rattle.apdu.specs.declared.apdu.Apdu.TheVariants as apdu
 use Rattle.apdu.specs.declared.apdu.Segment.{Segment}
 use Rattle.apdu.specs.declared.sizes.MaxApdu.{MaxApdu}
 use Rattle.apdu.specs.declared.sizes.MaxSegments.{MaxSegments}
-use Rattle.server_tsm.specs.Hearing.{Heard, Message, acknowledges, asks, gives_up, nothing, of_client}
-use Rattle.device.specs.Laws.{OneHeard}
+use Rattle.server_tsm.specs.Hearing.{Heard, Message, acknowledges, asks, gives_up, heard_of, nothing, of_client}
+use Rattle.apdu.specs.Apdu.{apdu_of, HasNamedNumbers}
+use Rattle.apdu.specs.declared.apdu.Apdu.{Apdu}
 
 abbrev asked : ℕ → Option Segment → Bool → MaxSegments → MaxApdu → ℕ → List ℕ → Heard
 asked invoke segment accepted segments size service octets =
@@ -28,7 +29,7 @@ same_ack a b s t n m w v e f g h = cc
 same_end : (s t : Bool) → s ≡ t → of_client s gives_up ≡ of_client t gives_up
 same_end s t e = cc
 
-pub one_heard : OneHeard
+pub one_heard : (a b : Apdu) → HasNamedNumbers a → HasNamedNumbers b → apdu_of a ≡ apdu_of b → heard_of a ≡ heard_of b
 one_heard (apdu.ConfirmedRequest s a m p i k x) (apdu.ConfirmedRequest t b n q j l y) na nb e =
     same_asked i j s t a b m n p q k l x.now y.now (cc e) (cc e) (cc e) (cc e) (one_size p q (cc e) na nb) (cc e) (cc e)
 one_heard (apdu.UnconfirmedRequest k x) (apdu.UnconfirmedRequest l y) na nb e = refl

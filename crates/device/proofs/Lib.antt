@@ -4,3 +4,4 @@ pub mod ServerLaws
 pub mod ServeLaws
 pub mod SayLaws
 pub mod SupportedLaws
+pub mod OnceLaws

@@ -7,10 +7,9 @@ use Rattle.std.proofs.lemmas.List.FromFn.{get_or-map-range_with_len}
 use Rattle.apdu.specs.Numbers.{service_number}
 use Rattle.apdu.specs.declared.numbers.ConfirmedService.{ConfirmedService}
 use Rattle.apdu.specs.declared.numbers.ConfirmedService.TheVariants.{ReadProperty, ReadPropertyMultiple, WriteProperty, WritePropertyMultiple}
-use Rattle.device.specs.Laws.{IsServiceNumber, ServicesAreSupported, SizeIsOfLink, WHO_IS_BIT}
+use Rattle.device.specs.Laws.{IsServiceNumber, ServicesAreSupported, WHO_IS_BIT}
 use Rattle.object_model.specs.Objects.{services_supported}
 use Rattle.object_model.specs.Supported.{has_bit}
-use Rattle.profile.specs.declared.link_kind.LinkKind.TheVariants.{BacnetIp, MsTp}
 
 -- the numbers of the services, as a test
 abbrev named : ℕ → Bool
@@ -59,7 +58,3 @@ says n l = (λ set. is_named n (sym (bit_is n l) ∙ set), λ found. executed n 
 
 pub services_are_supported : {A : Type 0} → ServicesAreSupported A
 services_are_supported t d = record { octets = services_supported; are = refl; says = says }
-
-pub size_is_of_link : SizeIsOfLink
-size_is_of_link BacnetIp = refl
-size_is_of_link MsTp = refl

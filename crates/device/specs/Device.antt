@@ -1,17 +1,14 @@
 -- A device on its network: what it knows (5.4.5, 12.11, 16.10.3).
 use Rattle.std.specs.Prelude.{ℕ}
 use Rattle.apdu.specs.Sizes.{apdu_taken}
-use Rattle.apdu.specs.declared.sizes.MaxApdu.{MaxApdu}
-use Rattle.apdu.specs.declared.sizes.MaxApdu.TheVariants.{UpTo480, UpTo1476}
 use Rattle.apdu.specs.declared.unconfirmed.IAm.{IAm}
 use Rattle.apdu.specs.declared.unconfirmed.Segmentation.TheVariants.{Both}
 use Rattle.npdu.specs.declared.mac.Mac.{Mac}
 use Rattle.npdu.specs.declared.mac.Station.{Station}
 use Rattle.object_model.specs.Objects.{PlainTable}
 use Rattle.object_model.specs.Site.{opening_table}
-use Rattle.profile.specs.declared.link_kind.LinkKind.{LinkKind}
-use Rattle.profile.specs.declared.link_kind.LinkKind.TheVariants.{BacnetIp, MsTp}
 use Rattle.object_model.specs.declared.site.SiteObjects.{SiteObjects}
+use Rattle.unitdata.specs.Sizes.{longest_apdu}
 use Rattle.server_tsm.specs.Server.{ServerTsmState, new_server, restarted}
 
 -- its server of transactions, which has its objects; the instance and the vendor of its Device object; its network and
@@ -23,16 +20,11 @@ pub record DeviceState (A : Type 0) : Type 0 where
   pub net : ℕ
   pub mac : Mac
 
--- the longest APDU that a data link carries (9, J.1)
-abbrev pub size_of : LinkKind → MaxApdu
-size_of BacnetIp = UpTo1476
-size_of MsTp = UpTo480
-
 -- a device at an address, as it opens with the objects of its site
 abbrev pub new_device : {A : Type 0} → SiteObjects A → Station → DeviceState A
 new_device site address =
     record {
-      server = new_server (opening_table site) (size_of site.data_link);
+      server = new_server (opening_table site) (longest_apdu site.data_link);
       instance = site.instance;
       vendor = site.vendor;
       net = address.net;

@@ -10,10 +10,10 @@ use Rattle.server_tsm.specs.Steps.{IsStep}
 use Rattle.server_answers.specs.declared.asked.Origin.{Origin}
 use Rattle.server_answers.specs.declared.plan.ServerTold.{ServerTold}
 use Rattle.unitdata.specs.Asking.{AsksOther, AsksWho}
-use Rattle.unitdata.specs.Hearing.{Brings, BringsNothing, HeardContent, Heard, OnlyBrings, refuses, says}
+use Rattle.unitdata.specs.Hearing.{Brings, BringsNothing, HeardContent, Heard, refuses, says}
 use Rattle.device.specs.Device.{DeviceState, i_am_of}
 use Rattle.device.specs.Saying.{i_am_parcel, told_of}
-use Rattle.device.specs.declared.device.DeviceTold.{DeviceTold}
+use Rattle.device.specs.declared.plan.DeviceTold.{DeviceTold}
 
 -- where a message comes from, as its server sees it
 abbrev pub origin_of : Heard → Origin
@@ -56,7 +56,6 @@ pub record Hears {A : Type 0} (now : ℕ) (from : Mac) (to : Target) (npdu : Lis
     (told : DeviceTold A) (new : DeviceState A) : Type 0 where
   pub heard : Heard
   pub brings : Brings old.net from to npdu heard
-  pub only : OnlyBrings old.net from to npdu heard
   pub does : Does now (origin_of heard) heard.content old told new
 
 -- an NPDU brings it nothing: nothing is said or executed, and it stays as it is

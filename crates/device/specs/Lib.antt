@@ -1,4 +1,5 @@
 pub mod Device
 pub mod Saying
+pub mod Plan
 pub mod Hearing
 pub mod Laws

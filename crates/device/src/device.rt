@@ -1,27 +1,19 @@
 //! A device on its network: its wake and its restart.
 
 ghost use Rattle.std.specs.Prelude.{◌≡◌};
-ghost use Rattle.device.specs.Device.{i_am_of, size_of};
+ghost use Rattle.device.specs.Device.{i_am_of};
 
+use crate::plan::{DevicePlan, DeviceTold};
 use crate::saying::said_parcels;
 use apdu::{IAm, MaxApdu, Segmentation};
-use npdu::{Mac, Parcel, Station};
+use npdu::{Mac, Station};
 use objects::{SiteObjects, Table};
-use profile::LinkKind;
-use server_tsm::{Executed, ServerTsm};
+use server_tsm::ServerTsm;
 use services::ObjectExecutor;
 use std::alloc::{AllocError, Allocator};
 use std::marker::Model;
-use tags::{Fault, Items};
-
-/// What comes of an input.
-#[derive(Drop)]
-pub struct DeviceTold<A: Allocator> {
-    /// What is said, in order.
-    pub said: Items<Parcel<A>, A>,
-    /// The request that was executed, if one was: its asker, and what the objects replied.
-    pub executed: Option<Executed<A>>,
-}
+use tags::Fault;
+use unitdata::longest_apdu;
 
 /// A device on its network.
 #[derive(Drop)]
@@ -52,23 +44,14 @@ impl<A: Allocator + Copy> Model for Device<A> {
     ghost invariant = { λ d. (d.instance < 2 ^ 22) × (d.max_apdu ≡ d.server.max_apdu) };
 }
 
-/// The longest APDU that a data link carries.
-fn size_of(data_link: LinkKind) -> MaxApdu
-    ensures { result ≡ size_of data_link }
-{
-    match data_link {
-        LinkKind::BacnetIp => MaxApdu::UpTo1476,
-        LinkKind::MsTp => MaxApdu::UpTo480,
-    }
-}
-
 impl<A: Allocator + Copy> Device<A> {
     ghost use Rattle.std.specs.Prelude.{◌≡◌, ◌⊎◌, ◌≤◌, ◌^◌, IfOk, IfErr, OnOk, OnErr};
-    ghost use Rattle.object_model.specs.Site.{IsFaultySite};
+    ghost use Rattle.object_model.specs.Site.{IsFaultySite, IsSite};
     ghost use Rattle.server_tsm.specs.Server.{committed};
     ghost use Rattle.server_tsm.specs.Steps.{told_of_plan};
     ghost use Rattle.server_tsm.specs.Waking.{woken};
     ghost use Rattle.device.specs.Device.{i_am_of, new_device, restarts};
+    ghost use Rattle.device.specs.Plan.{ChangesSomething, IsPlanned, left_by, told_by};
     ghost use Rattle.device.specs.Saying.{told_of};
     ghost use Rattle.profile.specs.Times.{MAX_MOMENT_MS};
 
@@ -79,12 +62,13 @@ impl<A: Allocator + Copy> Device<A> {
     #[tactic(auto, using(crate::proofs::SiteLaws::site_instance))]
     pub fn new(alloc: A, site: SiteObjects<A>, address: Station) -> Result<Self, Fault>
         ensures opened { IfOk result (λ device. device ≡ new_device site address) }
+        ensures sound { OnOk result (IsSite site) }
         ensures refused { IfErr result (λ fault. (fault ≡ Fault.Memory) ⊎
             ((fault ≡ Fault.BadSite) × IsFaultySite site)) }
     {
         let instance = site.instance;
         let vendor = site.vendor;
-        let max_apdu = size_of(site.data_link);
+        let max_apdu = longest_apdu(site.data_link);
         let table = Table::new(alloc, site)?;
         Ok(Device {
             alloc,
@@ -153,7 +137,6 @@ impl<A: Allocator + Copy> Device<A> {
     ///
     /// # Errors
     /// `Memory` alone. The device is then as it was.
-    #[tactic(auto, using(crate::proofs::ServerLaws::size_rules))]
     pub fn on_tick(&mut self, now: u64) -> Result<DeviceTold<A>, Fault>
         requires greatest { now ≤ MAX_MOMENT_MS }
         requires order { self.old.server.moment ≤ now }
@@ -165,9 +148,52 @@ impl<A: Allocator + Copy> Device<A> {
         ensures cause { IfErr result (λ fault. fault ≡ Fault.Memory) }
         ensures unchanged { OnErr result (self.new ≡ self.old) }
     {
+        let plan = self.plan_tick(now)?;
+        self.commit(plan, now)
+    }
+
+    /// What it does when it wakes at the moment `now`, in milliseconds: `commit` does it.
+    ///
+    /// # Errors
+    /// `Memory` alone.
+    pub fn plan_tick(&self, now: u64) -> Result<DevicePlan<A>, Fault>
+        ensures told { IfOk result (λ plan. told_by plan ≡
+            told_of now self.now.mac (told_of_plan (woken now self.now.server.records))) }
+        ensures left { IfOk result (λ plan. left_by now plan self.now ≡ record self.now {
+          server = committed now (woken now self.now.server.records).change self.now.server;
+        }) }
+        ensures planned { IfOk result (IsPlanned now self.now) }
+        ensures cause { IfErr result (λ fault. fault ≡ Fault.Memory) }
+    {
         let plan = self.server.plan_tick(now)?;
         let said = said_parcels(self.alloc, self.mac, now, &plan)?;
-        let executed = self.server.commit(plan, now)?;
+        Ok(DevicePlan {
+            said,
+            server: Some(plan),
+        })
+    }
+
+    /// Does what was planned at the moment `now`, in milliseconds, with no other input between, and answers what is said
+    /// and executed. It takes what memory it must first, and none once anything has changed.
+    ///
+    /// # Errors
+    /// `Memory` alone, and only where something is to change. The device is then as it was.
+    #[tactic(auto, using(crate::proofs::ServerLaws::size_rules))]
+    pub fn commit(&mut self, plan: DevicePlan<A>, now: u64) -> Result<DeviceTold<A>, Fault>
+        requires greatest { now ≤ MAX_MOMENT_MS }
+        requires order { self.old.server.moment ≤ now }
+        requires planned { IsPlanned now self.old plan }
+        ensures told { IfOk result (λ told. told ≡ told_by plan) }
+        ensures left { OnOk result (self.new ≡ left_by now plan self.old) }
+        ensures changes { OnErr result (ChangesSomething plan.server) }
+        ensures cause { IfErr result (λ fault. fault ≡ Fault.Memory) }
+        ensures unchanged { OnErr result (self.new ≡ self.old) }
+    {
+        let DevicePlan { said, server } = plan;
+        let executed = match server {
+            Some(plan) => self.server.commit(plan, now)?,
+            None => None,
+        };
         Ok(DeviceTold { said, executed })
     }
 

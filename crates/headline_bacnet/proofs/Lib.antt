@@ -4,3 +4,4 @@ pub mod Refining
 pub mod Speaking
 pub mod Places
 pub mod Sending
+pub mod Reading

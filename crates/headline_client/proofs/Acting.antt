@@ -6,7 +6,6 @@ use Rattle.std.specs.List.{AllByRecursion}
 use Rattle.apdu.specs.declared.sizes.MaxApdu.{MaxApdu}
 use Rattle.bindings.specs.declared.binding.Binding.{Binding}
 use Rattle.client_tsm.specs.Client.{ClientTsmState, changed_at, changed_if, with_open}
-use Rattle.client_tsm.specs.Hearing.{closing}
 use Rattle.client_tsm.specs.Open.{Open}
 use Rattle.client_tsm.specs.declared.plan.Outcome.{Outcome}
 use Rattle.client_tsm.specs.declared.plan.TransactionOutcome.{TransactionOutcome}
@@ -153,7 +152,7 @@ module _ {A : Type 0} (own : Station → MaxApdu) (s : ObjectSite A) (w : Object
     -- the transaction ends
     pub ends : (says : List (ClientSaid A)) (outcome : Outcome A) → IsAt → CanSayAll own s w c says →
         MayClose (bacnet A) w.book c (safe_transaction own o) (outcome_of outcome) →
-        IsActed says (closing says place o outcome).told (with_open w.book.moment (before ++ behind) st)
+        IsActed says (record { invoke_id = o.invoke_id; outcome = outcome } ∷ []) (with_open w.book.moment (before ++ behind) st)
     ends says outcome at can may =
         let all : AllByRecursion (IsKept c.net) (before ++ o ∷ behind) = subst (λ (l : List (Open A)). AllByRecursion (IsKept c.net) l) was at.kept in
         record {

@@ -1,12 +1,13 @@
 -- What gathers the segments of an answer: which it takes, and what it has then.
 use Rattle.std.proofs.Common.{◌≡◌, refl, ap, ◌∙◌, ℕ, suc, nat_lt, ◌==◌, Bool, true, false, List, ◌++◌, Option, Some, None}
 use Rattle.std.proofs.lemmas.Bool.{eqb-true}
-use Rattle.client_tsm.specs.Hearing.{receiver_of}
+use Rattle.client_tsm.specs.Client.{receiver_of}
 use Rattle.client_tsm.specs.declared.gathering.Gathering.{Gathering}
 use Rattle.segments.specs.Receiver.{ReceiverState, joining_after, joins, may_nak, step_of, step_on, step_out_of_order}
 use Rattle.segments.specs.declared.step.Step.{Step}
 use Rattle.segments.specs.declared.step.Step.TheVariants.{Taken, Nak}
-use Rattle.headline_client.specs.Safe.{got_of, pieces_of}
+use Rattle.client_tsm.specs.Open.{got_of}
+use Rattle.headline_client.specs.Safe.{pieces_of}
 
 not_taken : (is_begun may_nak : Bool) (j : ReceiverState) (ack : Option ℕ) → step_out_of_order is_begun may_nak j ≡ Taken ack → ⊥
 not_taken false may_nak j ack e = cc e

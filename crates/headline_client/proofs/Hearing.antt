@@ -11,19 +11,19 @@ use Rattle.apdu.specs.declared.apdu.Segment.{Segment}
 use Rattle.apdu.specs.declared.sizes.MaxApdu.{MaxApdu}
 use Rattle.bindings.specs.declared.binding.Binding.{Binding}
 use Rattle.client_tsm.specs.Asking.{asked_by}
-use Rattle.client_tsm.specs.Client.{ClientTsmState, committed, gathers_on, heard_at, renews, sends_on}
+use Rattle.client_tsm.specs.Client.{ClientTsmState, committed, gathered_at, gathers, heard_at, receiver_of, renews, sends_on}
 use Rattle.client_tsm.specs.Hearing as tsm
 use Rattle.client_tsm.specs.Hearing.{Message, answers, answers_in_part, acknowledges, closes, nothing, Heard, Reached, plans, completes, Whole, ack_heard}
-use Rattle.client_tsm.specs.Hearing.{ack_if, ack_said, asked_told, finished, is_asked, gathered_at, gathered_by, of_service, place_of, quiet, reached}
-use Rattle.client_tsm.specs.Hearing.{receiver_of, renewed_if, taken_if, told_at, told_open, told_where, turned_by}
+use Rattle.client_tsm.specs.Hearing.{ack_if, ack_said, asked_told, finished, is_asked, gathered_by, of_service, place_of, quiet, reached}
+use Rattle.client_tsm.specs.Hearing.{renewed_if, taken_if, Taking, told_at, told_open, told_where, turned_by, whole_with, window_for}
 use Rattle.bindings.specs.Limits.{request_chunk}
-use Rattle.client_tsm.specs.Open.{Open, goes_on, takes}
+use Rattle.client_tsm.specs.Open.{Open, goes_on, got_of, takes}
 use Rattle.client_tsm.specs.Steps.{IsFound, IsMeant, IsPlan}
 use Rattle.client_tsm.specs.declared.gathering.Gathering.{Gathering}
-use Rattle.client_tsm.specs.declared.plan.ClientChange.TheVariants.{Renews}
+use Rattle.client_tsm.specs.declared.plan.ClientTsmChange.TheVariants.{Renews}
 use Rattle.client_tsm.specs.declared.plan.Outcome.{Outcome}
 use Rattle.client_tsm.specs.declared.plan.Outcome.TheVariants.{Answered, Aborted, Rejected, TimedOut}
-use Rattle.client_tsm.specs.declared.plan.ClientPlan.{ClientPlan}
+use Rattle.client_tsm.specs.declared.plan.ClientTsmPlan.{ClientTsmPlan}
 use Rattle.client_tsm.specs.declared.said.ClientSaid.{ClientSaid}
 use Rattle.headline.specs.Honest.{IsHeard}
 use Rattle.headline.specs.Stations.{Transaction}
@@ -44,7 +44,7 @@ use Rattle.services.specs.Asked.{service_asked}
 use Rattle.services.specs.Contents.{PlainAnswer, complex}
 use Rattle.headline_client.specs.Kept.{CutsIn, IsKept}
 use Rattle.headline_bacnet.specs.Refined.{ObjectSite, ObjectCore}
-use Rattle.headline_client.specs.Safe.{got_of, pieces_of, safe_transaction}
+use Rattle.headline_client.specs.Safe.{pieces_of, safe_transaction}
 use Rattle.headline_client.proofs.Acting.{IsActed, IsAt, changes, ends, stays, still_heard}
 use Rattle.headline_client.proofs.Gathered.{next_nak, next_seen, next_taken, octets_nak, octets_seen, octets_taken, taken_is_next}
 use Rattle.headline_client.proofs.Places.{all_at, has_map}
@@ -93,12 +93,16 @@ taker {A} now from h st place e =
 module _ {A : Type 0} (own : Station → MaxApdu) (s : ObjectSite A) (w : ObjectCore A) (c : Station) (bindings : List Binding) (st : ClientTsmState A)
     (at : IsAt own s w c bindings st) where
   -- a step with this plan is honest
-  abbrev pub Honest : ClientPlan A → Type 0
+  abbrev pub Honest : ClientTsmPlan A → Type 0
   Honest plan = IsActed own s w c bindings st plan.said plan.told (committed w.book.moment plan.change st)
 
   -- a message that was heard
   module _ (m : book.Message Station) (heard : IsHeard w.book c m) (place : ℕ) (o : Open A) (there : slice_get st.open_ones place ≡ Some o)
       (early : w.book.moment < o.at + DEADLINE_MS) where
+    -- it takes what is heard
+    abbrev it : Taking A
+    it = record { moment = w.book.moment; place = place; transaction = o }
+
     its : IsKept c.net o
     its = all_at (IsKept c.net) st.open_ones place o at.kept there
 
@@ -110,9 +114,9 @@ module _ {A : Type 0} (own : Station → MaxApdu) (s : ObjectSite A) (w : Object
       early = early;
     }
 
-    acks_may : (ack : Option ℕ) (j : ReceiverState) → CanSayAll own s w c (ack_if ack j o)
-    acks_may None j = silent own s w c
-    acks_may (Some number) j = can_acknowledge own s w c o.way false o.invoke_id number j.window
+    acks_may : (ack : Option ℕ) (segment : Segment) → CanSayAll own s w c (ack_if ack o segment)
+    acks_may None segment = silent own s w c
+    acks_may (Some number) segment = can_acknowledge own s w c o.way false o.invoke_id number (window_for o segment)
 
     -- segments renewed are as many as before
     same_gathered : (g : Option (Gathering A)) (now : ℕ) →
@@ -132,7 +136,7 @@ module _ {A : Type 0} (own : Station → MaxApdu) (s : ObjectSite A) (w : Object
 
     -- an answer that came whole
     whole_arm : (service : ℕ) (contents : PlainAnswer) → service ≡ service_asked o.request → IsAnswer o.invoke_id service contents m.body →
-        (found : Option (Reply A)) → IsMeant o.request contents found → Honest (finished (tsm.whole_heard place o contents) found)
+        (found : Option (Reply A)) → IsMeant o.request contents found → Honest (finished (tsm.whole_heard it contents) found)
     whole_arm service contents same is None means = stays own s w c bindings st [] at (silent own s w c)
     whole_arm service contents same is (Some reply) means = ends own s w c bindings st place o there [] (Answered reply) at (silent own s w c) (
       is.answer,
@@ -170,45 +174,45 @@ module _ {A : Type 0} (own : Station → MaxApdu) (s : ObjectSite A) (w : Object
           ∙ ap (λ b. Tells_piece o.invoke_id (pieces_of o.gathering) b octets) f
 
       taken_arm : (ack : Option ℕ) → step ≡ Taken ack → (more : Bool) → segment.more_follows ≡ more → (found : Option (Reply A)) →
-          IsFound (taken_if more w.book.moment (ack_if ack joined o) place o joined) found →
-          Honest (finished (taken_if more w.book.moment (ack_if ack joined o) place o joined) found)
-      taken_arm ack e true f found means = changes own s w c bindings st place o there (ack_if ack joined o)
-          (gathers_on (Some (record { receiver = joined; at = w.book.moment }))) at (acks_may ack joined)
+          IsFound (taken_if more (ack_if ack o segment) it segment octets) found →
+          Honest (finished (taken_if more (ack_if ack o segment) it segment octets) found)
+      taken_arm ack e true f found means = changes own s w c bindings st place o there (ack_if ack o segment)
+          (gathers w.book.moment segment octets) at (acks_may ack segment)
           (inr (inr (record {
             message = m;
             more = true;
             octets = octets;
-            heard = still_heard own s w c (ack_if ack joined o) m heard;
+            heard = still_heard own s w c (ack_if ack o segment) m heard;
             body = told_next ack e true f;
             joined = ap (λ n. record (safe_transaction own o) { pieces = n; got = joined.octets }) (counted ack e)
                 ∙ ap (λ (l : List ℕ). record (safe_transaction own o) { pieces = suc (pieces_of o.gathering); got = l }) (behind_it ack e);
           })))
           (record { leads = its.leads; wide = its.wide; few = its.few; cut = tt; code = its.code })
-      taken_arm ack e false f None means = renewed (ack_if ack joined o) (acks_may ack joined)
-      taken_arm ack e false f (Some reply) means = ends own s w c bindings st place o there (ack_if ack joined o) (Answered reply) at (acks_may ack joined) (
+      taken_arm ack e false f None means = renewed (ack_if ack o segment) (acks_may ack segment)
+      taken_arm ack e false f (Some reply) means = ends own s w c bindings st place o there (ack_if ack o segment) (Answered reply) at (acks_may ack segment) (
         Complex (got_of o.gathering ++ octets),
         inr (record { message = m; octets = octets; heard = heard; body = told_next ack e false f; whole = refl }),
-        record { contents = complex joined.octets; has = sym (behind_it ack e); means = means },
+        record { contents = complex (whole_with octets o); has = refl; means = means },
       )
 
-      nak_arm : (number : ℕ) → step ≡ Nak number → Honest (tsm.gathered w.book.moment (ack_said true number joined o ∷ []) place joined)
-      nak_arm number e = changes own s w c bindings st place o there (ack_said true number joined o ∷ [])
-          (gathers_on (Some (record { receiver = joined; at = w.book.moment }))) at (can_acknowledge own s w c o.way true o.invoke_id number joined.window)
+      nak_arm : (number : ℕ) → step ≡ Nak number → Honest (tsm.gathered (ack_said true number o segment ∷ []) it segment octets)
+      nak_arm number e = changes own s w c bindings st place o there (ack_said true number o segment ∷ [])
+          (gathers w.book.moment segment octets) at (can_acknowledge own s w c o.way true o.invoke_id number (window_for o segment))
           (inl (ap (λ n. record (safe_transaction own o) { pieces = n; got = joined.octets })
           (next_nak w.book.moment segment.sequence_number segment.more_follows octets before_it number e ∙ next_seen o.gathering segment.window)
           ∙ ap (λ (l : List ℕ). record (safe_transaction own o) { got = l })
           (octets_nak w.book.moment segment.sequence_number segment.more_follows octets before_it number e ∙ octets_seen o.gathering segment.window)))
           (record { leads = its.leads; wide = its.wide; few = its.few; cut = tt; code = its.code })
 
-      gathered_arm : (x : Step) → step ≡ x → (found : Option (Reply A)) → IsFound (gathered_by x segment.more_follows w.book.moment place o joined) found →
-          Honest (finished (gathered_by x segment.more_follows w.book.moment place o joined) found)
+      gathered_arm : (x : Step) → step ≡ x → (found : Option (Reply A)) → IsFound (gathered_by x it segment octets) found →
+          Honest (finished (gathered_by x it segment octets) found)
       gathered_arm (Taken ack) e found means = taken_arm ack e segment.more_follows refl found means
       gathered_arm (Nak number) e found means = nak_arm number e
       gathered_arm Dropped e found means = renewed_or_not o.gathering
       gathered_arm Full e found means = ends own s w c bindings st place o there [] TimedOut at (silent own s w c) tt
 
     -- a SegmentACK of the request
-    turned_arm : (t : Turn) (cut : SenderState) → CutsIn (request_chunk o.max_apdu) (Some cut) → Honest (turned_by t place o cut)
+    turned_arm : (t : Turn) (cut : SenderState) → CutsIn (request_chunk o.max_apdu) (Some cut) → Honest (turned_by t it cut)
     turned_arm turn.Waits cut cuts = stays own s w c bindings st [] at (silent own s w c)
     turned_arm turn.Sends cut cuts = changes own s w c bindings st place o there (asked_by (Some cut) o) (sends_on w.book.moment (Some cut)) at
         (can_ask_all own s w c o (Some cut) may_ask cuts) (inl refl)
@@ -217,14 +221,14 @@ module _ {A : Type 0} (own : Station → MaxApdu) (s : ObjectSite A) (w : Object
         (record { leads = its.leads; wide = its.wide; few = its.few; cut = tt; code = its.code })
 
     ack_arm : (sending : Option SenderState) → o.sending ≡ sending → (negative : Bool) (number window : ℕ) →
-        Honest (ack_heard sending w.book.moment place o negative number window)
+        Honest (ack_heard sending it negative number window)
     ack_arm None e negative number window = stays own s w c bindings st [] at (silent own s w c)
     ack_arm (Some cut) e negative number window =
         turned_arm (hears w.book.moment number window negative cut).turn (hears w.book.moment number window negative cut).state
         (hears_cut w.book.moment number window negative cut ∙ subst (λ x. CutsIn (request_chunk o.max_apdu) x) e its.cut)
 
     -- an end
-    closes_arm : (outcome : Outcome A) → IsEnd outcome → Honest (tsm.closing [] place o outcome)
+    closes_arm : (outcome : Outcome A) → IsEnd outcome → Honest (tsm.closing [] it outcome)
     closes_arm (Answered reply) end = absurd end
     closes_arm (Aborted reason) end = ends own s w c bindings st place o there [] (Aborted reason) at (silent own s w c) tt
     closes_arm (Rejected reason) end = ends own s w c bindings st place o there [] (Rejected reason) at (silent own s w c) tt
@@ -232,7 +236,7 @@ module _ {A : Type 0} (own : Station → MaxApdu) (s : ObjectSite A) (w : Object
 
     -- by what is heard
     asked_arm : (x : Message A) → is_asked x o ≡ true → IsBody o.invoke_id x m.body → (found : Option (Reply A)) →
-        IsFound (asked_told w.book.moment place o x) found → Honest (finished (asked_told w.book.moment place o x) found)
+        IsFound (asked_told it x) found → Honest (finished (asked_told it x) found)
     asked_arm (answers service contents) same is found means = whole_arm service contents (eqb-true service (service_asked o.request) same) is found means
     asked_arm (answers_in_part service segment octets) same is found means = gathered_arm segment octets is (step segment octets is) refl found means
     asked_arm (acknowledges negative number window) same is found means = ack_arm o.sending refl negative number window
@@ -240,7 +244,7 @@ module _ {A : Type 0} (own : Station → MaxApdu) (s : ObjectSite A) (w : Object
     asked_arm nothing same is found means = stays own s w c bindings st [] at (silent own s w c)
 
     told_arm : (x : Message A) (b : Bool) → is_asked x o ≡ b → IsBody o.invoke_id x m.body → (found : Option (Reply A)) →
-        IsFound (of_service b (asked_told w.book.moment place o x)) found → Honest (finished (of_service b (asked_told w.book.moment place o x)) found)
+        IsFound (of_service b (asked_told it x)) found → Honest (finished (of_service b (asked_told it x)) found)
     told_arm x true same is found means = asked_arm x same is found means
     told_arm x false same is found means = stays own s w c bindings st [] at (silent own s w c)
 
@@ -256,6 +260,6 @@ module _ {A : Type 0} (own : Station → MaxApdu) (s : ObjectSite A) (w : Object
         (λ g. told_arm m heard place f.item f.there f.early h.message (is_asked h.message f.item) refl (subst (λ n. IsBody n h.message m.body) (sym f.id) is)
         found g) means
 
-    pub plan_arm : (plan : ClientPlan A) → IsPlan w.book.moment from h st plan → Honest plan
-    plan_arm plan planned = subst (λ (x : ClientPlan A). Honest x) (sym planned.is)
+    pub plan_arm : (plan : ClientTsmPlan A) → IsPlan w.book.moment from h st plan → Honest plan
+    plan_arm plan planned = subst (λ (x : ClientTsmPlan A). Honest x) (sym planned.is)
         (where_arm (place_of w.book.moment from h.invoke_id st.open_ones) refl planned.found planned.means)

@@ -1,7 +1,7 @@
 -- What a client does on an NPDU is honest, where what it brings was said.
 use Rattle.std.proofs.Common.{inl, inr, ◌≡◌, ⊎_elim, refl, sym, ap, subst, ◌∙◌, ℕ, true, false, List, [], map, Some, None}
 use Rattle.std.specs.List.{AllByRecursion}
-use Rattle.apdu.specs.Apdu.{PlainApdu, apdu_of, HasNamedNumbers}
+use Rattle.apdu.specs.Apdu.{PlainApdu, apdu_of, invoke_id_of, HasNamedNumbers}
 use Rattle.apdu.specs.Apdu as plain
 use Rattle.apdu.specs.declared.apdu.Apdu.{Apdu}
 use Rattle.apdu.specs.declared.apdu.Apdu.TheVariants as apdu
@@ -11,14 +11,14 @@ use Rattle.client.specs.Client.{ClientState}
 use Rattle.client.specs.Hearing.{ClientHears, Does, Holds, Ignores, Introduces, Learnt, Transacts}
 use Rattle.client.specs.Saying.{told_of}
 use Rattle.bindings.specs.declared.binding.Binding.{Binding}
-use Rattle.client.specs.declared.client.ClientTold.{ClientTold}
+use Rattle.client.specs.declared.plan.ClientTold.{ClientTold}
 use Rattle.client_tsm.specs.Client.{ClientTsmState, committed}
-use Rattle.client_tsm.specs.Hearing.{heard_of, invoke_id_of, message_of}
+use Rattle.client_tsm.specs.Hearing.{heard_of, message_of}
 use Rattle.apdu.specs.Sizes.{apdu_code}
 use Rattle.bindings.specs.Accepts.{PlainAccepts}
-use Rattle.client_tsm.specs.declared.plan.ClientChange.{ClientChange}
-use Rattle.client_tsm.specs.declared.plan.ClientChange.TheVariants.{Stays, Opens, Sends, Gathers, Renews, Ends, Wakes}
-use Rattle.std.specs.Prelude.{◌<◌}
+use Rattle.client_tsm.specs.declared.plan.ClientTsmChange.{ClientTsmChange}
+use Rattle.client_tsm.specs.declared.plan.ClientTsmChange.TheVariants.{Stays, Opens, Sends, Gathers, Renews, Ends, Wakes}
+use Rattle.std.specs.Prelude.{◌<◌, unwrap_or}
 use Rattle.client_tsm.specs.Steps.{told_of_plan}
 use Rattle.client_tsm.specs.declared.plan.ClientTsmTold.{ClientTsmTold}
 use Rattle.history.specs.Book.{Body, Simple, Complex, Failed}
@@ -43,7 +43,7 @@ use Rattle.headline_bacnet.proofs.Places.{led_back}
 
 -- what an APDU says to a client is what it says for the book
 pub body_is : (A : Type 0) (own : MaxApdu) (a : Apdu) (body : Body) → HasNamedNumbers a → Says own (apdu_of a) body →
-    IsBody {A = A} (invoke_id_of a) (message_of a) body
+    IsBody {A = A} (unwrap_or (invoke_id_of (apdu_of a)) 0) (message_of a) body
 body_is A own (apdu.ConfirmedRequest segment accepted max_segments max_apdu invoke service octets) body named told = tt
 body_is A own (apdu.UnconfirmedRequest service octets) body named told = tt
 body_is A own (apdu.SimpleAck invoke service) body named told = record { answer = Simple; is = told; has = tt }
@@ -57,11 +57,11 @@ body_is A own (apdu.Abort true invoke reason) body named told = tt
 body_is A own (apdu.Abort false invoke reason) body named told = tt
 
 -- what a client takes stays
-pub accepts_stay : {A : Type 0} (now : ℕ) (change : ClientChange A) (st : ClientTsmState A) → (committed now change st).accepts ≡ st.accepts
+pub accepts_stay : {A : Type 0} (now : ℕ) (change : ClientTsmChange A) (st : ClientTsmState A) → (committed now change st).accepts ≡ st.accepts
 accepts_stay now Stays st = refl
 accepts_stay now (Opens o) st = refl
 accepts_stay now (Sends place sending) st = refl
-accepts_stay now (Gathers place g) st = refl
+accepts_stay now (Gathers place segment octets) st = refl
 accepts_stay now (Renews place) st = refl
 accepts_stay now (Ends place) st = refl
 accepts_stay now Wakes st = refl

@@ -9,3 +9,4 @@ mod Issuing
 pub mod Learning
 pub mod Hears
 pub mod Laws
+pub mod Heard

@@ -4,7 +4,7 @@ use Rattle.std.specs.Prelude.{ℕ, List, []}
 use Rattle.apdu.specs.Apdu.{confirmed, unconfirmed, simple_ack, complex_ack, segment_ack, error_pdu, reject_pdu, abort_pdu}
 use Rattle.client.specs.Client.{ClientState}
 use Rattle.client.specs.Hearing.{ClientHears, Does}
-use Rattle.client.specs.declared.client.ClientTold.{ClientTold}
+use Rattle.client.specs.declared.plan.ClientTold.{ClientTold}
 use Rattle.client_tsm.specs.declared.said.ClientSaid.{ClientSaid}
 use Rattle.npdu.specs.declared.mac.Mac.{Mac}
 use Rattle.npdu.specs.declared.mac.Station.{Station}

@@ -1,15 +1,16 @@
 -- Each step of a client is a list of honest happenings.
 use Rattle.std.specs.Prelude.{◌≡◌, ◌<◌, ℕ, Bool, List, [], ◌∷◌, ◌++◌, None}
 use Rattle.std.specs.List.{AllByRecursion}
-use Rattle.apdu.specs.ApduWriting.{CanBeWritten}
+use Rattle.apdu.specs.Apdu.{PlainApdu, Spells}
+use Rattle.apdu.specs.ApduWriting.{CanBeWritten, canonical}
 use Rattle.apdu.specs.Sizes.{apdu_code}
 use Rattle.apdu.specs.declared.sizes.MaxApdu.{MaxApdu}
 use Rattle.client.specs.Client.{ClientState, new_client}
 use Rattle.client.specs.Hearing.{ClientHears}
 use Rattle.client.specs.Issuing.{Issues, refusal}
 use Rattle.client.specs.Saying.{parcels_of}
-use Rattle.client.specs.declared.client.ClientIssued.{ClientIssued}
-use Rattle.client.specs.declared.client.ClientTold.{ClientTold}
+use Rattle.client.specs.declared.plan.ClientIssued.{ClientIssued}
+use Rattle.client.specs.declared.plan.ClientTold.{ClientTold}
 use Rattle.client_tsm.specs.Client.{committed}
 use Rattle.client_tsm.specs.Issuing.{issued}
 use Rattle.client_tsm.specs.Open.{Open}
@@ -26,6 +27,7 @@ use Rattle.npdu.specs.declared.mac.Mac.{Mac}
 use Rattle.npdu.specs.declared.mac.Station.{Station}
 use Rattle.npdu.specs.declared.mac.Target.{Target}
 use Rattle.npdu.specs.declared.parcel.Parcel.{Parcel}
+use Rattle.headline_bacnet.specs.Bodies.{Says, body_of}
 use Rattle.headline_bacnet.specs.Network.{BringsWhatWasSaid}
 use Rattle.headline_bacnet.specs.Protocol.{bacnet}
 use Rattle.headline_bacnet.specs.Refined.{ObjectSite, Refined, ObjectCore}
@@ -120,3 +122,9 @@ StartsWell A = (own : Station → MaxApdu) (address : Station) (segmented : Bool
     apdu_code max_apdu < 16 →
     (safe_client own (new_client {A = A} address segmented max_apdu) ≡ safe.new_client)
     × IsWellKept (new_client {A = A} address segmented max_apdu)
+
+-- what is read of what a client says is what it says, to any station: of a request, as a device sees it whose own greatest
+-- APDU is this (20.1)
+abbrev pub SaidIsHeard : Type 0 → Type 0
+SaidIsHeard A = (own : MaxApdu) (x : ClientSaid A) (a : PlainApdu) → CanWrite x → Spells (canonical (said_apdu x)) a →
+    Says own a (body_of own (said_apdu x))

@@ -7,7 +7,7 @@ use Rattle.bindings.specs.declared.binding.Binding.{Binding}
 use Rattle.bindings.specs.Accepts.{PlainAccepts}
 use Rattle.client_tsm.specs.Client.{ClientTsmState}
 use Rattle.bindings.specs.Limits.{request_chunk}
-use Rattle.client_tsm.specs.Open.{Open}
+use Rattle.client_tsm.specs.Open.{Open, got_of}
 use Rattle.client_tsm.specs.declared.gathering.Gathering.{Gathering}
 use Rattle.headline.specs.Stations as safe
 use Rattle.npdu.specs.declared.mac.Station.{Station}
@@ -19,11 +19,6 @@ use Rattle.server_answers.specs.Limits.{answer_chunk}
 abbrev pub pieces_of : {A : Type 0} → Option (Gathering A) → ℕ
 pieces_of None = 0
 pieces_of (Some g) = g.receiver.next
-
--- the octets of the segments that came
-abbrev pub got_of : {A : Type 0} → Option (Gathering A) → List ℕ
-got_of None = []
-got_of (Some g) = g.receiver.octets
 
 -- how many octets of an answer go in a segment from a device whose own greatest APDU is this, to a client that takes
 -- that

@@ -11,7 +11,7 @@
 //! - `Laws`: what the functions here state.
 #![tactic(auto)]
 
-ghost use Rattle.headline_client.specs.Laws.{HearingIsHonest, IssueIsHonest, StartsWell, WakingIsHonest, WhoIsIsHonest};
+ghost use Rattle.headline_client.specs.Laws.{HearingIsHonest, IssueIsHonest, SaidIsHeard, StartsWell, WakingIsHonest, WhoIsIsHonest};
 
 use std::alloc::Allocator;
 
@@ -38,4 +38,9 @@ pub fn who_is_is_honest<A: Allocator>()
 /// A client at its start is what safety knows of one that has done nothing.
 pub fn starts_well<A: Allocator>()
     ensures { StartsWell A }
+{}
+
+/// What is read of what a client says, says just that.
+pub fn said_is_heard<A: Allocator>()
+    ensures { SaidIsHeard A }
 {}

@@ -3,7 +3,7 @@ use Rattle.std.proofs.Common.{◌≡◌, ◌≢◌, ◌∙◌, inl, inr, refl, s
 use Rattle.apdu.specs.Apdu.{PlainApdu, abort_pdu, complex_ack, confirmed, error_pdu, reject_pdu, segment_ack, simple_ack, unconfirmed}
 use Rattle.device.specs.Device.{DeviceState}
 use Rattle.device.specs.Hearing.{AnswersWho, Does, Hears, Serves, origin_of, says_who, silence}
-use Rattle.device.specs.declared.device.DeviceTold.{DeviceTold}
+use Rattle.device.specs.declared.plan.DeviceTold.{DeviceTold}
 use Rattle.headline.specs.Protocol.{Site}
 use Rattle.npdu.specs.declared.mac.Mac.{Mac}
 use Rattle.npdu.specs.declared.mac.Station.{Station}
@@ -21,6 +21,7 @@ use Rattle.headline_bacnet.specs.Network.{BringsWhatWasSaid, WasSaid}
 use Rattle.headline_bacnet.specs.Refined.{ObjectCore}
 use Rattle.headline_server.specs.Refines.{served}
 use Rattle.headline_server.specs.Safe.{safe_device}
+use Rattle.server_tsm.proofs.Kept.{kept_none}
 use Rattle.server_tsm.specs.Server.{ServerTsmState}
 use Rattle.server_tsm.specs.Waking.{woken}
 use Rattle.server_answers.specs.declared.plan.ServerTold.{ServerTold}
@@ -149,7 +150,7 @@ opens_at_start {A} s objects address instance opening = record {
   instance = instance;
   served = record {
     device = ap (λ (t : PlainTable A). record { records = []; gatherings = []; table = t; deaf_until = 0 }) opening;
-    well = record { sayable = tt; distinct = tt; timely = record { ascending = tt; past = tt } };
+    well = record { sayable = tt; kept = kept_none 0 };
     order = omega arith;
   };
 }

@@ -5,7 +5,7 @@ use Rattle.apdu.specs.Apdu.{abort_pdu, complex_ack, confirmed, error_pdu, reject
 use Rattle.device.specs.Device.{DeviceState, new_device, restarts}
 use Rattle.device.specs.Hearing.{AnswersWho, DeviceHears, Does, origin_of, says_who, silence}
 use Rattle.device.specs.Saying.{told_of}
-use Rattle.device.specs.declared.device.DeviceTold.{DeviceTold}
+use Rattle.device.specs.declared.plan.DeviceTold.{DeviceTold}
 use Rattle.headline.specs.Happenings as core
 use Rattle.history.specs.Book.{Broadcast, I_am}
 use Rattle.npdu.specs.declared.mac.Mac.{Mac}

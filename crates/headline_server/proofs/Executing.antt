@@ -1,9 +1,9 @@
 -- A whole request that is rejected, aborted or executed is a list of honest happenings, and so is each step of a server.
 use Rattle.std.proofs.Common.{◌≡◌, ◌∙◌, ◌⊎◌, inl, inr, ⊎_elim, refl, sym, ap, subst, ℕ, ◌+◌, ◌≤◌, Bool, true, false, List, [], ◌∷◌, ◌++◌, map, Some, None}
 use Rattle.std.proofs.Common.{arith}
-use Rattle.std.specs.Prelude.{Option, Result, Ok, Err}
+use Rattle.std.specs.Prelude.{Option, Result, Ok, Err, unwrap_or}
 use Rattle.std.specs.List.{AllByRecursion}
-use Rattle.apdu.specs.Apdu.{apdu_of, HasNamedNumbers}
+use Rattle.apdu.specs.Apdu.{apdu_of, invoke_id_of, HasNamedNumbers}
 use Rattle.apdu.specs.declared.apdu.Apdu.{Apdu}
 use Rattle.apdu.specs.declared.apdu.Apdu.TheVariants as apdu
 use Rattle.apdu.specs.declared.apdu.Segment.{Segment}
@@ -30,26 +30,26 @@ use Rattle.remembered.specs.declared.record.Record.{Record}
 use Rattle.services.specs.Asked.{replied}
 use Rattle.services.specs.Request.{SpellsRequest}
 use Rattle.headline_server.proofs.Going.{execution_refines, gathered_had, gives_up_on, quiet_refines}
-use Rattle.headline_server.proofs.Keeping.{Fits, FitsExecution}
+use Rattle.headline_server.proofs.Keeping.{Fits}
 use Rattle.headline_server.proofs.Listed.{all_both, all_so, has_map, map_has}
 use Rattle.headline_server.proofs.Records.{forgotten_has, kept_has, none_living, so_lives}
 use Rattle.headline_server.proofs.Saying.{IsHonestlySaid, IsNoAnswer, CanTell, answer_told, free_said}
 use Rattle.headline_server.proofs.Sending.{answer_is, begun_sent, chunk_holds, fitted_cut}
 use Rattle.headline_server.proofs.Staying.{no_site, still_served}
 use Rattle.headline_server.proofs.Served.{IsComplete, IsInput, IsReachedWell, reached_well}
+use Rattle.headline_server.specs.Keeping.{IsSayable}
 use Rattle.headline_server.specs.Laws.{IsHeardFrom, IsServed, MayBeExecuted, StepKeeps, StepRefines, ToldMayBeExecuted}
 use Rattle.headline_server.specs.Refines.{served}
 use Rattle.headline_server.specs.Safe.{safe_device, safe_record}
 use Rattle.server_answers.specs.Answering.{answer_of, answered_by, record_of}
 use Rattle.server_tsm.specs.Hearing.{Message as Input, Reached, Whole, acknowledges, asker_of, asks, completes, executing, executing_if, finished, finished_by}
-use Rattle.server_tsm.specs.Hearing.{gives_up, heard_of, invoke_id_of, message_of, of_client, plans, reached}
+use Rattle.server_tsm.specs.Hearing.{gives_up, heard_of, message_of, of_client, plans, reached}
 use Rattle.server_answers.specs.Limits.{answer_chunk}
-use Rattle.server_answers.specs.Plan.{ServerPlan}
+use Rattle.server_answers.specs.Plan.{ServerPlan, GivesUp, Executes}
 use Rattle.server_tsm.specs.Server.{ServerTsmState, committed, stamped}
-use Rattle.server_tsm.specs.Steps.{IsFound, IsPlan, IsStep, Means, told_of_plan}
+use Rattle.server_tsm.specs.Steps.{IsFound, IsPlan, IsStep, Means, on_heard, told_of_plan}
 use Rattle.server_answers.specs.declared.asked.AnswerLimits.{AnswerLimits}
 use Rattle.server_answers.specs.declared.asked.Origin.{Origin}
-use Rattle.server_answers.specs.declared.plan.ServerChange.TheVariants.{GivesUp, Executes}
 use Rattle.server_answers.specs.declared.plan.ServerTold.{ServerTold}
 use Rattle.server_answers.specs.declared.plan.Executed.{Executed}
 use Rattle.server_answers.specs.declared.said.ServerSaid.{ServerSaid}
@@ -122,7 +122,7 @@ module _ {A : Type 0} (s : Site Station (PlainTable A)) (w : ObjectCore A) (d : 
     listens = h.listens;
     anew = λ k there client key young.
         let r = map_has safe_record st.records k there in
-        none_living w.book.moment x.asked.asker st.records r.0 v.well.timely.ascending h.none r.1
+        none_living w.book.moment x.asked.asker st.records r.0 v.well.kept.timely.ascending h.none r.1
         (asker_is r.0.asker x.asked.asker (ap (λ (z : seen.Record Station). z.client) r.2 ∙ client) (ap (λ (z : seen.Record Station). z.invoke_id) r.2 ∙ key))
         (subst (λ (z : seen.Record Station). w.book.moment ≤ z.moment + KEEP_MS) (sym r.2) young);
     room = refl;
@@ -190,15 +190,12 @@ module _ {A : Type 0} (s : Site Station (PlainTable A)) (w : ObjectCore A) (d : 
   finished_refines (completes x) (Some found) h f = found_refines found x h f
 
   -- what is executed is kept well
-  run_fits : (x : Whole A) (q : Request A) → IsComplete s w d st v x → FitsExecution d.net w.book.moment st (run_record x q)
+  run_fits : (x : Whole A) (q : Request A) → IsComplete s w d st v x → IsSayable d.net (run_record x q)
   run_fits x q h =
       let chunk = answer_chunk st.max_apdu x.asked.limits in
       let few = fitted_cut x.asked.limits chunk (answer_of q (replied st.table q)) in
       let one = chunk_holds st.max_apdu x.asked.limits in
-      record {
-        sayable = record { chunk = one; way = h.way; cut = few; sent = begun_sent w.book.moment chunk (run_record x q).answer one few };
-        none = h.none;
-      }
+      record { chunk = one; way = h.way; cut = few; sent = begun_sent w.book.moment chunk (run_record x q).answer one few }
 
   executing_fits : (full : Bool) (x : Whole A) (q : Request A) → IsComplete s w d st v x →
       Fits d.net w.book.moment st (executing_if full w.book.moment x.says x.asked q st).change
@@ -228,7 +225,7 @@ module _ {A : Type 0} (s : Site Station (PlainTable A)) (w : ObjectCore A) (d : 
   client_input false m id input h = h
 
   heard_input : (a : Apdu) (m : Message Station) → HasNamedNumbers a → Says st.max_apdu (apdu_of a) m.body →
-      IsInput s w d st v m (invoke_id_of a) (message_of a)
+      IsInput s w d st v m (unwrap_or (invoke_id_of (apdu_of a)) 0) (message_of a)
   heard_input (apdu.ConfirmedRequest segment accepted segments size id service octets) m named e =
       request_input m id segment (record { segmented = accepted; max_segments = segments; max_apdu = size }) service octets.now
       (e ∙ ap (λ (z : MaxApdu). request_body segment id (head_of st.max_apdu (record { segmented = accepted; max_segments = segments; max_apdu = z }) service)
@@ -290,7 +287,7 @@ module _ {A : Type 0} (s : Site Station (PlainTable A)) (w : ObjectCore A) (d : 
       let p = step.planned in
       let fits = subst (λ (z : ServerPlan A). Fits d.net w.book.moment st z.change) (sym p.is)
       (finished_fits (reached w.book.moment from (heard_of a) st) p.found (heard_well from a h) p.means) in
-      still_served w d st left server_told step.plan.change v step.left_is fits
+      still_served w d st left server_told step.plan v (on_heard from (heard_of a) p) step.left_is fits
 
 -- what any server executes may be executed
 pub told_may_be_executed : {A : Type 0} → ToldMayBeExecuted A

@@ -13,6 +13,7 @@ use Rattle.history.specs.Lists.{Has}
 use Rattle.profile.specs.Times.{KEEP_MS}
 use Rattle.history.specs.declared.Entry.TheVariants.{Executed}
 use Rattle.history.proofs.Lists.{filter_has, has_split}
+use Rattle.apdu.specs.declared.apdu.Segment.{Segment}
 use Rattle.apdu.specs.declared.sizes.MaxApdu.{MaxApdu}
 use Rattle.npdu.specs.declared.mac.Station.{Station}
 use Rattle.headline_bacnet.specs.Laws.{object_laws}
@@ -31,12 +32,12 @@ use Rattle.headline_server.proofs.Records.{forgotten_has, kept_has, safe_all_sai
 use Rattle.headline_server.proofs.Saying.{IsHonestlySaid, all_said}
 use Rattle.headline_server.specs.Refines.{message_of, served, told_by}
 use Rattle.headline_server.specs.Safe.{safe_gathering, safe_device, safe_record}
-use Rattle.server_answers.specs.Plan.{ServerPlan}
-use Rattle.server_answers.specs.Gathering.{is_kept}
+use Rattle.server_answers.specs.Plan.{ServerPlan, Stays, Says, Gathers, GivesUp, Executes as Runs, Wakes}
+use Rattle.server_answers.specs.Gathering.{gathered_with, gathering_of, is_kept, receiver_of}
+use Rattle.server_answers.specs.declared.asked.Asked.{Asked}
 use Rattle.server_tsm.specs.Server.{ServerTsmState, committed, still_gathered}
 use Rattle.server_tsm.specs.Steps.{told_of_plan}
 use Rattle.server_answers.specs.declared.gathering.RequestGathering.{RequestGathering}
-use Rattle.server_answers.specs.declared.plan.ServerChange.TheVariants.{Stays, Says, Gathers, GivesUp, Executes as Runs, Wakes}
 use Rattle.server_answers.specs.declared.plan.Executed as told
 use Rattle.server_answers.specs.declared.plan.Saying.{Saying}
 use Rattle.server_answers.specs.declared.said.ServerSaid.{ServerSaid}
@@ -87,9 +88,15 @@ module _ {A : Type 0} (b : Book Station (Request A) (Reply A)) (d : Station) (st
       (λ (new : x ≡ y). inr (subst (λ (z : seen.Gathering Station). IsGathered b d (safe_device st) z) (ap (safe_gathering st.max_apdu) new ∙ e) g))
       (has_split (still_gathered b.moment (Some x.asked.asker) st.gatherings) x there)
 
-  pub gathers_on : (x : RequestGathering A) → IsGathered b d (safe_device st) (safe_gathering st.max_apdu x) →
-      DeviceGoesOn b d (safe_device st) (safe_device (committed b.moment (Gathers x) st))
-  gathers_on x g = same_records (committed b.moment (Gathers x) st) refl refl refl (λ a h.
+  -- what a segment leaves of a request
+  abbrev pub left_of : Asked → Segment → List ℕ → RequestGathering A
+  left_of asked segment octets = gathered_with b.moment asked segment octets (receiver_of (gathering_of b.moment asked.asker st.gatherings) segment)
+
+  pub gathers_on : (asked : Asked) (segment : Segment) (octets : List ℕ) →
+      IsGathered b d (safe_device st) (safe_gathering st.max_apdu (left_of asked segment octets)) →
+      DeviceGoesOn b d (safe_device st) (safe_device (committed b.moment (Gathers asked segment octets) st))
+  gathers_on asked segment octets g = same_records (committed b.moment (Gathers asked segment octets) st) refl refl refl (λ a h.
+      let x = left_of asked segment octets in
       let there = map_has (safe_gathering st.max_apdu) (still_gathered b.moment (Some x.asked.asker) st.gatherings ++ x ∷ []) a h in
       gathers_split x a g there.0 there.1 there.2)
 

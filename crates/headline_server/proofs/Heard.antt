@@ -1,12 +1,10 @@
 -- What is read of what a server said says what it said.
-use Rattle.std.proofs.Common.{◌≡◌, ◌∙◌, refl, ap, subst, ℕ, ◌/◌, true, List, ◌∷◌, Some, None, arith}
-use Rattle.apdu.proofs.ApduLaws.{one_apdu}
-use Rattle.apdu.proofs.CanonicalLaws.{canonical_spells}
+use Rattle.std.proofs.Common.{◌≡◌, ◌∙◌, refl, ap, ℕ, ◌/◌, true, List, ◌∷◌, Some, None, arith}
 use Rattle.apdu.specs.Apdu.{PlainApdu, Spells, abort_pdu, complex_ack, confirmed, error_pdu, reject_pdu, segment_ack, simple_ack, unconfirmed}
-use Rattle.apdu.specs.ApduWriting.{CanBeWritten, HasNumbers, canonical}
 use Rattle.apdu.specs.Numbers.{abort_number, reject_number, service_number}
 use Rattle.apdu.specs.declared.sizes.MaxApdu.{MaxApdu}
-use Rattle.history.specs.Book.{Body, Failed, Tells}
+use Rattle.history.specs.Book.{Failed, Tells}
+use Rattle.headline_bacnet.proofs.Reading.{read_again}
 use Rattle.headline_bacnet.specs.Bodies.{Says}
 use Rattle.remembered.specs.declared.record.RememberedAnswer.{RememberedAnswer}
 use Rattle.remembered.specs.declared.record.RememberedAnswer.TheVariants as kept
@@ -14,10 +12,6 @@ use Rattle.headline_server.specs.Laws.{SaidIsHeard}
 use Rattle.headline_server.specs.Refines.{whole_body}
 use Rattle.server_answers.specs.Said.{answer_octets, said_octets}
 use Rattle.server_answers.specs.declared.said.ServerSaid.TheVariants as said
-
--- what an APDU says, where its shortest octets are read
-read_again : (own : MaxApdu) (y a : PlainApdu) (body : Body) → CanBeWritten y → HasNumbers y → Says own y body → Spells (canonical y) a → Says own a body
-read_again own y a body can has says s = subst (λ (z : PlainApdu). Says own z body) (one_apdu (canonical y) y a (canonical_spells y can has) s) says
 
 first_is : (invoke service : ℕ) (contents : List ℕ) (a : PlainApdu) (s : Spells (80 ∷ (invoke ∷ (service ∷ contents))) a) → s.first ≡ 80
 first_is invoke service contents a s = let front = s.front in cc

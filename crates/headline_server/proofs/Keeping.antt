@@ -1,42 +1,26 @@
 -- A server keeps its answers well, whatever changes of it.
-use Rattle.std.proofs.Common.{◌≡◌, ◌≢◌, ◌∙◌, ⊎_elim, refl, sym, ap, subst, ℕ, ◌≤◌, Bool, true, false, List, [], ◌∷◌, ◌++◌, Some, None, arith}
-use Rattle.std.specs.Prelude.{Option, slice_get, if◌then◌else◌}
+use Rattle.std.proofs.Common.{◌≡◌, ◌≢◌, ◌∙◌, ⊎_elim, refl, sym, ap, subst, ℕ, ◌≤◌, Bool, true, false, List, [], ◌∷◌, ◌++◌, Some, None}
+use Rattle.std.specs.Prelude.{Option, slice_get}
 use Rattle.std.specs.List.{AllByRecursion}
 use Rattle.history.specs.Lists.{Has}
-use Rattle.history.proofs.Lists.{filter_has, has, has_cons, has_next}
+use Rattle.history.proofs.Lists.{has, has_cons, has_next}
 use Rattle.npdu.specs.declared.mac.Way.{Way}
-use Rattle.primitives.specs.declared.plain_data.Request.{Request}
-use Rattle.remembered.proofs.Living.{forgotten_are_dead}
-use Rattle.remembered.specs.Records.{forgotten, is_of, lives, newest, remembered, said_again, said_by, said_on}
+use Rattle.remembered.proofs.Keeping.{one_asker}
+use Rattle.remembered.specs.Records.{AreDistinct, askers, forgotten, is_of, newest, said_again, said_by, said_on}
 use Rattle.remembered.specs.declared.record.Asker.{Asker}
 use Rattle.remembered.specs.declared.record.Record.{Record}
 use Rattle.segments.specs.Sender.{SenderState}
 use Rattle.headline_server.proofs.Listed.{all_has, all_so, has_all, has_map}
-use Rattle.headline_server.proofs.Records.{forgotten_has, lives_so, none_living, one_asker, so_lives}
-use Rattle.headline_server.specs.Keeping.{AreDistinct, IsSayable, IsWellKept, askers}
-use Rattle.server_tsm.proofs.Silent.{stays_timely}
+use Rattle.headline_server.proofs.Records.{forgotten_has}
+use Rattle.headline_server.specs.Keeping.{IsSayable, IsWellKept}
+use Rattle.server_tsm.proofs.Kept.{planned_kept}
 use Rattle.server_tsm.specs.Server.{ServerTsmState, committed, stamped}
+use Rattle.server_tsm.specs.Steps.{IsPlanned}
 use Rattle.server_tsm.specs.Waking.{after_sayings, after_saying}
-use Rattle.server_answers.specs.declared.plan.ServerChange.{ServerChange}
-use Rattle.server_answers.specs.declared.plan.ServerChange.TheVariants.{Stays, Says, Gathers, GivesUp, Executes, Wakes}
+use Rattle.server_answers.specs.Plan.{ServerChange, ServerPlan, Stays, Says, Gathers, GivesUp, Executes, Wakes}
 use Rattle.server_answers.specs.declared.plan.Saying.{Saying}
 
 module _ {A : Type 0} where
-  -- who asked stays
-  askers_said_by : (o : Option (Record A)) (b : Bool) (way : Way) (sending : Option SenderState) (r : Record A) (rs rest : List (Record A)) →
-      askers rest ≡ askers rs → askers (said_by o b way sending r rs rest) ≡ r.asker ∷ askers rs
-  askers_said_by (Some x) b way sending r rs rest e = ap (λ l. r.asker ∷ l) e
-  askers_said_by None true way sending r rs rest e = refl
-  askers_said_by None false way sending r rs rest e = refl
-
-  askers_said : (a : Asker) (way : Way) (sending : Option SenderState) (rs : List (Record A)) → askers (said_again a way sending rs) ≡ askers rs
-  askers_said a way sending [] = refl
-  askers_said a way sending (r ∷ rs) = askers_said_by (newest a rs) (is_of a r) way sending r rs (said_again a way sending rs) (askers_said a way sending rs)
-
-  askers_all_said : (xs : List Saying) (rs : List (Record A)) → askers (after_sayings xs rs) ≡ askers rs
-  askers_all_said [] rs = refl
-  askers_all_said (x ∷ xs) rs = askers_all_said xs (after_saying x rs) ∙ askers_said x.asker x.way x.sending rs
-
   -- one record for each asker
   other_at : (y : Record A) (ys : List (Record A)) (x : Record A) → AllByRecursion (λ z. z ≢ y.asker) (askers ys) → Has ys x → x.asker ≡ y.asker → ⊥
   other_at y ys x h there e = all_has (λ z. z ≢ y.asker) (askers ys) x.asker h (has_map (λ (z : Record A). z.asker) ys x there) e
@@ -124,84 +108,31 @@ module _ {A : Type 0} where
   forgotten_all : (P : Record A → Type 0) (now : ℕ) (rs : List (Record A)) → AllByRecursion P rs → AllByRecursion P (forgotten now rs)
   forgotten_all P now rs h = has_all P (forgotten now rs) (λ x there. all_has P rs x h (forgotten_has now rs x there))
 
-  distinct_if : (b : Bool) (r : Record A) (rs rest : List (Record A)) → AreDistinct (askers (r ∷ rs)) → AreDistinct (askers rest) →
-      AreDistinct (askers (if b then r ∷ rs else rest))
-  distinct_if true r rs rest h g = h
-  distinct_if false r rs rest h g = g
-
-  distinct_forgotten : (now : ℕ) (rs : List (Record A)) → AreDistinct (askers rs) → AreDistinct (askers (forgotten now rs))
-  distinct_forgotten now [] h = tt
-  distinct_forgotten now (r ∷ rs) h = distinct_if (lives now r) r rs (forgotten now rs) h (distinct_forgotten now rs h.1)
-
   -- one more
-  added_if : (b : Bool) (x r : Record A) (rs rest more : List (Record A)) → more ≡ rest ++ r ∷ [] →
-      (if b then x ∷ (rs ++ r ∷ []) else more) ≡ (if b then x ∷ rs else rest) ++ r ∷ []
-  added_if true x r rs rest more e = refl
-  added_if false x r rs rest more e = e
-
-  added_one : (now : ℕ) (r : Record A) → lives now r ≡ true → forgotten now (r ∷ []) ≡ r ∷ []
-  added_one now r t = rw t refl
-
-  forgotten_added : (now : ℕ) (rs : List (Record A)) (r : Record A) → lives now r ≡ true → forgotten now (rs ++ r ∷ []) ≡ forgotten now rs ++ r ∷ []
-  forgotten_added now [] r t = added_one now r t
-  forgotten_added now (x ∷ rs) r t = added_if (lives now x) x r rs (forgotten now rs) (forgotten now (rs ++ r ∷ [])) (forgotten_added now rs r t)
-
   all_added : (P : Record A → Type 0) (rs : List (Record A)) (r : Record A) → AllByRecursion P rs → P r → AllByRecursion P (rs ++ r ∷ [])
   all_added P [] r h one = (one, tt)
   all_added P (x ∷ rs) r h one = (h.0, all_added P rs r h.1 one)
 
-  others_added : (a : Asker) (rs : List (Record A)) (r : Record A) → AllByRecursion (λ z. z ≢ a) (askers rs) → (r.asker ≡ a → ⊥) →
-      AllByRecursion (λ z. z ≢ a) (askers (rs ++ r ∷ []))
-  others_added a [] r h not = (not, tt)
-  others_added a (x ∷ rs) r h not = (h.0, others_added a rs r h.1 not)
-
-  distinct_added : (rs : List (Record A)) (r : Record A) → AreDistinct (askers rs) → ((x : Record A) → Has rs x → x.asker ≡ r.asker → ⊥) →
-      AreDistinct (askers (rs ++ r ∷ []))
-  distinct_added [] r h not = (tt, tt)
-  distinct_added (x ∷ rs) r h not = (
-    others_added x.asker rs r h.0 (λ e. not x (has 0 refl) (sym e)),
-    distinct_added rs r h.1 (λ y there e. not y (has_next x rs there) e),
-  )
-
   -- what may change of a server that keeps its answers well
-  pub record FitsExecution (net now : ℕ) (st : ServerTsmState A) (r : Record A) : Type 0 where
-    pub sayable : IsSayable net (stamped now r)
-    pub none : remembered now r.asker st.records ≡ None
-
   abbrev pub Fits : (net now : ℕ) → ServerTsmState A → ServerChange A → Type 0
   Fits net now st (Says x) = FitsSaying net st.records x
-  Fits net now st (Executes request r) = FitsExecution net now st r
+  Fits net now st (Executes request r) = IsSayable net (stamped now r)
   Fits net now st (Wakes xs) = AllByRecursion (FitsSaying net (forgotten now st.records)) xs
   Fits net now st change = Unit {0}
 
-  executed_distinct : (net now : ℕ) (st : ServerTsmState A) (request : Request A) (r : Record A) → IsWellKept net st → FitsExecution net now st r →
-      AreDistinct (askers (committed now (Executes request r) st).records)
-  executed_distinct net now st request r k f =
-      let up = k.timely.ascending in
-      let same = forgotten_are_dead now st.records up in
-      let living : lives now (stamped now r) ≡ true = so_lives now (stamped now r) (omega arith) in
-      subst (λ (l : List (Record A)). AreDistinct (askers l)) (sym (forgotten_added now st.records (stamped now r) living))
-      (distinct_added (forgotten now st.records) (stamped now r) (distinct_forgotten now st.records k.distinct) (λ x there e.
-      let stays = filter_has (lives now) st.records x (subst (λ (l : List (Record A)). Has l x) same there) in
-      none_living now r.asker st.records x up f.none stays.0 e (lives_so now x stays.1)))
+  changed_sayable : (net now : ℕ) (change : ServerChange A) (st : ServerTsmState A) → AllByRecursion (IsSayable net) st.records → Fits net now st change →
+      AllByRecursion (IsSayable net) (committed now change st).records
+  changed_sayable net now Stays st h f = h
+  changed_sayable net now (Says x) st h f = said_all (IsSayable net) x.asker x.way x.sending st.records h f
+  changed_sayable net now (Gathers asked segment octets) st h f = h
+  changed_sayable net now (GivesUp asker) st h f = h
+  changed_sayable net now (Executes request r) st h f =
+      forgotten_all (IsSayable net) now (st.records ++ stamped now r ∷ []) (all_added (IsSayable net) st.records (stamped now r) h f)
+  changed_sayable net now (Wakes xs) st h f =
+      all_said_sayable net xs (forgotten now st.records) (forgotten_all (IsSayable net) now st.records h) f
 
-  pub changed_well : (net now : ℕ) (change : ServerChange A) (st : ServerTsmState A) → st.moment ≤ now → IsWellKept net st → Fits net now st change →
-      IsWellKept net (committed now change st)
-  changed_well net now Stays st l k f = record { sayable = k.sayable; distinct = k.distinct; timely = stays_timely now Stays st l k.timely }
-  changed_well net now (Says x) st l k f = record {
-    sayable = said_all (IsSayable net) x.asker x.way x.sending st.records k.sayable f;
-    distinct = subst (λ (l : List Asker). AreDistinct l) (sym (askers_said x.asker x.way x.sending st.records)) k.distinct;
-    timely = stays_timely now (Says x) st l k.timely;
-  }
-  changed_well net now (Gathers a) st l k f = record { sayable = k.sayable; distinct = k.distinct; timely = stays_timely now (Gathers a) st l k.timely }
-  changed_well net now (GivesUp asker) st l k f = record { sayable = k.sayable; distinct = k.distinct; timely = stays_timely now (GivesUp asker) st l k.timely }
-  changed_well net now (Executes request r) st l k f = record {
-    sayable = forgotten_all (IsSayable net) now (st.records ++ stamped now r ∷ []) (all_added (IsSayable net) st.records (stamped now r) k.sayable f.sayable);
-    distinct = executed_distinct net now st request r k f;
-    timely = stays_timely now (Executes request r) st l k.timely;
-  }
-  changed_well net now (Wakes xs) st l k f = record {
-    sayable = all_said_sayable net xs (forgotten now st.records) (forgotten_all (IsSayable net) now st.records k.sayable) f;
-    distinct = subst (λ (l : List Asker). AreDistinct l) (sym (askers_all_said xs (forgotten now st.records))) (distinct_forgotten now st.records k.distinct);
-    timely = stays_timely now (Wakes xs) st l k.timely;
-  }
+  -- what is planned and fits keeps the answers well
+  pub changed_well : (net now : ℕ) (plan : ServerPlan A) (st : ServerTsmState A) → IsPlanned now st plan → st.moment ≤ now → IsWellKept net st →
+      Fits net now st plan.change → IsWellKept net (committed now plan.change st)
+  changed_well net now plan st p l k f =
+      record { sayable = changed_sayable net now plan.change st k.sayable f; kept = planned_kept now st plan p l k.kept }

@@ -1,19 +1,15 @@
 -- Lemmas on what a server remembers, as safety sees it.
 use Rattle.std.proofs.Common.{◌≡◌, ◌∙◌, refl, sym, ap, subst, ℕ, zero, suc, ◌+◌, ◌≤◌, Bool, true, false, List, [], ◌∷◌, map, Some, None, arith}
 use Rattle.std.specs.Prelude.{Option, filter, slice_get, if◌then◌else◌}
-use Rattle.std.specs.Cmp.{nat_cmp_total}
-use Rattle.std.specs.Ordering.{is_eq, nat_cmp, ordering_reverse, ordering_then}
-use Rattle.std.specs.declared.cmp.Ordering.{Ordering}
-use Rattle.std.specs.declared.cmp.Ordering.TheVariants.{Less, Equal, Greater}
+use Rattle.std.specs.Ordering.{is_eq}
 use Rattle.std.proofs.lemmas.Bool.{both_ways, le-leb, leb-true}
 use Rattle.history.specs.Lists.{Has}
 use Rattle.profile.specs.Times.{KEEP_MS}
 use Rattle.history.proofs.Lists.{has, has_next, has_filter}
-use Rattle.npdu.proofs.Stations.{station_order}
-use Rattle.npdu.specs.Mac.{station_cmp}
 use Rattle.npdu.specs.declared.mac.Way.{Way}
-use Rattle.remembered.proofs.Keeping.{exact_asker, is_equal}
+use Rattle.remembered.proofs.Keeping.{one_asker}
 use Rattle.remembered.proofs.Living.{newest_lives}
+use Rattle.remembered.proofs.Ordering.{itself}
 use Rattle.remembered.specs.Records.{AreAscending, asker_cmp, forgotten, is_of, later_or, lives, living, newest, remembered, said_again, said_by, some_if}
 use Rattle.remembered.specs.declared.record.Asker.{Asker}
 use Rattle.remembered.specs.declared.record.Record.{Record}
@@ -21,23 +17,6 @@ use Rattle.segments.specs.Sender.{SenderState}
 use Rattle.headline_server.specs.Safe.{safe_record}
 use Rattle.server_tsm.specs.Waking.{after_sayings, after_saying}
 use Rattle.server_answers.specs.declared.plan.Saying.{Saying}
-
--- an asker compares alike with itself, and with no other
-self_equal : (o : Ordering) → o ≡ ordering_reverse o → o ≡ Equal
-self_equal Less e = absurd (cc e)
-self_equal Equal e = refl
-self_equal Greater e = absurd (cc e)
-
-both_equal : (a b : Ordering) → a ≡ Equal → b ≡ Equal → is_eq (ordering_then a b) ≡ true
-both_equal a b e f = rw (e, f) refl
-
-itself : (a : Asker) → is_eq (asker_cmp a a) ≡ true
-itself a = both_equal (nat_cmp a.invoke_id a.invoke_id) (station_cmp a.station a.station)
-    (self_equal _ (nat_cmp_total.antisymm a.invoke_id a.invoke_id))
-    (self_equal _ (station_order.total.antisymm a.station a.station))
-
-pub one_asker : (a b : Asker) → is_eq (asker_cmp a b) ≡ true → a ≡ b
-one_asker a b t = exact_asker a b (is_equal (asker_cmp a b) t)
 
 -- a record lives for the server as it does for the promise
 pub lives_so : {A : Type 0} (now : ℕ) (r : Record A) → lives now r ≡ true → now ≤ r.at + KEEP_MS

@@ -19,6 +19,7 @@ use Rattle.npdu.specs.declared.mac.Station.{Station}
 use Rattle.npdu.specs.declared.mac.Way.{Way}
 use Rattle.headline_bacnet.specs.Bodies.{head_of, led_to}
 use Rattle.object_model.specs.Objects.{PlainTable}
+use Rattle.remembered.proofs.Keeping.{one_asker}
 use Rattle.remembered.specs.Records.{remembered, said_on, some_if}
 use Rattle.remembered.specs.declared.record.Asker.{Asker}
 use Rattle.remembered.specs.declared.record.Record.{Record}
@@ -32,7 +33,7 @@ use Rattle.headline_server.proofs.Going.{IsQuiet, gathers_on, gives_up_on, says_
 use Rattle.headline_server.proofs.Receiving.{IsInOrder, begins_in_order, joins_so, taken_next}
 use Rattle.headline_server.proofs.Keeping.{FitsSaying, one_each}
 use Rattle.headline_server.proofs.Listed.{all_both, all_has, all_so, has_map}
-use Rattle.headline_server.proofs.Records.{IsRemembered, one_asker, remembered_is, safe_said}
+use Rattle.headline_server.proofs.Records.{IsRemembered, remembered_is, safe_said}
 use Rattle.headline_server.proofs.Saying.{CanTell, IsHonestlySaid, IsNoAnswer, answer_told, free_said}
 use Rattle.headline_bacnet.proofs.Sending.{hears_cut}
 use Rattle.headline_server.proofs.Sending.{begun_sent, sent_on}
@@ -40,20 +41,19 @@ use Rattle.headline_server.specs.Keeping.{IsSayable, IsSentIn}
 use Rattle.headline_server.specs.Laws.{IsServed}
 use Rattle.headline_bacnet.specs.Refined.{ObjectCore}
 use Rattle.headline_server.specs.Safe.{safe_gathering, safe_device, safe_record}
-use Rattle.server_answers.specs.Plan.{quiet}
+use Rattle.server_answers.specs.Plan.{quiet, Stays, Says, GivesUp}
 use Rattle.server_tsm.specs.Hearing.{Message as Input, Reached, Whole, ack_heard, ack_if, request_ack, ack_taken, acknowledges, asked_by, asked_on, asks}
-use Rattle.server_tsm.specs.Hearing.{gathering_of, begins_if, completed, completed_if, completes, gathered, given_up, gives_up, is_crowded, is_deaf, is_sending}
+use Rattle.server_tsm.specs.Hearing.{begins_if, completed, completed_if, completes, gathered, given_up, gives_up, is_crowded, is_deaf, is_sending}
 use Rattle.server_tsm.specs.Hearing.{joined, joined_by, nothing, of_service, part_heard, part_joined, plans, reached_by, repeated_if, request_heard}
-use Rattle.server_tsm.specs.Hearing.{answer_plan, still, taken_if, turned_by, unless, whole_heard}
+use Rattle.server_tsm.specs.Hearing.{answer_plan, taken_if, turned_by, unless, whole_heard}
 use Rattle.server_answers.specs.Limits.{begun}
-use Rattle.server_answers.specs.Gathering.{gathers_still, is_for}
+use Rattle.server_answers.specs.Gathering.{gathered_with, gathering_of, gathers_still, is_for, receiver_of, still}
 use Rattle.server_tsm.specs.Server.{ServerTsmState, committed}
 use Rattle.server_tsm.specs.Waking.{saying_by}
 use Rattle.server_answers.specs.declared.asked.AnswerLimits.{AnswerLimits}
 use Rattle.server_answers.specs.declared.asked.Asked.{Asked}
 use Rattle.server_answers.specs.declared.asked.Origin.{Origin}
 use Rattle.server_answers.specs.declared.gathering.RequestGathering.{RequestGathering}
-use Rattle.server_answers.specs.declared.plan.ServerChange.TheVariants.{Stays, Says, GivesUp}
 use Rattle.server_answers.specs.declared.plan.Saying.{Saying}
 use Rattle.server_answers.specs.declared.said.ServerSaid.{ServerSaid}
 use Rattle.server_answers.specs.declared.said.ServerSaid.TheVariants as said
@@ -130,7 +130,7 @@ module _ {A : Type 0} (s : Site Station (PlainTable A)) (w : ObjectCore A) (d : 
   fits_said : (way : Way) (sending : Option SenderState) (asker : Asker) (r : Record A) → IsRemembered w.book.moment asker st.records r → IsSayable d.net r →
       led_to d.net way ≡ asker.station → IsSentIn r.chunk r.answer sending → FitsSaying d.net st.records (saying_by sending (said_on way sending r))
   fits_said way sending asker r m k e h = λ x there same.
-      subst (λ (z : Record A). IsSayable d.net (said_on way sending z)) (one_each st.records r x v.well.distinct m.there there (sym same))
+      subst (λ (z : Record A). IsSayable d.net (said_on way sending z)) (one_each st.records r x v.well.kept.distinct m.there there (sym same))
       (record { chunk = k.chunk; way = e ∙ sym (ap (λ (a : Asker). a.station) m.asker); cut = k.cut; sent = h })
 
   said_quiet : (way : Way) (sending : Option SenderState) (asker : Asker) (r : Record A) → IsRemembered w.book.moment asker st.records r → IsSayable d.net r →
@@ -252,6 +252,7 @@ module _ {A : Type 0} (s : Site Station (PlainTable A)) (w : ObjectCore A) (d : 
     way : led_to d.net asked.way ≡ asked.asker.station
     none : remembered w.book.moment asked.asker st.records ≡ None
     begins : before ≡ None → IsInOrder (joins w.book.moment sg.sequence_number sg.more_follows octets j).step
+    receives : receiver_of (gathering_of w.book.moment asked.asker st.gatherings) sg ≡ j
 
   abbrev heard_piece : (m : Message Station) (id : ℕ) (head : Head) (sg : Segment) (octets : List ℕ) (before : Option (seen.Gathering Station))
       (asked : Asked) (j : ReceiverState) → SegmentCame m id head sg octets → Precedes m id head sg octets before asked j → HeardPiece w.book d (safe_device st)
@@ -268,13 +269,19 @@ module _ {A : Type 0} (s : Site Station (PlainTable A)) (w : ObjectCore A) (d : 
     is_before = p.is_before;
   }
 
-  gathered_quiet : (says : List (ServerSaid A)) (asked : Asked) (j : ReceiverState) → AllByRecursion IsNoAnswer says →
-      IsGathered w.book d (safe_device st) (safe_gathering {A = A} st.max_apdu (record { asked = asked; receiver = j; at = w.book.moment })) →
-      IsQuiet s w d st (gathered w.book.moment says asked j)
-  gathered_quiet says asked j h g = record {
+  gathered_quiet : (says : List (ServerSaid A)) (asked : Asked) (sg : Segment) (octets : List ℕ) (j k : ReceiverState) →
+      receiver_of (gathering_of w.book.moment asked.asker st.gatherings) sg ≡ j →
+      (joins w.book.moment sg.sequence_number sg.more_follows octets j).state ≡ k → AllByRecursion IsNoAnswer says →
+      IsGathered w.book d (safe_device st) (safe_gathering {A = A} st.max_apdu (record { asked = asked; receiver = k; at = w.book.moment })) →
+      IsQuiet s w d st (gathered says asked sg octets)
+  gathered_quiet says asked sg octets j k receives left h g = record {
     executed = refl;
-    on =
-        gathers_on w.book d st (record { asked = asked; receiver = j; at = w.book.moment }) g;
+    on = gathers_on w.book d st asked sg octets
+        (subst (λ (z : ReceiverState). IsGathered w.book d (safe_device st)
+        (safe_gathering {A = A} st.max_apdu (gathered_with w.book.moment asked sg octets z)))
+        (sym receives)
+        (subst (λ (z : ReceiverState). IsGathered w.book d (safe_device st)
+        (safe_gathering {A = A} st.max_apdu (record { asked = asked; receiver = z; at = w.book.moment }))) (sym left) g));
     fits = tt;
     says = free_all _ says h;
   }
@@ -287,9 +294,10 @@ module _ {A : Type 0} (s : Site Station (PlainTable A)) (w : ObjectCore A) (d : 
 
   taken_well : (m : Message Station) (id : ℕ) (head : Head) (sg : Segment) (octets : List ℕ) (before : Option (seen.Gathering Station)) (asked : Asked)
       (j k : ReceiverState) (says : List (ServerSaid A)) → SegmentCame m id head sg octets → Precedes m id head sg octets before asked j →
-      IsNext sg octets j k → AllByRecursion IsNoAnswer says → (more : Bool) → sg.more_follows ≡ more → IsReachedWell (taken_if more w.book.moment says asked k)
-  taken_well m id head sg octets before asked j k says c p x h true e =
-      gathered_quiet says asked k h (record {
+      (joins w.book.moment sg.sequence_number sg.more_follows octets j).state ≡ k → IsNext sg octets j k → AllByRecursion IsNoAnswer says → (more : Bool) →
+      sg.more_follows ≡ more → IsReachedWell (taken_if more says asked sg octets k.octets)
+  taken_well m id head sg octets before asked j k says c p left x h true e =
+      gathered_quiet says asked sg octets j k p.receives left h (record {
         piece = heard_piece m id head sg octets before asked j c p;
         how = inl (
           x.number ∙ sym p.pieces,
@@ -298,7 +306,7 @@ module _ {A : Type 0} (s : Site Station (PlainTable A)) (w : ObjectCore A) (d : 
               p.client p.key (sym p.head_is) (x.next ∙ ap suc (sym x.number)) (x.joined ∙ ap (λ (l : List ℕ). l ++ octets) (sym p.got)),
         );
       })
-  taken_well m id head sg octets before asked j k says c p x h false e =
+  taken_well m id head sg octets before asked j k says c p left x h false e =
       completed_well (record { asked = asked; octets = k.octets; says = says }) (record {
         listens = c.listens;
         none = p.none;
@@ -326,34 +334,36 @@ module _ {A : Type 0} (s : Site Station (PlainTable A)) (w : ObjectCore A) (d : 
 
   renewed_quiet : (m : Message Station) (id : ℕ) (head : Head) (sg : Segment) (octets : List ℕ) (before : Option (seen.Gathering Station)) (asked : Asked)
       (j k : ReceiverState) (says : List (ServerSaid A)) → SegmentCame m id head sg octets → Precedes m id head sg octets before asked j →
-      (before ≡ None → ⊥) → k.next ≡ j.next → k.octets ≡ j.octets → AllByRecursion IsNoAnswer says → IsQuiet s w d st (gathered w.book.moment says asked k)
-  renewed_quiet m id head sg octets before asked j k says c p not n o h = gathered_quiet says asked k h (record {
+      (joins w.book.moment sg.sequence_number sg.more_follows octets j).state ≡ k → (before ≡ None → ⊥) → k.next ≡ j.next → k.octets ≡ j.octets →
+      AllByRecursion IsNoAnswer says → IsQuiet s w d st (gathered says asked sg octets)
+  renewed_quiet m id head sg octets before asked j k says c p left not n o h = gathered_quiet says asked sg octets j k p.receives left h (record {
     piece = heard_piece m id head sg octets before asked j c p;
     how = inr (renewed_by m id head sg octets before asked j k p not n o);
   })
 
-  acks_free : (ack : Option ℕ) (j : ReceiverState) (asked : Asked) → AllByRecursion IsNoAnswer (ack_if {A = A} ack j asked)
-  acks_free None j asked = tt
-  acks_free (Some number) j asked = (tt, tt)
+  acks_free : (ack : Option ℕ) (window : ℕ) (asked : Asked) → AllByRecursion IsNoAnswer (ack_if {A = A} ack window asked)
+  acks_free None window asked = tt
+  acks_free (Some number) window asked = (tt, tt)
 
   -- by what the receiver does with it
   stepped_well : (m : Message Station) (id : ℕ) (head : Head) (sg : Segment) (octets : List ℕ) (before : Option (seen.Gathering Station)) (asked : Asked)
       (j : ReceiverState) → SegmentCame m id head sg octets → Precedes m id head sg octets before asked j → (stp : Step) →
       (joins w.book.moment sg.sequence_number sg.more_follows octets j).step ≡ stp → (k : ReceiverState) →
-      k ≡ joining_after stp w.book.moment sg.more_follows octets j → IsReachedWell (joined_by stp sg.more_follows w.book.moment asked k)
-  stepped_well m id head sg octets before asked j c p (Taken ack) e k is =
-      taken_well m id head sg octets before asked j k (ack_if ack k asked) c p (record {
+      (joins w.book.moment sg.sequence_number sg.more_follows octets j).state ≡ k → k ≡ joining_after stp w.book.moment sg.more_follows octets j →
+      IsReachedWell (joined_by stp asked sg octets k)
+  stepped_well m id head sg octets before asked j c p (Taken ack) e k left is =
+      taken_well m id head sg octets before asked j k (ack_if ack k.window asked) c p left (record {
         number = taken_next w.book.moment sg.sequence_number sg.more_follows octets j ack e;
         next = ap (λ (z : ReceiverState). z.next) is;
         joined = ap (λ (z : ReceiverState). z.octets) is;
-      }) (acks_free ack k asked) sg.more_follows refl
-  stepped_well m id head sg octets before asked j c p (Nak number) e k is =
-      renewed_quiet m id head sg octets before asked j k (request_ack true number k asked ∷ []) c p
+      }) (acks_free ack k.window asked) sg.more_follows refl
+  stepped_well m id head sg octets before asked j c p (Nak number) e k left is =
+      renewed_quiet m id head sg octets before asked j k (request_ack true number k.window asked ∷ []) c p left
       (λ n. subst (λ (z : Step). IsInOrder z) e (p.begins n)) (ap (λ (z : ReceiverState). z.next) is) (ap (λ (z : ReceiverState). z.octets) is) (tt, tt)
-  stepped_well m id head sg octets before asked j c p Dropped e k is =
-      renewed_quiet m id head sg octets before asked j k [] c p
+  stepped_well m id head sg octets before asked j c p Dropped e k left is =
+      renewed_quiet m id head sg octets before asked j k [] c p left
       (λ n. subst (λ (z : Step). IsInOrder z) e (p.begins n)) (ap (λ (z : ReceiverState). z.next) is) (ap (λ (z : ReceiverState). z.octets) is) tt
-  stepped_well m id head sg octets before asked j c p Full e k is =
+  stepped_well m id head sg octets before asked j c p Full e k left is =
       free_gives_up (said.Abort asked.way asked.asker.invoke_id BufferOverflow ∷ []) asked.asker (tt, tt)
 
   joined_well : (m : Message Station) (id : ℕ) (head : Head) (sg : Segment) (octets : List ℕ) (before : Option (seen.Gathering Station)) (asked : Asked)
@@ -361,16 +371,18 @@ module _ {A : Type 0} (s : Site Station (PlainTable A)) (w : ObjectCore A) (d : 
       IsReachedWell (joined w.book.moment asked j sg octets)
   joined_well m id head sg octets before asked j c p =
       let x = joins w.book.moment sg.sequence_number sg.more_follows octets j in
-      stepped_well m id head sg octets before asked j c p x.step refl x.state (joins_so w.book.moment sg.sequence_number sg.more_follows octets j x.step refl)
+      stepped_well m id head sg octets before asked j c p x.step refl x.state refl
+      (joins_so w.book.moment sg.sequence_number sg.more_follows octets j x.step refl)
 
   -- the first one begins
   begins_well : (m : Message Station) (id : ℕ) (sg : Segment) (asked : Asked) (octets : List ℕ) →
       SegmentCame m id (head_of st.max_apdu asked.limits asked.service) sg octets → asked.asker.station ≡ m.from → asked.asker.invoke_id ≡ id →
-      led_to d.net asked.way ≡ asked.asker.station → remembered w.book.moment asked.asker st.records ≡ None → (first crowded : Bool) →
+      led_to d.net asked.way ≡ asked.asker.station → remembered w.book.moment asked.asker st.records ≡ None →
+      gathering_of w.book.moment asked.asker st.gatherings ≡ None → (first crowded : Bool) →
       (sg.sequence_number == 0) ≡ first → IsReachedWell (begins_if first crowded w.book.moment asked sg octets)
-  begins_well m id sg asked octets c client key way none false crowded e = nothing_quiet
-  begins_well m id sg asked octets c client key way none true true e = free_stays (said.Abort asked.way asked.asker.invoke_id OutOfResources ∷ []) (tt, tt)
-  begins_well m id sg asked octets c client key way none true false e =
+  begins_well m id sg asked octets c client key way none is false crowded e = nothing_quiet
+  begins_well m id sg asked octets c client key way none is true true e = free_stays (said.Abort asked.way asked.asker.invoke_id OutOfResources ∷ []) (tt, tt)
+  begins_well m id sg asked octets c client key way none is true false e =
       joined_well m id (head_of st.max_apdu asked.limits asked.service) sg octets None asked (nothing_joined (granted_window sg.window)) c (record {
         is_before = tt;
         pieces = refl;
@@ -381,6 +393,7 @@ module _ {A : Type 0} (s : Site Station (PlainTable A)) (w : ObjectCore A) (d : 
         way = way;
         none = none;
         begins = λ n. begins_in_order w.book.moment sg.sequence_number (granted_window sg.window) sg.more_follows octets e;
+        receives = ap (λ (o : Option (RequestGathering A)). receiver_of o sg) is;
       })
 
   -- the others join
@@ -393,7 +406,7 @@ module _ {A : Type 0} (s : Site Station (PlainTable A)) (w : ObjectCore A) (d : 
       led_to d.net asked.way ≡ asked.asker.station → remembered w.book.moment asked.asker st.records ≡ None → (o : Option (RequestGathering A)) →
       gathering_of w.book.moment asked.asker st.gatherings ≡ o → IsReachedWell (part_joined o w.book.moment asked sg octets st.gatherings)
   part_well m id sg asked octets c client key way none None is =
-      begins_well m id sg asked octets c client key way none (sg.sequence_number == 0) (is_crowded w.book.moment st.gatherings) refl
+      begins_well m id sg asked octets c client key way none is (sg.sequence_number == 0) (is_crowded w.book.moment st.gatherings) refl
   part_well m id sg asked octets c client key way none (Some a) is =
       let found = gathering_is w.book.moment asked.asker st.gatherings a is in
       let from : a.asked.asker.station ≡ asked.asker.station = ap (λ (z : Asker). z.station) found.is_for in
@@ -415,6 +428,8 @@ module _ {A : Type 0} (s : Site Station (PlainTable A)) (w : ObjectCore A) (d : 
         way = way ∙ sym from;
         none = subst (λ (z : Asker). remembered w.book.moment z st.records ≡ None) (sym found.is_for) none;
         begins = λ n. absurd (cc n);
+        receives = ap (λ (o : Option (RequestGathering A)). receiver_of o sg)
+            (subst (λ (z : Asker). gathering_of w.book.moment z st.gatherings ≡ Some a) (sym found.is_for) is);
       }))
 
   segment_well : (m : Message Station) (id : ℕ) (sg : Segment) (asked : Asked) (octets : List ℕ) →

@@ -16,8 +16,8 @@ use Rattle.headline_bacnet.specs.Refined.{ObjectCore}
 use Rattle.headline_server.specs.Refines.{served, with_told}
 use Rattle.headline_server.specs.Safe.{safe_device}
 use Rattle.server_tsm.specs.Server.{ServerTsmState, committed}
-use Rattle.server_answers.specs.declared.plan.ServerChange.{ServerChange}
-use Rattle.server_answers.specs.declared.plan.ServerChange.TheVariants.{Stays, Says, Gathers, GivesUp, Executes, Wakes}
+use Rattle.server_tsm.specs.Steps.{IsPlanned}
+use Rattle.server_answers.specs.Plan.{ServerChange, ServerPlan, Stays, Says, Gathers, GivesUp, Executes, Wakes}
 use Rattle.server_answers.specs.declared.plan.ServerTold.{ServerTold}
 use Rattle.server_answers.specs.declared.plan.Executed as told
 use Rattle.server_answers.specs.declared.said.ServerSaid.{ServerSaid}
@@ -31,7 +31,7 @@ module _ {A : Type 0} where
   changed_at : (now : ℕ) (change : ServerChange A) (st : ServerTsmState A) → (committed now change st).moment ≡ now
   changed_at now Stays st = refl
   changed_at now (Says x) st = refl
-  changed_at now (Gathers a) st = refl
+  changed_at now (Gathers asked segment octets) st = refl
   changed_at now (GivesUp asker) st = refl
   changed_at now (Executes request r) st = refl
   changed_at now (Wakes xs) st = refl
@@ -45,14 +45,15 @@ module _ {A : Type 0} where
   pub same_moment : (w : ObjectCore A) (d : Station) (server_told : ServerTold A) → (with_told d server_told w.book).moment ≡ w.book.moment
   same_moment w d server_told = told_moment d server_told.said server_told.executed w.book
 
-  pub still_served : (w : ObjectCore A) (d : Station) (st left : ServerTsmState A) (server_told : ServerTold A) (change : ServerChange A) → IsServed w d st →
-      left ≡ committed w.book.moment change st → Fits d.net w.book.moment st change → IsServed (served d server_told left w) d left
-  still_served w d st left server_told change v is fits =
+  pub still_served : (w : ObjectCore A) (d : Station) (st left : ServerTsmState A) (server_told : ServerTold A) (plan : ServerPlan A) → IsServed w d st →
+      IsPlanned w.book.moment st plan → left ≡ committed w.book.moment plan.change st → Fits d.net w.book.moment st plan.change →
+      IsServed (served d server_told left w) d left
+  still_served w d st left server_told plan v planned is fits =
       let at = ap (λ (z : ServerTsmState A). z.moment) is in
-      let moment = changed_at w.book.moment change st in
+      let moment = changed_at w.book.moment plan.change st in
       let same = same_moment w d server_told in
       record {
         device = put_here (object_laws A).test w.devices d (safe_device left);
-        well = subst (λ (z : ServerTsmState A). IsWellKept d.net z) (sym is) (changed_well d.net w.book.moment change st v.order v.well fits);
+        well = subst (λ (z : ServerTsmState A). IsWellKept d.net z) (sym is) (changed_well d.net w.book.moment plan st planned v.order v.well fits);
         order = omega (arith, at, moment, same);
       }

@@ -26,10 +26,11 @@ use Rattle.headline_server.specs.Keeping.{IsSayable, IsSentIn}
 use Rattle.headline_server.specs.Laws.{AnnounceRefines, IsServed, NewIsServed, RestartKeeps, RestartRefines, SizeStays, WakeKeeps, WakeRefines}
 use Rattle.headline_bacnet.specs.Refined.{ObjectCore}
 use Rattle.headline_server.specs.Safe.{safe_device, safe_record}
+use Rattle.server_tsm.proofs.Kept.{kept_none}
 use Rattle.server_tsm.specs.Server.{ServerTsmState, committed, restarted}
-use Rattle.server_tsm.specs.Steps.{told_of_plan}
+use Rattle.server_tsm.specs.Steps.{on_wake, told_of_plan}
 use Rattle.server_tsm.specs.Waking.{again, said_at_turn, said_on_wake, saying_at_turn, saying_by, saying_on_wake, turn_by, turn_of, turn_where, woken}
-use Rattle.server_answers.specs.declared.plan.ServerChange.TheVariants.{Stays, Says, Gathers, GivesUp, Executes, Wakes}
+use Rattle.server_answers.specs.Plan.{Stays, Says, Gathers, GivesUp, Executes, Wakes}
 
 module _ {A : Type 0} (s : Site Station (PlainTable A)) (w : ObjectCore A) (d : Station) (st : ServerTsmState A) (v : IsServed w d st) where
   abbrev woken_left : ServerTsmState A
@@ -67,7 +68,7 @@ module _ {A : Type 0} (s : Site Station (PlainTable A)) (w : ObjectCore A) (d : 
   said_fits sending r there h = λ x living same.
       let k = all_has (IsSayable d.net) st.records r v.well.sayable there in
       subst (λ (z : Record A). IsSayable d.net (said_on r.way sending z))
-      (one_each st.records r x v.well.distinct there (forgotten_has w.book.moment st.records x living) (sym same))
+      (one_each st.records r x v.well.kept.distinct there (forgotten_has w.book.moment st.records x living) (sym same))
       (record { chunk = k.chunk; way = k.way; cut = k.cut; sent = h })
 
   saying_fits : (t : Turn) (r : Record A) → Has st.records r →
@@ -94,7 +95,7 @@ wake_refines s w d st v = quiet_refines s w d st (woken w.book.moment st.records
 pub wake_keeps : {A : Type 0} → WakeKeeps A
 wake_keeps w d st v =
     let plan = woken w.book.moment st.records in
-    still_served w d st (committed w.book.moment plan.change st) (told_of_plan plan) plan.change v refl (wake_quiet (no_site st) w d st v).fits
+    still_served w d st (committed w.book.moment plan.change st) (told_of_plan plan) plan v (on_wake refl) refl (wake_quiet (no_site st) w d st v).fits
 
 pub restart_refines : {A : Type 0} → RestartRefines A
 restart_refines s w d n st is = record { happenings = Restarts d n ∷ []; honest = (is, tt); same = refl }
@@ -102,7 +103,7 @@ restart_refines s w d n st is = record { happenings = Restarts d n ∷ []; hones
 pub restart_keeps : {A : Type 0} → RestartKeeps A
 restart_keeps {A} w d n table st = record {
   device = put_here (object_laws A).test w.devices d (safe_device (restarted w.book.moment table st));
-  well = record { sayable = tt; distinct = tt; timely = record { ascending = tt; past = tt } };
+  well = record { sayable = tt; kept = kept_none w.book.moment };
   order = omega arith;
 }
 
@@ -110,12 +111,12 @@ pub announce_refines : {A : Type 0} → AnnounceRefines A
 announce_refines s w d n is = record { happenings = Announces d n ∷ []; honest = (is, tt); same = refl }
 
 pub new_is_served : {A : Type 0} → NewIsServed A
-new_is_served net table own = (refl, record { sayable = tt; distinct = tt; timely = record { ascending = tt; past = tt } })
+new_is_served net table own = (refl, record { sayable = tt; kept = kept_none 0 })
 
 pub size_stays : {A : Type 0} → SizeStays A
 size_stays now Stays st = refl
 size_stays now (Says x) st = refl
-size_stays now (Gathers a) st = refl
+size_stays now (Gathers asked segment octets) st = refl
 size_stays now (GivesUp asker) st = refl
 size_stays now (Executes request r) st = refl
 size_stays now (Wakes xs) st = refl

@@ -1,15 +1,14 @@
 -- What always holds of what a server remembers, on its network: each answer can be said as its requester hears it.
-use Rattle.std.specs.Prelude.{◌≡◌, ◌≢◌, ◌≤◌, ℕ, false, List, [], ◌∷◌, length, map, Option, Some, None}
+use Rattle.std.specs.Prelude.{◌≡◌, ◌≤◌, ℕ, false, List, length, Option, Some, None}
 use Rattle.std.specs.List.{AllByRecursion}
 use Rattle.headline_bacnet.specs.Bodies.{led_to}
-use Rattle.remembered.specs.declared.record.Asker.{Asker}
 use Rattle.remembered.specs.declared.record.Record.{Record}
 use Rattle.remembered.specs.declared.record.RememberedAnswer.{RememberedAnswer}
 use Rattle.remembered.specs.declared.record.RememberedAnswer.TheVariants as kept
 use Rattle.segments.specs.Sender.{SenderState}
 use Rattle.segments.specs.Pieces.{piece_count}
 use Rattle.server_answers.specs.Limits.{goes_whole}
-use Rattle.server_tsm.specs.Server.{AreTimely, ServerTsmState}
+use Rattle.server_tsm.specs.Server.{AreKept, ServerTsmState}
 
 -- so much service data has 256 pieces of this size at most: each has a sequence number of its own (20.1.5)
 abbrev pub AreNumbered : (chunk : ℕ) → List ℕ → Type 0
@@ -33,17 +32,7 @@ pub record IsSayable {A : Type 0} (net : ℕ) (r : Record A) : Type 0 where
   pub cut : CanBeCut r.chunk r.answer
   pub sent : IsSentIn r.chunk r.answer r.sending
 
--- none of them stands twice
-abbrev pub AreDistinct : {X : Type 0} → List X → Type 0
-AreDistinct [] = Unit {0}
-AreDistinct (x ∷ xs) = AllByRecursion (λ y. y ≢ x) xs × AreDistinct xs
-
--- who asked for what is remembered
-abbrev pub askers : {A : Type 0} → List (Record A) → List Asker
-askers rs = map (λ r. r.asker) rs
-
--- a server keeps one answer for each asker at most, in order of execution, and each can be said (5.4.5)
+-- a server keeps 64 answers at most, one for each asker, in order of execution, and each can be said (5.4.5)
 pub record IsWellKept {A : Type 0} (net : ℕ) (st : ServerTsmState A) : Type 0 where
   pub sayable : AllByRecursion (IsSayable net) st.records
-  pub distinct : AreDistinct (askers st.records)
-  pub timely : AreTimely st.moment st.records
+  pub kept : AreKept st.moment st.records

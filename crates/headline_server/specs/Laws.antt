@@ -17,13 +17,12 @@ use Rattle.headline_server.specs.Keeping.{IsWellKept}
 use Rattle.headline_server.specs.Refines.{begun_anew, said_body, served}
 use Rattle.headline_server.specs.Safe.{safe_device}
 use Rattle.server_tsm.specs.Hearing.{heard_of}
-use Rattle.server_answers.specs.Plan.{ServerPlan}
+use Rattle.server_answers.specs.Plan.{ServerChange, ServerPlan}
 use Rattle.server_answers.specs.Said.{said_octets}
 use Rattle.server_tsm.specs.Server.{ServerTsmState, committed, new_server, restarted}
 use Rattle.server_tsm.specs.Steps.{IsPlan, IsStep, told_of_plan}
 use Rattle.server_tsm.specs.Waking.{woken}
 use Rattle.server_answers.specs.declared.asked.Origin.{Origin}
-use Rattle.server_answers.specs.declared.plan.ServerChange.{ServerChange}
 use Rattle.server_answers.specs.declared.plan.ServerTold.{ServerTold}
 use Rattle.server_answers.specs.declared.plan.Executed.{Executed}
 use Rattle.server_answers.specs.declared.said.ServerSaid.{ServerSaid}

@@ -16,7 +16,7 @@ use Rattle.headline_bacnet.specs.Laws.{object_laws}
 use Rattle.headline_bacnet.proofs.Places.{put_other}
 use Rattle.headline_bacnet.specs.Refined.{ObjectSite, Refined, ObjectCore}
 use Rattle.primitives.specs.declared.plain_data.Request.{Request}
-use Rattle.headline_server.specs.Keeping.{AreDistinct}
+use Rattle.remembered.specs.Records.{AreDistinct}
 use Rattle.headline_server.specs.Refines.{begun_anew}
 use Rattle.headline_client.proofs.Places.{all_weaken}
 use Rattle.headline_client.specs.Kept.{IsWellKept}

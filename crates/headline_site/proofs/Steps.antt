@@ -11,13 +11,13 @@ use Rattle.bindings.specs.Binding.{binding_of, introduced, mark_refused, put_bin
 use Rattle.client.specs.Client.{ClientState}
 use Rattle.client.specs.Saying.{parcels_of}
 use Rattle.bindings.specs.declared.binding.Binding.{Binding}
-use Rattle.client.specs.declared.client.ClientIssued.{ClientIssued}
+use Rattle.client.specs.declared.plan.ClientIssued.{ClientIssued}
 use Rattle.bindings.specs.Accepts.{PlainAccepts}
 use Rattle.client_tsm.specs.Client as client
 use Rattle.client_tsm.specs.Hearing.{heard_of}
 use Rattle.client_tsm.specs.Issuing.{issued}
 use Rattle.client_tsm.specs.Waking.{woken}
-use Rattle.client_tsm.specs.declared.plan.ClientPlan.{ClientPlan}
+use Rattle.client_tsm.specs.declared.plan.ClientTsmPlan.{ClientTsmPlan}
 use Rattle.headline_device.proofs.Doing.{opens_at_start, restart_is_done, waking_is_done}
 use Rattle.headline_device.specs.Devices.{IsDevice, announces}
 use Rattle.headline_device.specs.Devices as deeds
@@ -84,7 +84,7 @@ module _ {A : Type 0} (own : Station → MaxApdu) (s : ObjectSite A) (w : AllSta
   its c is = record { seen = is.seen; kept = is.kept.transactions }
 
   -- a client does what it planned
-  plan_goes : (place : ℕ) (c : ClientState A) (plan : ClientPlan A) → slice_get w.clients place ≡ Some c → IsClient own w.core c →
+  plan_goes : (place : ℕ) (c : ClientState A) (plan : ClientTsmPlan A) → slice_get w.clients place ≡ Some c → IsClient own w.core c →
       IsActed own s w.core (station_of c) c.bindings c.machine plan.said plan.told (client.committed w.core.book.moment plan.change c.machine) →
       Goes own s w (client_does own place plan c w)
   plan_goes place c plan there is acted =

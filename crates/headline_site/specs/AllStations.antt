@@ -11,7 +11,7 @@ use Rattle.client_tsm.specs.Client as client
 use Rattle.client_tsm.specs.Hearing as client_hearing
 use Rattle.client_tsm.specs.Issuing.{issued}
 use Rattle.client_tsm.specs.Waking as client_waking
-use Rattle.client_tsm.specs.declared.plan.ClientPlan.{ClientPlan}
+use Rattle.client_tsm.specs.declared.plan.ClientTsmPlan.{ClientTsmPlan}
 use Rattle.headline_device.specs.Devices.{Deed, after_deed, announces, left_of_deed, serves}
 use Rattle.headline_device.specs.Devices as deeds
 use Rattle.device.specs.Device.{DeviceState, restarts}
@@ -68,7 +68,7 @@ abbrev pub with_device : {A : Type 0} → ℕ → DeviceState A → ObjectCore A
 with_device place d core w = record w { core = core; devices = slice_set w.devices place d }
 
 -- what its client of transactions plans is done (5.4.4). own: the greatest APDU of each station (12.11)
-abbrev pub client_does : {A : Type 0} → (own : Station → MaxApdu) → ℕ → ClientPlan A → ClientState A → AllStations A →
+abbrev pub client_does : {A : Type 0} → (own : Station → MaxApdu) → ℕ → ClientTsmPlan A → ClientState A → AllStations A →
     AllStations A
 client_does own place plan c w =
     let next = record c { machine = client.committed (now w) plan.change c.machine } in
@@ -82,7 +82,7 @@ client_holds own place bindings c w =
     with_client place next (acts own (station_of c) [] [] (safe_client own next) w.core) w
 
 -- what it plans on an APDU from a station
-abbrev pub heard_plan : {A : Type 0} → ℕ → Station → Apdu → Option (Reply A) → ClientState A → ClientPlan A
+abbrev pub heard_plan : {A : Type 0} → ℕ → Station → Apdu → Option (Reply A) → ClientState A → ClientTsmPlan A
 heard_plan now from apdu found c =
     client_hearing.finished (client_hearing.reached now from (client_hearing.heard_of apdu) c.machine) found
 

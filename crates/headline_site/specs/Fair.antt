@@ -27,7 +27,7 @@ use Rattle.object_model.specs.declared.site.SiteObjects.{SiteObjects}
 use Rattle.primitives.specs.Sound.{IsSoundRequest}
 use Rattle.primitives.specs.declared.plain_data.Reply.{Reply}
 use Rattle.primitives.specs.declared.plain_data.Request.{Request}
-use Rattle.headline_server.specs.Keeping.{AreDistinct}
+use Rattle.remembered.specs.Records.{AreDistinct}
 use Rattle.server_tsm.specs.Hearing as server_hearing
 use Rattle.server_tsm.specs.Steps as server_steps
 use Rattle.headline_client.specs.Laws.{IsClient}

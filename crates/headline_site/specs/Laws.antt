@@ -6,14 +6,14 @@ use Rattle.apdu.specs.declared.numbers.RejectReason.{RejectReason}
 use Rattle.apdu.specs.declared.sizes.MaxApdu.{MaxApdu}
 use Rattle.client.specs.Client.{ClientState}
 use Rattle.client.specs.Hearing.{ClientHears}
-use Rattle.client.specs.declared.client.ClientTold.{ClientTold}
+use Rattle.client.specs.declared.plan.ClientTold.{ClientTold}
 use Rattle.client_tsm.specs.Open.{Open}
 use Rattle.client_tsm.specs.Waking.{woken}
 use Rattle.client_tsm.specs.declared.plan.TransactionOutcome.{TransactionOutcome}
 use Rattle.headline_device.specs.Devices.{deed_in, left_of_deed, station_of}
 use Rattle.device.specs.Device.{DeviceState}
 use Rattle.device.specs.Hearing.{DeviceHears}
-use Rattle.device.specs.declared.device.DeviceTold as device_told
+use Rattle.device.specs.declared.plan.DeviceTold as device_told
 use Rattle.headline.specs.Happenings.{Happening, after_all}
 use Rattle.headline.specs.Honest.{AreHonest}
 use Rattle.headline.specs.Protocol.{IsSite}
@@ -130,8 +130,8 @@ ClientHearingGoes A = (own : Station → MaxApdu) (s : ObjectSite A) (w : AllSta
 -- what a device does on an NPDU by its contract, where what it brings was said, goes as well
 abbrev pub DeviceHearingGoes : Type 0 → Type 0
 DeviceHearingGoes A = (own : Station → MaxApdu) (s : ObjectSite A) (w : AllStations A) (place : ℕ)
-    (d left : DeviceState A) (from : Mac) (to : Target) (npdu : List ℕ) (told : device_told.DeviceTold A) → Stands own s w →
-    slice_get w.devices place ≡ Some d →
+    (d left : DeviceState A) (from : Mac) (to : Target) (npdu : List ℕ) (told : device_told.DeviceTold A) →
+    Stands own s w → slice_get w.devices place ≡ Some d →
     BringsWhatWasSaid d.server.max_apdu w.core.book (station_of d) from to npdu →
     (h : DeviceHears (now w) from to npdu d told left) →
     Goes own s w (device_does place (deed_in (now w) from to npdu d told left h) d w)

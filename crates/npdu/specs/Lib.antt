@@ -6,3 +6,4 @@ pub mod Message
 pub mod Priority
 pub mod Refusals
 pub mod Rejected
+pub mod Sender

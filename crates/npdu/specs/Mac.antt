@@ -14,6 +14,11 @@ abbrev pub mac_octets : Mac → List ℕ
 mac_octets (One octet) = octet ∷ []
 mac_octets (Six octets) = octets
 
+-- an address has one octet or six (Table 6-2)
+abbrev pub is_address : Mac → Bool
+is_address (One octet) = true
+is_address (Six octets) = length octets == 6
+
 -- six octets, or none
 abbrev pub six_if : (six : Bool) → List ℕ → Option Mac
 six_if true octets = Some (Six octets)
@@ -23,6 +28,11 @@ six_if false octets = None
 abbrev pub mac_of : List ℕ → Option Mac
 mac_of (octet ∷ []) = Some (One octet)
 mac_of octets = six_if (length octets == 6) octets
+
+-- the station of a network with an address of MS/TP or BACnet/IP (Table 6-2)
+abbrev pub station_at : ℕ → Option Mac → Option Station
+station_at net None = None
+station_at net (Some mac) = Some (record { net = net; mac = mac })
 
 -- two addresses have the same octets (Table 6-2)
 abbrev pub same_mac : Mac → Mac → Bool

@@ -1,7 +1,7 @@
 //! Link addresses, and the stations and targets that they name.
 
 ghost use Rattle.std.specs.Prelude.{◌≡◌, ◌≢◌, ◌⊎◌, IfSome, IfNone, length};
-ghost use Rattle.npdu.specs.Mac.{mac_octets, mac_of};
+ghost use Rattle.npdu.specs.Mac.{is_address, mac_octets, mac_of};
 
 /// The address of a station on its own network: one octet on MS/TP, six on BACnet/IP (Table 6-2).
 #[derive(Clone, Copy, Debug, PartialEq, Eq, PartialOrd, Ord)]
@@ -43,6 +43,16 @@ impl Mac {
         match self {
             Mac::One(octet) => std::slice::from_ref(octet),
             Mac::Six(octets) => six_octets(octets),
+        }
+    }
+
+    /// Whether it has one octet or six, as each has: a contract sees it by this.
+    pub fn is_address(&self) -> bool
+        ensures { result ≡ is_address self.now }
+    {
+        match self {
+            Mac::One(_) => true,
+            Mac::Six(octets) => six_octets(octets).len() == 6,
         }
     }
 }

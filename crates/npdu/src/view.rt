@@ -4,6 +4,7 @@ ghost use Rattle.std.specs.Prelude.{◌≡◌, ◌<◌, ◌↔◌, IsTrue};
 ghost use Rattle.npdu.specs.Dnet.{dnet_number, IsDnet};
 ghost use Rattle.npdu.specs.Header.{IsDestination, IsSource, destination_of, source_of};
 
+use crate::mac::{Mac, Station};
 use crate::message::Message;
 use crate::priority::Priority;
 
@@ -106,4 +107,26 @@ pub struct View<'a> {
     pub message: Option<Message>,
     /// The octets behind the header.
     pub body: &'a [u8],
+}
+
+impl View<'_> {
+    ghost use Rattle.std.specs.Prelude.{◌≡◌, option_map};
+    ghost use Rattle.npdu.specs.Header.{source_of};
+    ghost use Rattle.npdu.specs.Sender.{sender};
+
+    /// Who says the message, where it came from the address `from` on the network `net`: the station that SNET and
+    /// SADR name, else the one that sent it. `None` where SADR has neither one octet nor six (6.2.2). It takes no
+    /// memory.
+    pub fn sender(&self, net: u16, from: Mac) -> Option<Station>
+        ensures { result ≡ sender net from (option_map source_of self.now.source) }
+    {
+        let Some(source) = self.source else {
+            return Some(Station { net, mac: from });
+        };
+        let mac = Mac::from_octets(source.mac)?;
+        Some(Station {
+            net: source.net,
+            mac,
+        })
+    }
 }

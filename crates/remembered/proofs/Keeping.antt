@@ -1,6 +1,6 @@
 -- Keys and records.
 use Rattle.std.proofs.Common.{◌≡◌, ◌∙◌, refl, sym, ap, subst, ℕ, ◌+◌, ◌<◌, Bool, true, false, List, [], ◌∷◌, ◌++◌, arith}
-use Rattle.std.specs.Prelude.{◌≢◌, cond, if◌then◌else◌, Option, Some, None, drop, take, length, zero, suc, not, slice_get}
+use Rattle.std.specs.Prelude.{◌≢◌, cond, if◌then◌else◌, Option, Some, None, drop, take, length, zero, suc, not, slice_get, slice_set}
 use Rattle.std.specs.List.{AllByRecursion}
 use Rattle.std.specs.declared.cmp.Ordering.{Ordering}
 use Rattle.std.specs.declared.cmp.Ordering.TheVariants.{Less, Equal, Greater}
@@ -8,6 +8,7 @@ use Rattle.std.specs.Ordering.{is_eq, nat_cmp}
 use Rattle.std.proofs.lemmas.Map.Lookups.{exact_unsigned}
 use Rattle.std.specs.Prelude.{◌==◌}
 use Rattle.std.proofs.lemmas.Bool.{eqb-true, eq-eqb}
+use Rattle.std.proofs.lemmas.List.{get_or-set_other, get_or-set_same}
 use Rattle.npdu.proofs.Stations.{then_equal, station_order}
 use Rattle.npdu.specs.declared.mac.Way.{Way}
 use Rattle.segments.specs.Sender.{SenderState}
@@ -15,8 +16,8 @@ use Rattle.npdu.specs.declared.mac.Station.{Station}
 use Rattle.remembered.specs.declared.record.Asker.{Asker}
 use Rattle.npdu.specs.Mac.{station_cmp}
 use Rattle.remembered.specs.declared.record.Record.{Record}
-use Rattle.remembered.specs.Records.{asker_cmp, later_or, some_if, is_of, lives, newest, said_on, said_again, said_by, begins_dead, forgotten}
-use Rattle.remembered.specs.Keeping.{cons_some, at, listed, is_at, key_of, IsFilled, AreApart, IsKept, IsSet, IsDropped, IsForgotten, Keys, get, first}
+use Rattle.remembered.specs.Records.{AreDistinct, asker_cmp, later_or, some_if, is_of, lives, newest, said_on, said_again, said_by, begins_dead, forgotten}
+use Rattle.remembered.specs.Keeping.{cons_some, at, listed, is_at, key_of, IsFilled, IsKept, IsSet, IsDropped, IsForgotten, Keys, get, first}
 
 -- ---- askers that compare alike are one
 pub exact_asker : (a b : Asker) → asker_cmp a b ≡ Equal → a ≡ b
@@ -29,6 +30,9 @@ pub is_equal : (o : Ordering) → is_eq o ≡ true → o ≡ Equal
 is_equal Less e = absurd (cc e)
 is_equal Equal e = refl
 is_equal Greater e = absurd (cc e)
+
+pub one_asker : (a b : Asker) → is_eq (asker_cmp a b) ≡ true → a ≡ b
+one_asker a b e = exact_asker a b (is_equal (asker_cmp a b) e)
 
 true_is_not : false ≡ true → ⊥
 true_is_not e = cc e
@@ -51,13 +55,26 @@ pub record Updated {X : Type 0} (held now : List (Option X)) (k : ℕ) (o : Opti
   pub changed : at now k ≡ o
   pub others : (j : ℕ) → j ≢ k → at now j ≡ at held j
 
-apart_more : (k j : ℕ) (ks : List ℕ) → AllByRecursion (λ i. i ≢ j) ks → k ≢ j → AllByRecursion (λ i. i ≢ j) (ks ++ k ∷ [])
-apart_more k j [] all one = (one, tt)
-apart_more k j (i ∷ ks) all one = (all.0, apart_more k j ks all.1 one)
+within_by : {X : Type 0} (held : List (Option X)) (k : ℕ) (x : X) → at held k ≡ Some x → k < length held
+within_by [] k x e = absurd (cc e)
+within_by (o ∷ held) zero x e = omega arith
+within_by (o ∷ held) (suc k) x e = let l = within_by held k x e in omega (arith, l)
 
-apart_push : (ks : List ℕ) (k : ℕ) → AreApart ks → AllByRecursion (λ j. j ≢ k) ks → AreApart (ks ++ k ∷ [])
-apart_push [] k apart new = (tt, tt)
-apart_push (j ∷ ks) k apart new = (apart_more k j ks apart.0 (λ e. new.0 (sym e)), apart_push ks k apart.1 new.1)
+-- what a key has is changed in its place
+pub updated_set : {X : Type 0} (held : List (Option X)) (k : ℕ) (x y : X) → at held k ≡ Some x → Updated held (slice_set held k (Some y)) k (Some y)
+updated_set held k x y e = record {
+  changed = get_or-set_same held k (Some y) None (within_by held k x e);
+  others = λ j other. get_or-set_other held k j (Some y) None other;
+}
+
+-- one more that doesn't stand there
+others_more : {X : Type 0} (y x : X) (xs : List X) → AllByRecursion (λ z. z ≢ x) xs → y ≢ x → AllByRecursion (λ z. z ≢ x) (xs ++ y ∷ [])
+others_more y x [] all one = (one, tt)
+others_more y x (z ∷ xs) all one = (all.0, others_more y x xs all.1 one)
+
+pub distinct_more : {X : Type 0} (xs : List X) (y : X) → AreDistinct xs → AllByRecursion (λ z. z ≢ y) xs → AreDistinct (xs ++ y ∷ [])
+distinct_more [] y distinct new = (tt, tt)
+distinct_more (x ∷ xs) y distinct new = (others_more y x xs distinct.0 (λ e. new.0 (sym e)), distinct_more xs y distinct.1 new.1)
 
 found_removed : (o w : Option ℕ) (b : Bool) (k : ℕ) → (b ≡ true → o ≡ None) → w ≡ later_or o (some_if b k) → cond b None w ≡ o
 found_removed o w true k none e = sym (none refl)
@@ -156,7 +173,7 @@ module _ {A : Type 0} where
       let same = others held now k (Some r) ks up apart in
       record {
         filled = filled_push now ks k (filled_same held now ks same kept.filled) (record { r = r; is = up.changed });
-        apart = apart_push ks k kept.apart apart;
+        apart = distinct_more ks k kept.apart apart;
         found = λ a. put a ∙ ap (cond (is_eq (asker_cmp r.asker a)) (Some k)) (kept.found a ∙ sym (key_same held now a ks same))
             ∙ sym (key_push now a ks k r up.changed ∙ later_cond (is_of a r) k (key_of now a ks));
       }
@@ -168,7 +185,7 @@ module _ {A : Type 0} where
       (listed_same held now ks (others held now k (Some r) ks up (vacant_apart held k ks none kept.filled)))
 
   -- ---- one key less
-  pub listed_popped : (held now : List (Option (Record A))) (k : ℕ) (ks : List ℕ) → AreApart (k ∷ ks) → Updated held now k None → IsFilled held k →
+  pub listed_popped : (held now : List (Option (Record A))) (k : ℕ) (ks : List ℕ) → AreDistinct (k ∷ ks) → Updated held now k None → IsFilled held k →
       listed now ks ≡ drop 1 (listed held (k ∷ ks))
   listed_popped held now k ks apart up filled = rw (filled.is) (listed_same held now ks (others held now k None ks up apart.0))
 
@@ -332,7 +349,7 @@ module _ {A : Type 0} where
       ) refl
 
   pub listed_sent : (held now : List (Option (Record A))) (a : Asker) (k : ℕ) (w : Way) (s : Option SenderState) (r : Record A) → at held k ≡ Some r →
-      Updated held now k (Some (said_on w s r)) → (ks : List ℕ) → AreApart ks → AllByRecursion (IsFilled held) ks → key_of held a ks ≡ Some k →
+      Updated held now k (Some (said_on w s r)) → (ks : List ℕ) → AreDistinct ks → AllByRecursion (IsFilled held) ks → key_of held a ks ≡ Some k →
       listed now ks ≡ said_again a w s (listed held ks)
   listed_sent held now a k w s r is up [] apart filled e = absurd (cc e)
   listed_sent held now a k w s r is up (j ∷ ks) apart filled e =

@@ -5,7 +5,7 @@ use Rattle.std.specs.Ordering.{is_eq}
 use Rattle.std.specs.declared.cmp.Ordering.TheVariants.{Less, Greater}
 use Rattle.remembered.specs.declared.record.Asker.{Asker}
 use Rattle.remembered.specs.declared.record.Record.{Record}
-use Rattle.remembered.specs.Records.{asker_cmp, is_of, later_or, some_if}
+use Rattle.remembered.specs.Records.{AreDistinct, asker_cmp, is_of, later_or, some_if}
 
 -- a list with this in front, where there is one
 abbrev pub cons_some : {X : Type 0} → Option X → List X → List X
@@ -36,11 +36,6 @@ pub record IsFilled {A : Type 0} (held : List (Option (Record A))) (k : ℕ) : T
   pub r : Record A
   pub is : at held k ≡ Some r
 
--- each key stands once
-abbrev pub AreApart : List ℕ → Type 0
-AreApart [] = Unit {0}
-AreApart (k ∷ ks) = AllByRecursion (λ j. j ≢ k) ks × AreApart ks
-
 -- askers with their keys
 abbrev pub Keys : Type 0
 Keys = List (Asker × ℕ)
@@ -70,7 +65,7 @@ pub record IsGap (keys : Keys) (a : Asker) (i : ℕ) : Type 0 where
 pub record IsKept {A : Type 0} (held : List (Option (Record A))) (keys : Keys) (order : List ℕ) :
     Type 0 where
   pub filled : AllByRecursion (IsFilled held) order
-  pub apart : AreApart order
+  pub apart : AreDistinct order
   pub found : (a : Asker) → get keys a ≡ key_of held a order
 
 -- the asker has this key or none, and each other what it had

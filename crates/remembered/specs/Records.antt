@@ -1,12 +1,12 @@
 -- What is remembered of requests that were executed, in order of execution (5.4.5).
-use Rattle.std.specs.Prelude.{◌≤◌, ℕ, ◌-◌, ◌&&◌, nat_le, not, Bool, true, false, if◌then◌else◌, List, [], ◌∷◌, length, Option, Some, None}
+use Rattle.std.specs.Prelude.{◌≢◌, ◌≤◌, ℕ, not, Bool, true, false, if◌then◌else◌, List, [], ◌∷◌, length, map, Option, Some, None}
+use Rattle.std.specs.List.{AllByRecursion}
 use Rattle.std.specs.Ordering.{is_eq, nat_cmp, ordering_then}
 use Rattle.std.specs.declared.cmp.Ordering.{Ordering}
 use Rattle.npdu.specs.Mac.{station_cmp}
 use Rattle.npdu.specs.declared.mac.Way.{Way}
 use Rattle.segments.specs.Sender.{SenderState}
 use Rattle.profile.specs.Ages as age
-use Rattle.profile.specs.Limits.{MAX_REMEMBERED}
 use Rattle.remembered.specs.declared.record.Asker.{Asker}
 use Rattle.remembered.specs.declared.record.Record.{Record}
 
@@ -69,6 +69,15 @@ AreFrom moment (r ∷ rs) = (moment ≤ r.at) × AreFrom moment rs
 abbrev pub AreAscending : {A : Type 0} → List (Record A) → Type 0
 AreAscending [] = Unit {0}
 AreAscending (r ∷ rs) = AreFrom r.at rs × AreAscending rs
+
+-- none of them stands twice
+abbrev pub AreDistinct : {X : Type 0} → List X → Type 0
+AreDistinct [] = Unit {0}
+AreDistinct (x ∷ xs) = AllByRecursion (λ y. y ≢ x) xs × AreDistinct xs
+
+-- who asked for what is remembered
+abbrev pub askers : {A : Type 0} → List (Record A) → List Asker
+askers rs = map (λ r. r.asker) rs
 
 -- the same, said on this way by this sender
 abbrev pub said_on : {A : Type 0} → Way → Option SenderState → Record A → Record A

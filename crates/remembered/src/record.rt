@@ -2,7 +2,7 @@
 
 ghost use Rattle.std.specs.Prelude.{◌≡◌, IfOk, Option};
 ghost use Rattle.std.specs.Ordering.{is_eq};
-ghost use Rattle.remembered.specs.Records.{asker_cmp, said_on};
+ghost use Rattle.remembered.specs.Records.{asker_cmp};
 
 use apdu::{AbortReason, ConfirmedService};
 use npdu::{Station, Way};
@@ -78,29 +78,6 @@ pub struct Record<A: Allocator> {
 }
 
 impl<A: Allocator + Copy> Record<A> {
-    /// The same, said on this way by this sender.
-    pub fn said_on(self, way: Way, sending: Option<Sender>) -> Self
-        ensures { result ≡ said_on way sending self }
-    {
-        let Record {
-            asker,
-            service,
-            answer,
-            chunk,
-            at,
-            ..
-        } = self;
-        Record {
-            asker,
-            service,
-            answer,
-            chunk,
-            at,
-            way,
-            sending,
-        }
-    }
-
     /// An equal record, in memory of `alloc`.
     ///
     /// # Errors

@@ -132,10 +132,11 @@ impl<A: Allocator + Copy> Records<A> for SlabRecords<A> {
         let Some(key) = self.keys.get(asker) else {
             return;
         };
-        let Some(entry) = self.held.try_remove(key) else {
+        let Some(entry) = self.held.get_mut(key) else {
             return;
         };
-        self.held.insert_reserved(entry.said_on(way, sending));
+        entry.way = way;
+        entry.sending = sending;
     }
 
     fn clear(&mut self) {

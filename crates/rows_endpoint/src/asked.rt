@@ -7,11 +7,11 @@ ghost use Rattle.apdu.specs.Sizes.{apdu_code};
 
 use crate::input::{Input, TakesInputs, read_input, run_copy, try_input};
 use crate::told::{push_parcel, push_parcels, push_reply, told_or_nothing};
-use apdu::{MaxApdu, Segmentation};
+use apdu::Segmentation;
 use endpoint::{Binding, Client, ClientTold};
 use npdu::{Mac, Parcel, Station, Target};
 use primitives::Request;
-use profile::MAX_MOMENT_MS;
+use profile::{LinkKind, MAX_MOMENT_MS};
 use sheets::{
     Counts, Given, Part, Stop, number, push_mark, push_octets, refusal, request_in, run_number,
     run_text, run_word, two_words,
@@ -43,7 +43,7 @@ pub(crate) fn open<A: Allocator + Copy>(alloc: A, word: &str) -> Result<Client<A
         _ => return Err(Stop::Unread(Part::Asked)),
     };
     let address = Station { net: 1, mac: OWN };
-    Ok(Client::new(alloc, address, segmented, MaxApdu::UpTo1476))
+    Ok(Client::new(alloc, address, segmented, LinkKind::BacnetIp))
 }
 
 /// Appends what came of a transaction: `tell 0 values enum 1`.

@@ -104,8 +104,9 @@ NothingIsFront = (chunk window : ℕ) (body : List ℕ) → IsFront chunk body (
 
 -- where a receiver has a front of a body, a piece of the body, of at most 256, keeps it a front
 abbrev pub JoinsKeepFront : Type 0
-JoinsKeepFront = (chunk : ℕ) (body : List ℕ) (h : Heard) (j : ReceiverState) → 1 ≤ chunk → length (pieces chunk body) ≤ 256 →
-    IsPiece chunk body h.says → IsFront chunk body j → IsFront chunk body (after_one h j)
+JoinsKeepFront = (chunk : ℕ) (body : List ℕ) (h : Heard) (j : ReceiverState) → 1 ≤ chunk →
+    length (pieces chunk body) ≤ 256 → IsPiece chunk body h.says → IsFront chunk body j →
+    IsFront chunk body (after_one h j)
 
 -- of pieces of one body, in whatever order they come and however often, the body is joined or nothing whole
 abbrev pub WholeIsCut : Type 0

@@ -35,7 +35,8 @@ is_due more j = (j.next == 0) || (not more || (suc j.due == j.window))
 
 -- the next segment would be one too many, or the octets would be
 abbrev pub is_full : List ℕ → ReceiverState → Bool
-is_full octets j = nat_le MAX_SEGMENTS_ACCEPTED j.next || nat_lt MAX_SERVICE_DATA_OCTETS (length j.octets + length octets)
+is_full octets j =
+    nat_le MAX_SEGMENTS_ACCEPTED j.next || nat_lt MAX_SERVICE_DATA_OCTETS (length j.octets + length octets)
 
 -- no NAK was said since a segment came in order, or the segment timeout has passed since
 abbrev pub may_nak : ℕ → Option ℕ → Bool

@@ -1,5 +1,5 @@
 -- What a server says (20.1.4 to 20.1.9).
-use Rattle.std.specs.Prelude.{ℕ, ◌*◌, List, ◌∷◌, Some, None, true}
+use Rattle.std.specs.Prelude.{ℕ, ◌*◌, Bool, List, ◌∷◌, Some, None, true, false}
 use Rattle.apdu.specs.Apdu.{abort_pdu, complex_ack, reject_pdu, segment_ack, simple_ack}
 use Rattle.apdu.specs.ApduWriting.{canonical}
 use Rattle.apdu.specs.Numbers.{abort_number, reject_number, service_number}
@@ -10,6 +10,8 @@ use Rattle.remembered.specs.declared.record.RememberedAnswer.{RememberedAnswer}
 use Rattle.remembered.specs.declared.record.RememberedAnswer.TheVariants as kept
 use Rattle.server_answers.specs.declared.said.ServerSaid.{ServerSaid}
 use Rattle.server_answers.specs.declared.said.ServerSaid.TheVariants as said
+use Rattle.unitdata.specs.Saying as rule
+use Rattle.unitdata.specs.Saying.{Spoken}
 
 -- the octets of an answer whole, under this invoke ID, to a request of this service (20.1.4, 20.1.5, 20.1.7, 20.1.9)
 abbrev pub answer_octets : {A : Type 0} → (invoke service : ℕ) → RememberedAnswer A → List ℕ
@@ -35,3 +37,16 @@ said_way (said.Segment way invoke service segment octets) = way
 said_way (said.SegmentAck way negative invoke number window) = way
 said_way (said.Reject way invoke reason) = way
 said_way (said.Abort way invoke reason) = way
+
+-- a reply is expected to a segment of an answer, and to nothing else that a device says: a whole answer of any type
+-- counts as a ComplexACK that is whole (6.2.2)
+abbrev pub expects_reply : {A : Type 0} → ServerSaid A → Bool
+expects_reply (said.Answer way invoke service answer) = rule.expects_reply kind.ComplexAck false
+expects_reply (said.Segment way invoke service segment octets) = rule.expects_reply kind.ComplexAck true
+expects_reply (said.SegmentAck way negative invoke number window) = rule.expects_reply kind.SegmentAck false
+expects_reply (said.Reject way invoke reason) = rule.expects_reply kind.Reject false
+expects_reply (said.Abort way invoke reason) = rule.expects_reply kind.Abort false
+
+-- it goes out so (6.2.2)
+abbrev pub spoken_of : {A : Type 0} → ServerSaid A → Spoken
+spoken_of s = record { way = said_way s; expects_reply = expects_reply s; apdu = said_octets s }

@@ -1,8 +1,7 @@
 //! What a server answers to a request, what it remembers of the answer, and how it says it (5.4.5).
 
 ghost use Rattle.std.specs.Prelude.{◌≡◌, ◌++◌, None, IfOk, OnOk, option_copied};
-ghost use Rattle.apdu.specs.ApduWriting.{CanBeWritten, error_octets};
-ghost use Rattle.apdu.specs.Apdu.{error_pdu};
+ghost use Rattle.apdu.specs.ApduWriting.{CanBeNamed, error_octets};
 ghost use Rattle.primitives.specs.Answers.{IsAnswerTo};
 ghost use Rattle.primitives.specs.Errors.{class_number, code_number};
 ghost use Rattle.primitives.specs.Sound.{IsSoundReply, IsSoundRequest};
@@ -15,13 +14,13 @@ ghost use Rattle.server_answers.specs.Answering.{data_of, recorded, whole_answer
 use crate::asked::Asked;
 use crate::limits::begun;
 use crate::said::ServerSaid;
-use apdu::{Apdu, Segment, ServiceError};
+use apdu::{Segment, ServiceError};
 use npdu::Way;
 use primitives::{Reply, Request};
 use profile::WINDOW_SIZE;
 use remembered::{Record, RememberedAnswer};
 use segments::{Piece, Sender};
-use services::{Answer, answer_of, encode_reply, service_of};
+use services::{ReplyPdu, encode_reply, pdu_of, service_of};
 use std::alloc::{AllocError, Allocator};
 use tags::{Items, Octets};
 
@@ -29,29 +28,34 @@ use tags::{Items, Octets};
 const SHORT_ANSWER: usize = 32;
 
 /// The contents of an Error.
-fn contents_of<A: Allocator + Copy>(
-    alloc: A,
-    service: u8,
-    error: ServiceError,
-) -> Result<Octets<A>, AllocError>
-    requires { CanBeWritten
-        (error_pdu 0 service (class_number error.class) (code_number error.code) error.first_failed) }
+fn contents_of<A: Allocator + Copy>(alloc: A, error: ServiceError) -> Result<Octets<A>, AllocError>
+    requires { CanBeNamed error.first_failed }
     ensures { IfOk result (λ contents. contents ≡
         error_octets (class_number error.class) (code_number error.code) error.first_failed) }
 {
-    let apdu = Apdu::Error {
-        invoke_id: 0,
-        service,
-        error,
-    };
     let mut out = Vec::new(alloc);
-    if apdu.write(&mut out).is_err() {
+    if error.write(&mut out).is_err() {
         return Err(AllocError);
     }
-    match out.as_slice() {
-        [_, _, _, contents @ ..] => Octets::from_slice(alloc, contents),
-        _ => Ok(Octets::new(alloc)),
+    Ok(Octets::from_vec(out))
+}
+
+/// The service data of a reply to a request (20.1.5).
+fn service_data<A: Allocator + Copy>(
+    alloc: A,
+    request: &Request<A>,
+    reply: &Reply<A>,
+) -> Result<Octets<A>, AllocError>
+    requires asked { IsSoundRequest request.now }
+    requires sound { IsSoundReply reply.now }
+    requires answers { IsAnswerTo request.now reply.now }
+    ensures { IfOk result (λ octets. octets ≡ canonical_reply request.now reply.now) }
+{
+    let mut out = Vec::with_capacity(alloc, SHORT_ANSWER)?;
+    if encode_reply(request, reply, &mut out).is_err() {
+        return Err(AllocError);
     }
+    Ok(Octets::from_vec(out))
 }
 
 /// The answer with this reply, before it is known how it goes.
@@ -69,16 +73,15 @@ pub fn kept_answer<A: Allocator + Copy>(
     requires answers { IsAnswerTo request.now reply.now }
     ensures { IfOk result (λ answer. answer ≡ answer_of request.now reply.now) }
 {
-    let mut body = Vec::with_capacity(alloc, SHORT_ANSWER)?;
-    if encode_reply(request, reply, &mut body).is_err() {
-        return Err(AllocError);
-    }
-    match answer_of(reply, &[]) {
-        Answer::Simple => Ok(RememberedAnswer::Simple),
-        Answer::Complex(_) => Ok(RememberedAnswer::Complex(Octets::from_vec(body))),
-        Answer::Error(error) => {
-            let service = u8::from(service_of(request));
-            Ok(RememberedAnswer::Error(contents_of(alloc, service, error)?))
+    match pdu_of(reply) {
+        ReplyPdu::SimpleAck => Ok(RememberedAnswer::Simple),
+        ReplyPdu::ComplexAck => {
+            let octets = service_data(alloc, request, reply)?;
+            Ok(RememberedAnswer::Complex(octets))
+        }
+        ReplyPdu::Error(error) => {
+            let contents = contents_of(alloc, error)?;
+            Ok(RememberedAnswer::Error(contents))
         }
     }
 }

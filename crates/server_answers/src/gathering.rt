@@ -1,8 +1,10 @@
 //! The segments of a request, so far (5.4.5.2, SEGMENTED_REQUEST).
 
-ghost use Rattle.std.specs.Prelude.{◌≡◌, IfOk};
+ghost use Rattle.std.specs.Prelude.{◌≡◌, IfOk, OnOk, OnErr};
+ghost use Rattle.server_answers.specs.Gathering.{gathered_with};
 
 use crate::asked::Asked;
+use apdu::Segment;
 use profile::gathers_still;
 use remembered::Asker;
 use segments::Receiver;
@@ -32,6 +34,30 @@ impl<A: Allocator + Copy> RequestGathering<A> {
             receiver: self.receiver.copy()?,
             at: self.at,
         })
+    }
+
+    /// One of who asks so, once this segment with these octets joined what came so far, at the moment `now`, in
+    /// milliseconds.
+    ///
+    /// # Errors
+    /// Want of memory. It is then as it was.
+    pub fn join(
+        &mut self,
+        asked: Asked,
+        segment: &Segment,
+        octets: &[u8],
+        now: u64,
+    ) -> Result<(), AllocError>
+        ensures joined { OnOk result (self.new ≡
+            gathered_with now asked segment.now octets.now self.old.receiver) }
+        ensures unchanged { OnErr result (self.new ≡ self.old) }
+    {
+        let more = segment.more_follows;
+        self.receiver
+            .on_segment(segment.sequence_number, more, octets, now)?;
+        self.asked = asked;
+        self.at = now;
+        Ok(())
     }
 }
 

@@ -7,7 +7,7 @@
 //!
 //! - `asked`, `gathering`: who asks, and the segments of a request so far.
 //! - `limits`: how long an answer may be, and how it is cut.
-//! - `said`: what a server says, and its octets.
+//! - `said`, `speaking`: what a server says, and its octets; it goes out as all that a station says.
 //! - `answering`: what is answered with a reply, what is remembered of it, and how it is said.
 //! - `plan`: what is said, executed and changed on an input.
 //! - `restarting`: what a restart leaves.
@@ -20,11 +20,13 @@ mod limits;
 mod plan;
 mod restarting;
 mod said;
+mod speaking;
 
 pub use answering::{kept_answer, push_answer, push_whole, push_window, recorded};
 pub use asked::{AnswerLimits, Asked, Origin};
 pub use gathering::RequestGathering;
 pub use limits::{answer_chunk, begun, fitted};
-pub use plan::{Executed, Planned, Saying, ServerChange, ServerPlan, ServerPlanSaid, ServerTold};
+pub use plan::{Executed, Planned, QuietChange, Saying, ServerPlan, ServerPlanSaid, ServerTold};
 pub use restarting::restart;
 pub use said::{ServerSaid, write_whole};
+pub use speaking::WholeAnswer;

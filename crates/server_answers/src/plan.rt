@@ -3,15 +3,16 @@
 ghost use Rattle.std.specs.Prelude.{◌≡◌, option_copied};
 ghost use Rattle.server_answers.specs.Answering.{answer_if_whole, whole_answers};
 
-use crate::gathering::RequestGathering;
+use crate::asked::Asked;
 use crate::said::ServerSaid;
+use apdu::Segment;
 use npdu::Way;
 use primitives::{Reply, Request};
 use remembered::{Asker, Record};
 use segments::Sender;
 use std::alloc::{AllocError, Allocator};
 use std::marker::Model;
-use tags::Items;
+use tags::{Items, Octets};
 
 /// A request that is executed.
 #[derive(Drop)]
@@ -36,19 +37,17 @@ pub struct Saying {
     pub sending: Option<Sender>,
 }
 
-/// What is to change of a server.
+/// What is to change of a server where nothing is executed.
 #[derive(Drop)]
-pub enum ServerChange<A: Allocator> {
+pub enum QuietChange<A: Allocator> {
     /// Nothing.
     Stays,
     /// An answer is said so.
     Says(Saying),
-    /// A request came so far.
-    Gathers(RequestGathering<A>),
+    /// A segment with these octets joins what came of a request, of who asks so.
+    Gathers(Asked, Segment, Octets<A>),
     /// What came of a request of this asker is given up.
     GivesUp(Asker),
-    /// A request is executed, and this remembered of it.
-    Executes(Request<A>, Record<A>),
     /// The server wakes: what is too old is forgotten, and answers are said so.
     Wakes(Items<Saying, A>),
 }
@@ -57,7 +56,7 @@ pub enum ServerChange<A: Allocator> {
 #[derive(Drop)]
 pub enum Planned<A: Allocator> {
     /// This is said and changes, and nothing is executed.
-    Changes(Items<ServerSaid<A>, A>, ServerChange<A>),
+    Changes(Items<ServerSaid<A>, A>, QuietChange<A>),
     /// This is said first, a request is executed, and this remembered of it. Where its answer goes whole, it is said
     /// from there, behind all else.
     Executes(Items<ServerSaid<A>, A>, Executed<A>, Record<A>),
@@ -101,11 +100,11 @@ fn if_whole<A: Allocator>(entry: &Record<A>) -> Option<&Record<A>>
 impl<A: Allocator> ServerPlan<A> {
     ghost use Rattle.std.specs.Prelude.{◌≡◌, ◌++◌, Some, None, IfOk, option_copied};
     ghost use Rattle.server_answers.specs.Answering.{answer_if_whole, whole_answers};
-    ghost use Rattle.server_answers.specs.Plan.{plan_of, quiet};
+    ghost use Rattle.server_answers.specs.Plan.{Stays, Executes, change_of, plan_of, quiet};
 
     /// Nothing is said, executed or changed. It takes no memory.
     pub fn nothing() -> Self
-        ensures { result ≡ quiet ServerChange.Stays }
+        ensures { result ≡ quiet Stays }
     {
         ServerPlan { held: None }
     }
@@ -117,9 +116,9 @@ impl<A: Allocator> ServerPlan<A> {
     pub fn changing(
         alloc: A,
         said: Items<ServerSaid<A>, A>,
-        change: ServerChange<A>,
+        change: QuietChange<A>,
     ) -> Result<Self, AllocError>
-        ensures { IfOk result (λ plan. plan ≡ record { said = said; executed = None; change = change }) }
+        ensures { IfOk result (λ plan. plan ≡ record { said = said; executed = None; change = change_of change }) }
     {
         let planned = Box::new(alloc, Planned::Changes(said, change))?;
         Ok(ServerPlan {
@@ -140,7 +139,7 @@ impl<A: Allocator> ServerPlan<A> {
         ensures { IfOk result (λ plan. plan ≡ record {
           said = said ++ answer_if_whole entry.sending entry;
           executed = Some executed;
-          change = ServerChange.Executes executed.request entry;
+          change = Executes executed.request entry;
         }) }
     {
         let planned = Box::new(alloc, Planned::Executes(said, executed, entry))?;

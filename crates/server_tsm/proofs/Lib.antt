@@ -3,6 +3,8 @@ pub mod Timely
 pub mod Names
 pub mod Meaning
 pub mod Full
+pub mod Arms
+pub mod Kept
 pub mod Planned
 pub mod Busy
 pub mod Silent

@@ -1,14 +1,19 @@
 -- What is read of a whole request is what its service data mean.
-use Rattle.std.proofs.Common.{◌≡◌, ℕ, Bool, true, false, List}
+use Rattle.std.proofs.Common.{◌≡◌, subst, ℕ, Bool, true, false, List}
 use Rattle.std.specs.Prelude.{nat_lt, length, IfOk, IfErr, Some, Result, Ok, Err}
+use Rattle.apdu.specs.declared.apdu.Segment.{Segment}
 use Rattle.apdu.specs.declared.numbers.RejectReason.{RejectReason}
 use Rattle.primitives.specs.declared.plain_data.Request.{Request}
 use Rattle.profile.specs.Limits.{MAX_SERVICE_DATA_OCTETS}
+use Rattle.segments.specs.Receiver.{ReceiverState, joining_after, joins, step_of}
+use Rattle.segments.specs.declared.step.Step.{Step}
 use Rattle.services.specs.Request.{RejectsRequest, SpellsRequest}
-use Rattle.server_tsm.specs.Hearing.{Whole, completed, completed_if, finished_by}
+use Rattle.server_answers.specs.declared.asked.Asked.{Asked}
+use Rattle.server_answers.specs.declared.asked.Origin.{Origin}
+use Rattle.server_tsm.specs.Hearing.{Heard, Whole, completed, completed_if, finished_by, joined, joined_by}
 use Rattle.server_answers.specs.Plan.{ServerPlan}
 use Rattle.server_tsm.specs.Server.{ServerTsmState}
-use Rattle.server_tsm.specs.Steps.{IsFinished, Means}
+use Rattle.server_tsm.specs.Steps.{IsFinished, IsPlan, IsPlanned, Means, on_heard}
 
 module _ {A : Type 0} where
   pub means_of : (service : ℕ) (octets : List ℕ) (found : Result (Request A) RejectReason) → IfOk found (λ request. SpellsRequest service octets request) →
@@ -26,3 +31,18 @@ module _ {A : Type 0} where
       IfOk r (λ plan. plan ≡ finished_by found now w.says w.asked st) → IfOk r (IsFinished now (completed w) st)
   is_completed now w st found (Ok plan) e means is = finished_if (nat_lt MAX_SERVICE_DATA_OCTETS (length w.octets)) now w st found plan e means is
   is_completed now w st found (Err fault) e means is = tt
+
+  -- what the receiver does is what it comes to once the segment joined
+  pub is_joined : {F : Type 0} (now : ℕ) (asked : Asked) (s : Segment) (octets : List ℕ) (j : ReceiverState) (st : ServerTsmState A) (stp : Step)
+      (r : Result (ServerPlan A) F) → stp ≡ step_of now s.sequence_number s.more_follows octets j →
+      IfOk r (IsFinished now (joined_by stp asked s octets (joining_after stp now s.more_follows octets j)) st) →
+      IfOk r (IsFinished now (joined now asked j s octets) st)
+  unfolding joins
+  is_joined now asked s octets j st stp r e h =
+      subst (λ (z : Step). IfOk r (IsFinished now (joined_by z asked s octets (joining_after z now s.more_follows octets j)) st)) e h
+
+  -- the plan for what is heard is one of the server
+  pub heard_is_planned : {F : Type 0} (now : ℕ) (from : Origin) (h : Heard) (st : ServerTsmState A) (r : Result (ServerPlan A) F) →
+      IfOk r (IsPlan now from h st) → IfOk r (IsPlanned now st)
+  heard_is_planned now from h st (Ok plan) p = on_heard from h p
+  heard_is_planned now from h st (Err fault) p = tt

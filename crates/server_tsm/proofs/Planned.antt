@@ -1,39 +1,37 @@
 -- What is planned is one plan, and of a whole faultless request its execution.
-use Rattle.std.proofs.Common.{◌≡◌, ◌∙◌, refl, sym, ap, subst, ℕ, ◌<◌, Bool, true, false, List, [], arith}
+use Rattle.std.proofs.Common.{◌≡◌, ◌∙◌, refl, sym, ap, subst, ℕ, ◌<◌, ◌≤◌, Bool, true, false, List, [], arith}
 use Rattle.std.specs.Prelude.{nat_lt, length, filter, Option, Some, None, Result, Ok, Err}
-use Rattle.std.proofs.lemmas.Bool.{eq-eqb, le-ltb}
+use Rattle.std.proofs.lemmas.Bool.{eq-eqb, le-leb, le-ltb}
 use Rattle.apdu.specs.declared.apdu.Segment.{Segment}
 use Rattle.apdu.specs.declared.numbers.RejectReason.{RejectReason}
-use Rattle.npdu.specs.declared.mac.Way.{Way}
 use Rattle.primitives.specs.declared.plain_data.Request.{Request}
 use Rattle.primitives.specs.declared.plain_data.Reply.TheVariants.{Values, Many, Done, Error, ErrorAt}
+use Rattle.remembered.proofs.Living.{full_is_living as living_are_full}
 use Rattle.remembered.specs.Records.{AreAscending, is_full, lives, remembered}
 use Rattle.remembered.specs.declared.record.Record.{Record}
-use Rattle.segments.specs.Sender.{SenderState, hears}
 use Rattle.segments.specs.Receiver.{joins}
 use Rattle.segments.specs.declared.step.Step.{Step}
 use Rattle.profile.specs.Limits.{MAX_REMEMBERED, MAX_SERVICE_DATA_OCTETS}
-use Rattle.segments.specs.declared.step.Turn.{Turn}
-use Rattle.segments.specs.declared.step.Turn.TheVariants as turn
 use Rattle.services.proofs.NoRequest.{request_not_spelled}
 use Rattle.services.proofs.OneReason.{one_reason}
 use Rattle.services.proofs.OneRequest.{one_request}
 use Rattle.services.specs.Asked.{replied}
+use Rattle.server_tsm.proofs.Arms.{holds_of_plan}
 use Rattle.server_tsm.proofs.Full.{full_is_living}
 use Rattle.server_answers.specs.Answering.{answer_of}
-use Rattle.server_answers.specs.Plan.{quiet, ServerPlan}
-use Rattle.server_tsm.specs.Hearing.{Heard, Message, asks, acknowledges, gives_up, nothing, Reached, Whole, plans, completes, ack_heard, ack_if, ack_taken}
-use Rattle.server_tsm.specs.Hearing.{asked_by, asked_on, asker_of, completed_if, executing, executing_if, finished, is_deaf, is_sending, joined, joined_by}
-use Rattle.server_tsm.specs.Hearing.{of_service, part_heard, part_joined, reached, repeated, repeated_if, request_heard, taken_if, turned_by, unless}
+use Rattle.server_answers.specs.Plan.{quiet, ServerPlan, Stays}
+use Rattle.server_tsm.specs.Hearing.{Heard, asks, Reached, Whole, plans, completes, ack_if}
+use Rattle.server_tsm.specs.Hearing.{asked_by, asked_on, asker_of, completed_if, executing, executing_if, finished, is_deaf, joined, joined_by}
+use Rattle.server_tsm.specs.Hearing.{of_service, part_heard, part_joined, reached, repeated, request_heard, taken_if, unless}
 use Rattle.server_tsm.specs.Hearing.{whole_heard}
-use Rattle.server_tsm.specs.Laws.{AnswerIsWhole, DeafDoesNothing, ExecutesNothing, IsTaken, JoinedIsExecuted, OnePlan, RememberedIsNotExecuted}
+use Rattle.server_tsm.specs.Laws.{AnswerIsWhole, DeafDoesNothing, ExecutesNothing, FullIsAborted, IsTaken, JoinedIsExecuted, OnePlan, RememberedIsNotExecuted}
 use Rattle.server_tsm.specs.Laws.{RepeatIsSaidAgain, WholeIsExecuted}
 use Rattle.server_tsm.specs.Server.{ServerTsmState}
 use Rattle.server_tsm.specs.Steps.{IsFinished, IsFound, Means}
+use Rattle.server_answers.specs.declared.asked.AnswerLimits.{AnswerLimits}
 use Rattle.server_answers.specs.declared.asked.Asked.{Asked}
 use Rattle.server_answers.specs.declared.asked.Origin.{Origin}
 use Rattle.server_answers.specs.declared.gathering.RequestGathering.{RequestGathering}
-use Rattle.server_answers.specs.declared.plan.ServerChange.TheVariants.{Stays}
 use Rattle.server_answers.specs.declared.said.ServerSaid.{ServerSaid}
 
 module _ {A : Type 0} where
@@ -87,17 +85,40 @@ module _ {A : Type 0} where
   found_so now w st plan x f means =
       f.is ∙ ap (λ (o : Option (Result (Request A) RejectReason)). finished now (completes w) o st) (found_once (completes w) f.found (Some x) f.means means)
 
+  -- a whole request of which no answer is remembered is read
+  whole_reached : (now id : ℕ) (from : Origin) (limits : AnswerLimits) (service : ℕ) (octets : List ℕ) (st : ServerTsmState A) →
+      let h : Heard = record { invoke_id = id; message = asks None limits service octets } in
+      IsTaken now from st → remembered now (asker_of from h) st.records ≡ None → length octets ≤ MAX_SERVICE_DATA_OCTETS →
+      reached now from h st ≡ completes (record { asked = asked_by from (asker_of from h) limits service; octets = octets; says = [] })
+  whole_reached now id from limits service octets st taken none short =
+      let h : Heard = record { invoke_id = id; message = asks None limits service octets } in
+      let asked : Asked = asked_by from (asker_of from h) limits service in
+      heard_if (is_deaf now from.by_broadcast st) (request_heard None now asked octets st) (not_deaf now from st taken)
+      ∙ ap (λ (o : Option (Record A)). whole_heard o now asked octets) none
+      ∙ fits_if (nat_lt MAX_SERVICE_DATA_OCTETS (length octets)) (record { asked = asked; octets = octets; says = [] })
+      (le-ltb MAX_SERVICE_DATA_OCTETS (length octets) short)
+
   pub whole_is_executed : WholeIsExecuted A
   whole_is_executed now id from limits service octets request st plan taken timely none few short spelled p =
       let h : Heard = record { invoke_id = id; message = asks None limits service octets } in
       let asked : Asked = asked_by from (asker_of from h) limits service in
       let w : Whole A = record { asked = asked; octets = octets; says = [] } in
-      let is_reached : reached now from h st ≡ completes w =
-      heard_if (is_deaf now from.by_broadcast st) (request_heard None now asked octets st) (not_deaf now from st taken)
-      ∙ ap (λ (o : Option (Record A)). whole_heard o now asked octets) none
-      ∙ fits_if (nat_lt MAX_SERVICE_DATA_OCTETS (length octets)) w (le-ltb MAX_SERVICE_DATA_OCTETS (length octets) short) in
-      found_so now w st plan (Ok request) (planned_by now (reached now from h st) (completes w) st plan is_reached p) spelled
+      found_so now w st plan (Ok request)
+      (planned_by now (reached now from h st) (completes w) st plan (whole_reached now id from limits service octets st taken none short) p) spelled
       ∙ place_if (is_full now st.records) now [] asked request st (not_full now st.records timely.ascending few)
+
+  is_full_where : (now : ℕ) (rs : List (Record A)) → AreAscending rs → length rs ≤ MAX_REMEMBERED → MAX_REMEMBERED ≤ length (filter (lives now) rs) →
+      is_full now rs ≡ true
+  is_full_where now rs up few many = living_are_full now rs up few ∙ le-leb MAX_REMEMBERED (length (filter (lives now) rs)) many
+
+  pub full_is_aborted : FullIsAborted A
+  full_is_aborted now id from limits service octets request st plan taken kept none many short spelled p =
+      let h : Heard = record { invoke_id = id; message = asks None limits service octets } in
+      let asked : Asked = asked_by from (asker_of from h) limits service in
+      let w : Whole A = record { asked = asked; octets = octets; says = [] } in
+      found_so now w st plan (Ok request)
+      (planned_by now (reached now from h st) (completes w) st plan (whole_reached now id from limits service octets st taken none short) p) spelled
+      ∙ ap (λ (b : Bool). executing_if b now [] asked request st) (is_full_where now st.records kept.timely.ascending kept.few many)
 
   pub joined_is_executed : JoinedIsExecuted A
   joined_is_executed now id from segment limits octets a ack request st plan taken timely none some last step few short spelled p =
@@ -105,17 +126,17 @@ module _ {A : Type 0} where
       let asked : Asked = asked_by from (asker_of from h) limits a.asked.service in
       let on : Asked = asked_on from.way a in
       let x = joins now segment.sequence_number segment.more_follows octets a.receiver in
-      let w : Whole A = record { asked = on; octets = x.state.octets; says = ack_if ack x.state on } in
+      let w : Whole A = record { asked = on; octets = x.state.octets; says = ack_if ack x.state.window on } in
       let is_reached : reached now from h st ≡ completes w =
       heard_if (is_deaf now from.by_broadcast st) (request_heard (Some segment) now asked octets st) (not_deaf now from st taken)
       ∙ ap (λ (o : Option (Record A)). part_heard o now asked segment octets st.gatherings) none
       ∙ ap (λ (o : Option (RequestGathering A)). part_joined o now asked segment octets st.gatherings) some
       ∙ ap (λ (b : Bool). of_service b (joined now on a.receiver segment octets)) (eq-eqb a.asked.service a.asked.service refl)
-      ∙ ap (λ (s : Step). joined_by s segment.more_follows now on x.state) step
-      ∙ ap (λ (b : Bool). taken_if b now (ack_if ack x.state on) on x.state) last
+      ∙ ap (λ (s : Step). joined_by s on segment octets x.state) step
+      ∙ ap (λ (b : Bool). taken_if b (ack_if ack x.state.window on) on segment octets x.state.octets) last
       ∙ fits_if (nat_lt MAX_SERVICE_DATA_OCTETS (length x.state.octets)) w (le-ltb MAX_SERVICE_DATA_OCTETS (length x.state.octets) short) in
       found_so now w st plan (Ok request) (planned_by now (reached now from h st) (completes w) st plan is_reached p) spelled
-      ∙ place_if (is_full now st.records) now (ack_if ack x.state on) on request st (not_full now st.records timely.ascending few)
+      ∙ place_if (is_full now st.records) now (ack_if ack x.state.window on) on request st (not_full now st.records timely.ascending few)
 
   pub deaf_does_nothing : DeafDoesNothing A
   deaf_does_nothing now id from segment limits service octets st plan deaf p =
@@ -143,51 +164,19 @@ module _ {A : Type 0} where
   abbrev IsHarmless : ServerPlan A → Type 0
   IsHarmless plan = (plan.executed ≡ None) × ExecutesNothing plan.change
 
-  harmless_repeat : (b : Bool) (now : ℕ) (way : Way) (r : Record A) → IsHarmless (repeated_if b now way r)
-  harmless_repeat true now way r = (refl, tt)
-  harmless_repeat false now way r = (refl, tt)
-
-  harmless_turn : (t : Turn) (c : SenderState) (way : Way) (r : Record A) → IsHarmless (turned_by t c way r)
-  harmless_turn turn.Waits c way r = (refl, tt)
-  harmless_turn turn.Sends c way r = (refl, tt)
-  harmless_turn turn.Ends c way r = (refl, tt)
-
-  harmless_ack : (o : Option SenderState) (now number window : ℕ) (negative : Bool) (way : Way) (r : Record A) →
-      IsHarmless (ack_taken o now number window negative way r)
-  harmless_ack None now number window negative way r = (refl, tt)
-  harmless_ack (Some c) now number window negative way r =
-      harmless_turn (hears now number window negative c).turn (hears now number window negative c).state way r
-
-  abbrev IsHarmlessReached : Reached A → Type 0
-  IsHarmlessReached (plans p) = IsHarmless p
-  IsHarmlessReached (completes w) = ⊥
-
-  harmless_unless : (b : Bool) (r : Reached A) → IsHarmlessReached r → IsHarmlessReached (unless b r)
-  harmless_unless true r h = (refl, tt)
-  harmless_unless false r h = h
-
-  harmless_message : (m : Message) (id now : ℕ) (from : Origin) (r : Record A) (st : ServerTsmState A) →
-      remembered now (asker_of from (record { invoke_id = id; message = m })) st.records ≡ Some r →
-      IsHarmlessReached (reached now from (record { invoke_id = id; message = m }) st)
-  harmless_message (asks segment limits service octets) id now from r st e =
-      let h : Heard = record { invoke_id = id; message = asks segment limits service octets } in
-      let asked : Asked = asked_by from (asker_of from h) limits service in
-      harmless_unless (is_deaf now from.by_broadcast st) (request_heard segment now asked octets st)
-      (subst (λ (x : Reached A). IsHarmlessReached x) (sym (repeated_heard now segment asked octets r st e))
-      (harmless_repeat (is_sending now r.sending) now from.way r))
-  harmless_message (acknowledges negative number window) id now from r st e =
-      subst (λ (o : Option (Record A)). IsHarmless (ack_heard o now number window negative from.way)) (sym e)
-      (harmless_ack r.sending now number window negative from.way r)
-  harmless_message gives_up id now from r st e = rw e (refl, tt)
-  harmless_message nothing id now from r st e = (refl, tt)
-
-  harmless_plan : (r : Reached A) (now : ℕ) (st : ServerTsmState A) (plan : ServerPlan A) → IsHarmlessReached r → IsFinished now r st plan → IsHarmless plan
-  harmless_plan (plans p) now st plan h f = subst (λ (x : ServerPlan A). IsHarmless x) (sym f.is) h
-  harmless_plan (completes w) now st plan h f = absurd h
-
   pub remembered_is_not_executed : RememberedIsNotExecuted A
-  remembered_is_not_executed now from h r st plan e p =
-      harmless_plan (reached now from h st) now st plan (harmless_message h.message h.invoke_id now from r st e) p
+  remembered_is_not_executed now from h r st plan some p = holds_of_plan now from h st plan (λ x. IsHarmless x) (record {
+    dropped = (refl, tt);
+    answered = λ sending way x. (refl, tt);
+    ended = λ x. (refl, tt);
+    given_up = (refl, tt);
+    gathers = λ says asked s octets a. (refl, tt);
+    overflows = λ says asked a. (refl, tt);
+    crowded = λ asked e. (refl, tt);
+    rejected = λ says asked reason a. (refl, tt);
+    full = λ says asked a e. (refl, tt);
+    executed = λ says asked q a of none room. absurd (cc (sym none ∙ some));
+  }) p
 
   pub answer_is_whole : AnswerIsWhole A
   unfolding answer_of

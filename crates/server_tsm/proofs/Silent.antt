@@ -12,7 +12,7 @@ use Rattle.server_tsm.specs.Laws.{AckOfDeadIsDropped, IsSaidOfLiving, StaysTimel
 use Rattle.server_tsm.specs.Steps.{IsFinished}
 use Rattle.server_tsm.specs.Waking.{again, said_at_turn, said_on_wake, turn_by, turn_where}
 use Rattle.server_tsm.proofs.Timely.{timely_later, timely_said, timely_woken, timely_executed}
-use Rattle.server_answers.specs.declared.plan.ServerChange.TheVariants.{Stays, Says, Gathers, GivesUp, Executes, Wakes}
+use Rattle.server_answers.specs.Plan.{Stays, Says, Gathers, GivesUp, Executes, Wakes}
 
 module _ {Y : Type 0} where
   all_append : (P : Y → Type 0) (xs ys : List Y) → AllByRecursion P xs → AllByRecursion P ys → AllByRecursion P (xs ++ ys)
@@ -53,7 +53,7 @@ module _ {A : Type 0} where
   pub stays_timely : StaysTimely A
   stays_timely now Stays st l t = timely_later st.moment now st.records l t
   stays_timely now (Says x) st l t = timely_said st.moment now x.asker x.way x.sending st.records l t
-  stays_timely now (Gathers a) st l t = timely_later st.moment now st.records l t
+  stays_timely now (Gathers asked segment octets) st l t = timely_later st.moment now st.records l t
   stays_timely now (GivesUp asker) st l t = timely_later st.moment now st.records l t
   stays_timely now (Executes request r) st l t = timely_executed st.moment now st.records r l t
   stays_timely now (Wakes xs) st l t = timely_woken st.moment now xs st.records l t

@@ -1,6 +1,6 @@
 -- What a server does with an APDU that it hears (5.4.5).
-use Rattle.std.specs.Prelude.{ℕ, ◌==◌, ◌||◌, nat_le, nat_lt, not, Bool, true, false, List, [], ◌∷◌, ◌++◌, length, filter, Option, Some, None, Result, Ok, Err}
-use Rattle.std.specs.List.{find}
+use Rattle.std.specs.Prelude.{ℕ, ◌==◌, ◌||◌, nat_le, nat_lt, not, Bool, true, false, List, [], ◌∷◌, ◌++◌, length, filter, Option, Some, None, Result, Ok, Err, unwrap_or}
+use Rattle.apdu.specs.Apdu.{apdu_of, invoke_id_of}
 use Rattle.apdu.specs.declared.apdu.Apdu.{Apdu}
 use Rattle.apdu.specs.declared.apdu.Apdu.TheVariants as apdu
 use Rattle.apdu.specs.declared.apdu.Segment.{Segment}
@@ -10,7 +10,7 @@ use Rattle.apdu.specs.declared.numbers.RejectReason.{RejectReason}
 use Rattle.npdu.specs.declared.mac.Way.{Way}
 use Rattle.primitives.specs.declared.plain_data.Request.{Request}
 use Rattle.primitives.specs.declared.plain_data.Reply.{Reply}
-use Rattle.remembered.specs.Records.{is_full, remembered, said_on, some_if}
+use Rattle.remembered.specs.Records.{is_full, remembered, said_on}
 use Rattle.remembered.specs.declared.record.Asker.{Asker}
 use Rattle.remembered.specs.declared.record.Record.{Record}
 use Rattle.segments.specs.Sender.{SenderState, Turned, has_ended, hears}
@@ -23,16 +23,14 @@ use Rattle.segments.specs.declared.step.Turn.TheVariants as turn
 use Rattle.services.specs.Asked.{replied}
 use Rattle.server_answers.specs.Answering.{answered_by, record_of}
 use Rattle.server_answers.specs.Limits.{begun}
-use Rattle.server_answers.specs.Plan.{ServerPlan, quiet}
-use Rattle.server_answers.specs.Gathering.{gathers_still, is_for}
+use Rattle.server_answers.specs.Plan.{ServerChange, ServerPlan, Stays, Says, Gathers, GivesUp, Executes, quiet}
+use Rattle.server_answers.specs.Gathering.{gathering_of, gathers_still}
 use Rattle.server_tsm.specs.Server.{ServerTsmState}
 use Rattle.server_tsm.specs.Waking.{saying_by}
 use Rattle.server_answers.specs.declared.asked.AnswerLimits.{AnswerLimits}
 use Rattle.server_answers.specs.declared.asked.Asked.{Asked}
 use Rattle.server_answers.specs.declared.asked.Origin.{Origin}
 use Rattle.server_answers.specs.declared.gathering.RequestGathering.{RequestGathering}
-use Rattle.server_answers.specs.declared.plan.ServerChange.{ServerChange}
-use Rattle.server_answers.specs.declared.plan.ServerChange.TheVariants.{Stays, Says, Gathers, GivesUp, Executes}
 use Rattle.server_answers.specs.declared.said.ServerSaid.{ServerSaid}
 use Rattle.server_answers.specs.declared.said.ServerSaid.TheVariants as said
 
@@ -67,20 +65,9 @@ message_of (apdu.Error invoke service e) = nothing
 message_of (apdu.Reject invoke reason) = nothing
 message_of (apdu.Abort server invoke reason) = of_client server gives_up
 
--- its invoke ID, or 0 where it has none (20.1)
-abbrev pub invoke_id_of : Apdu → ℕ
-invoke_id_of (apdu.ConfirmedRequest segment accepted max_segments max_apdu invoke service octets) = invoke
-invoke_id_of (apdu.UnconfirmedRequest service octets) = 0
-invoke_id_of (apdu.SimpleAck invoke service) = invoke
-invoke_id_of (apdu.ComplexAck segment invoke service octets) = invoke
-invoke_id_of (apdu.SegmentAck negative server invoke number window) = invoke
-invoke_id_of (apdu.Error invoke service e) = invoke
-invoke_id_of (apdu.Reject invoke reason) = invoke
-invoke_id_of (apdu.Abort server invoke reason) = invoke
-
--- what an APDU says to a server (20.1)
+-- what an APDU says to a server; its invoke ID counts as 0 where it has none (20.1)
 abbrev pub heard_of : Apdu → Heard
-heard_of a = record { invoke_id = invoke_id_of a; message = message_of a }
+heard_of a = record { invoke_id = unwrap_or (invoke_id_of (apdu_of a)) 0; message = message_of a }
 
 -- who says it
 abbrev pub asker_of : Origin → Heard → Asker
@@ -140,37 +127,36 @@ whole_heard (Some r) now asked octets = plans (repeated now asked.way r)
 whole_heard None now asked octets = completed (record { asked = asked; octets = octets; says = [] })
 
 -- a SegmentACK of the request (20.1.6)
-abbrev pub request_ack : {A : Type 0} → (negative : Bool) → ℕ → ReceiverState → Asked → ServerSaid A
-request_ack negative number j asked = said.SegmentAck asked.way negative asked.asker.invoke_id number j.window
+abbrev pub request_ack : {A : Type 0} → (negative : Bool) → (number window : ℕ) → Asked → ServerSaid A
+request_ack negative number window asked = said.SegmentAck asked.way negative asked.asker.invoke_id number window
 
 -- a SegmentACK, where one is due (5.4.5.2)
-abbrev pub ack_if : {A : Type 0} → Option ℕ → ReceiverState → Asked → List (ServerSaid A)
-ack_if None j asked = []
-ack_if (Some number) j asked = request_ack false number j asked ∷ []
+abbrev pub ack_if : {A : Type 0} → Option ℕ → (window : ℕ) → Asked → List (ServerSaid A)
+ack_if None window asked = []
+ack_if (Some number) window asked = request_ack false number window asked ∷ []
 
--- the request came so far, and this is said (5.4.5.2)
-abbrev pub gathered : {A : Type 0} → ℕ → List (ServerSaid A) → Asked → ReceiverState → ServerPlan A
-gathered now says asked j =
-    record { said = says; executed = None; change = Gathers (record { asked = asked; receiver = j; at = now }) }
+-- the segment joins what came so far, and this is said (5.4.5.2)
+abbrev pub gathered : {A : Type 0} → List (ServerSaid A) → Asked → Segment → List ℕ → ServerPlan A
+gathered says asked s octets = record { said = says; executed = None; change = Gathers asked s octets }
 
--- a segment was taken: more follow, or the request is whole (5.4.5.2)
-abbrev pub taken_if : {A : Type 0} → (more : Bool) → ℕ → List (ServerSaid A) → Asked → ReceiverState → Reached A
-taken_if true now says asked j = plans (gathered now says asked j)
-taken_if false now says asked j = completed (record { asked = asked; octets = j.octets; says = says })
+-- a segment was taken: more follow, or the request is whole, with all these octets (5.4.5.2)
+abbrev pub taken_if : {A : Type 0} → (more : Bool) → List (ServerSaid A) → Asked → Segment → (octets all : List ℕ) →
+    Reached A
+taken_if true says asked s octets all = plans (gathered says asked s octets)
+taken_if false says asked s octets all = completed (record { asked = asked; octets = all; says = says })
 
--- a segment comes to this by what the receiver does with it; one that would pass a limit gives the request up, with an
--- Abort (5.4.5.2)
-abbrev pub joined_by : {A : Type 0} → Step → (more : Bool) → ℕ → Asked → ReceiverState → Reached A
-joined_by (Taken ack) more now asked j = taken_if more now (ack_if ack j asked) asked j
-joined_by (Nak number) more now asked j = plans (gathered now (request_ack true number j asked ∷ []) asked j)
-joined_by Dropped more now asked j = plans (gathered now [] asked j)
-joined_by Full more now asked j = plans (aborting [] BufferOverflow asked (GivesUp asked.asker))
+-- a segment comes to this by what the receiver does with it, and what that is then; one that would pass a limit gives
+-- the request up, with an Abort (5.4.5.2)
+abbrev pub joined_by : {A : Type 0} → Step → Asked → Segment → List ℕ → ReceiverState → Reached A
+joined_by (Taken ack) asked s octets j = taken_if s.more_follows (ack_if ack j.window asked) asked s octets j.octets
+joined_by (Nak number) asked s octets j = plans (gathered (request_ack true number j.window asked ∷ []) asked s octets)
+joined_by Dropped asked s octets j = plans (gathered [] asked s octets)
+joined_by Full asked s octets j = plans (aborting [] BufferOverflow asked (GivesUp asked.asker))
 
 -- a segment joins what came so far (5.4.5.2)
 abbrev pub joined : {A : Type 0} → ℕ → Asked → ReceiverState → Segment → List ℕ → Reached A
 joined now asked j s octets =
-    let x = joins now s.sequence_number s.more_follows octets j in
-    joined_by x.step s.more_follows now asked x.state
+    let x = joins now s.sequence_number s.more_follows octets j in joined_by x.step asked s octets x.state
 
 -- a segment of another service than the first's is dropped (5.4.5.2)
 abbrev pub of_service : {A : Type 0} → (is_same : Bool) → Reached A → Reached A
@@ -197,15 +183,6 @@ abbrev pub part_joined : {A : Type 0} → Option (RequestGathering A) → ℕ �
 part_joined (Some a) now asked s octets xs =
     of_service (asked.service == a.asked.service) (joined now (asked_on asked.way a) a.receiver s octets)
 part_joined None now asked s octets xs = begins_if (s.sequence_number == 0) (is_crowded now xs) now asked s octets
-
--- what is still gathered
-abbrev pub still : {A : Type 0} → ℕ → Option (RequestGathering A) → Option (RequestGathering A)
-still now None = None
-still now (Some a) = some_if (gathers_still now a) a
-
--- what came of a request of this asker, unless it is too old (5.4.5.2)
-abbrev pub gathering_of : {A : Type 0} → ℕ → Asker → List (RequestGathering A) → Option (RequestGathering A)
-gathering_of now asker xs = still now (find (is_for asker) xs)
 
 -- a segment of a request: its answer may be remembered (5.4.5.1, 5.4.5.2)
 abbrev pub part_heard : {A : Type 0} → Option (Record A) → ℕ → Asked → Segment → List ℕ →

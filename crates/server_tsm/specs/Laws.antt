@@ -18,18 +18,16 @@ use Rattle.profile.specs.Limits.{MAX_GATHERINGS, MAX_REMEMBERED, MAX_SERVICE_DAT
 use Rattle.services.specs.Asked.{replied}
 use Rattle.services.specs.Request.{SpellsRequest}
 use Rattle.server_answers.specs.Answering.{answer_apdu, answer_of, answered_by, number_of}
-use Rattle.server_answers.specs.Plan.{quiet, ServerPlan}
-use Rattle.server_tsm.specs.Hearing.{Heard, asks, acknowledges, ack_if, asked_by, asked_on, asker_of, gathering_of, executing, is_deaf, repeated}
+use Rattle.server_answers.specs.Plan.{quiet, ServerChange, ServerPlan, Stays, GivesUp, Executes}
+use Rattle.server_tsm.specs.Hearing.{Heard, aborting, asks, acknowledges, ack_if, asked_by, asked_on, asker_of, executing, is_deaf, repeated}
 use Rattle.server_answers.specs.Said.{answer_octets}
-use Rattle.server_answers.specs.Gathering.{gathers_still}
-use Rattle.server_tsm.specs.Server.{AreTimely, ServerTsmState, committed}
-use Rattle.server_tsm.specs.Steps.{IsPlan}
+use Rattle.server_answers.specs.Gathering.{gathering_of, gathers_still}
+use Rattle.server_tsm.specs.Server.{AreKept, AreTimely, ServerTsmState, committed}
+use Rattle.server_tsm.specs.Steps.{IsPlan, IsPlanned}
 use Rattle.server_tsm.specs.Waking.{woken}
 use Rattle.server_answers.specs.declared.asked.AnswerLimits.{AnswerLimits}
 use Rattle.server_answers.specs.declared.asked.Origin.{Origin}
 use Rattle.server_answers.specs.declared.gathering.RequestGathering.{RequestGathering}
-use Rattle.server_answers.specs.declared.plan.ServerChange.{ServerChange}
-use Rattle.server_answers.specs.declared.plan.ServerChange.TheVariants.{Stays, Executes}
 use Rattle.server_answers.specs.declared.said.ServerSaid.{ServerSaid}
 use Rattle.server_answers.specs.declared.said.ServerSaid.TheVariants as said
 
@@ -70,7 +68,7 @@ JoinedIsExecuted A = (now id : ℕ) (from : Origin) (segment : Segment) (limits 
     gathering_of now (asker_of from h) st.gatherings ≡ Some a → segment.more_follows ≡ false → x.step ≡ Taken ack →
     living_records now st < MAX_REMEMBERED → length x.state.octets ≤ MAX_SERVICE_DATA_OCTETS →
     SpellsRequest a.asked.service x.state.octets request → IsPlan now from h st plan →
-    plan ≡ executing now (ack_if ack x.state asked) asked request (replied st.table request) st
+    plan ≡ executing now (ack_if ack x.state.window asked) asked request (replied st.table request) st
 
 -- a request that came by a broadcast, or before the end of the quiet time, comes to nothing (5.4)
 abbrev pub DeafDoesNothing : Type 0 → Type 0
@@ -152,6 +150,24 @@ abbrev pub StaysTimely : Type 0 → Type 0
 StaysTimely A = (now : ℕ) (change : ServerChange A) (st : ServerTsmState A) → st.moment ≤ now →
     AreTimely st.moment st.records →
     AreTimely (committed now change st).moment (committed now change st).records
+
+-- a planned change keeps what a server promises of what it remembers
+abbrev pub PlannedStaysKept : Type 0 → Type 0
+PlannedStaysKept A = (now : ℕ) (st : ServerTsmState A) (plan : ServerPlan A) → IsPlanned now st plan → st.moment ≤ now →
+    AreKept st.moment st.records →
+    AreKept (committed now plan.change st).moment (committed now plan.change st).records
+
+-- where MAX_REMEMBERED answers live, a whole request that means one, of which no answer is remembered, is aborted for
+-- want of resources; nothing else is said, and nothing executed (5.4.5.1)
+abbrev pub FullIsAborted : Type 0 → Type 0
+FullIsAborted A = (now id : ℕ) (from : Origin) (limits : AnswerLimits) (service : ℕ) (octets : List ℕ)
+    (request : Request A) (st : ServerTsmState A) (plan : ServerPlan A) →
+    let h : Heard = record { invoke_id = id; message = asks None limits service octets } in
+    let asked = asked_by from (asker_of from h) limits service in
+    IsTaken now from st → AreKept st.moment st.records → remembered now asked.asker st.records ≡ None →
+    MAX_REMEMBERED ≤ living_records now st → length octets ≤ MAX_SERVICE_DATA_OCTETS →
+    SpellsRequest service octets request → IsPlan now from h st plan →
+    plan ≡ aborting [] OutOfResources asked (GivesUp asked.asker)
 
 -- the octets of the answer with a reply, whole, are those of the APDU that answers with it (20.1)
 abbrev pub AnswerIsWhole : Type 0 → Type 0

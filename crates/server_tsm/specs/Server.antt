@@ -1,17 +1,17 @@
 -- The server of transactions: what it knows, and what changes of it (5.4.1, 5.4.5).
-use Rattle.std.specs.Prelude.{ℕ, ◌≤◌, List, [], ◌∷◌, ◌++◌, filter, Option, Some, None}
+use Rattle.std.specs.Prelude.{◌≡◌, ℕ, ◌≤◌, false, List, [], ◌∷◌, ◌++◌, length, filter, Option, Some, None}
 use Rattle.apdu.specs.declared.sizes.MaxApdu.{MaxApdu}
 use Rattle.object_model.specs.Objects.{PlainTable}
-use Rattle.remembered.specs.Records.{AreAscending, forgotten}
+use Rattle.remembered.specs.Records.{AreAscending, AreDistinct, askers, forgotten, is_full, remembered}
 use Rattle.remembered.specs.declared.record.Asker.{Asker}
 use Rattle.remembered.specs.declared.record.Record.{Record}
 use Rattle.profile.specs.Ages as age
+use Rattle.profile.specs.Limits.{MAX_REMEMBERED}
 use Rattle.services.specs.Asked.{left_by}
-use Rattle.server_answers.specs.Gathering.{is_kept}
+use Rattle.server_answers.specs.Gathering.{gathered_with, gathering_of, is_kept, receiver_of}
 use Rattle.server_tsm.specs.Waking.{after_sayings, after_saying}
 use Rattle.server_answers.specs.declared.gathering.RequestGathering.{RequestGathering}
-use Rattle.server_answers.specs.declared.plan.ServerChange.{ServerChange}
-use Rattle.server_answers.specs.declared.plan.ServerChange.TheVariants.{Stays, Says, Gathers, GivesUp, Executes, Wakes}
+use Rattle.server_answers.specs.Plan.{ServerChange, Stays, Says, Gathers, GivesUp, Executes, Wakes}
 
 -- records: what is remembered, in order of execution; gatherings: the requests of which segments came; table: the
 -- objects; max_apdu: what its link carries; quiet_until: the moment before which it takes no request; moment: that of
@@ -46,10 +46,22 @@ abbrev pub AreUpTo : {A : Type 0} → ℕ → List (Record A) → Type 0
 AreUpTo moment [] = Unit {0}
 AreUpTo moment (r ∷ rs) = (r.at ≤ moment) × AreUpTo moment rs
 
--- what a server remembers at a moment: in order of execution, and none executed later
+-- they are in order of execution, and none is executed later than a moment
 pub record AreTimely {A : Type 0} (moment : ℕ) (rs : List (Record A)) : Type 0 where
   pub ascending : AreAscending rs
   pub past : AreUpTo moment rs
+
+-- what a server keeps at a moment: MAX_REMEMBERED answers at most, one for each asker, and timely (5.4.5)
+pub record AreKept {A : Type 0} (moment : ℕ) (rs : List (Record A)) : Type 0 where
+  pub few : length rs ≤ MAX_REMEMBERED
+  pub distinct : AreDistinct (askers rs)
+  pub timely : AreTimely moment rs
+
+-- there is a place for the answer to an asker: none of it is remembered, nor are there as many others as can be
+-- (5.4.5.1)
+pub record HasPlace {A : Type 0} (now : ℕ) (asker : Asker) (rs : List (Record A)) : Type 0 where
+  pub none : remembered now asker rs ≡ None
+  pub room : is_full now rs ≡ false
 
 -- what is still gathered, but for what is of an excepted asker
 abbrev pub still_gathered : {A : Type 0} → ℕ → Option Asker → List (RequestGathering A) → List (RequestGathering A)
@@ -63,8 +75,13 @@ stamped now r = record r { at = now }
 abbrev pub committed : {A : Type 0} → ℕ → ServerChange A → ServerTsmState A → ServerTsmState A
 committed now Stays st = record st { moment = now }
 committed now (Says saying) st = record st { records = after_saying saying st.records; moment = now }
-committed now (Gathers a) st =
-    record st { gatherings = still_gathered now (Some a.asked.asker) st.gatherings ++ a ∷ []; moment = now }
+committed now (Gathers asked segment octets) st =
+    let before = receiver_of (gathering_of now asked.asker st.gatherings) segment in
+    record st {
+      gatherings =
+          still_gathered now (Some asked.asker) st.gatherings ++ gathered_with now asked segment octets before ∷ [];
+      moment = now;
+    }
 committed now (GivesUp asker) st =
     record st { gatherings = still_gathered now (Some asker) st.gatherings; moment = now }
 committed now (Executes request r) st =

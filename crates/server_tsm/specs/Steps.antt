@@ -6,6 +6,7 @@ use Rattle.services.specs.Request.{RejectsRequest, SpellsRequest}
 use Rattle.server_tsm.specs.Hearing.{Heard, Reached, Whole, plans, completes, reached, finished}
 use Rattle.server_answers.specs.Plan.{ServerPlan}
 use Rattle.server_tsm.specs.Server.{ServerTsmState, committed}
+use Rattle.server_tsm.specs.Waking.{woken}
 use Rattle.server_answers.specs.declared.asked.Origin.{Origin}
 use Rattle.server_answers.specs.declared.plan.ServerTold.{ServerTold}
 
@@ -34,6 +35,11 @@ pub record IsFinished {A : Type 0} (now : ℕ) (r : Reached A) (st : ServerTsmSt
 -- the plan is that of the server, for what it hears from there at this moment
 abbrev pub IsPlan : {A : Type 0} → ℕ → Origin → Heard → ServerTsmState A → ServerPlan A → Type 0
 IsPlan now from h st plan = IsFinished now (reached now from h st) st plan
+
+-- the plan is that of the server at this moment: for what it hears, or for a wake (5.4.5)
+pub data IsPlanned {A : Type 0} (now : ℕ) (st : ServerTsmState A) (plan : ServerPlan A) : Type 0 where
+  on_heard : (from : Origin) (h : Heard) → IsPlan now from h st plan → IsPlanned now st plan
+  on_wake : plan ≡ woken now st.records → IsPlanned now st plan
 
 -- what is said and executed of a plan
 abbrev pub told_of_plan : {A : Type 0} → ServerPlan A → ServerTold A

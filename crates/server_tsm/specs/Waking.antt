@@ -7,8 +7,7 @@ use Rattle.segments.specs.Sender.{SenderState, wakes}
 use Rattle.segments.specs.declared.step.Turn.{Turn}
 use Rattle.segments.specs.declared.step.Turn.TheVariants.{Waits, Sends, Ends}
 use Rattle.server_answers.specs.Answering.{answered_by}
-use Rattle.server_answers.specs.Plan.{ServerPlan}
-use Rattle.server_answers.specs.declared.plan.ServerChange.TheVariants.{Wakes}
+use Rattle.server_answers.specs.Plan.{ServerPlan, Wakes}
 use Rattle.server_answers.specs.declared.plan.Saying.{Saying}
 use Rattle.server_answers.specs.declared.said.ServerSaid.{ServerSaid}
 

@@ -1,16 +1,12 @@
 //! What a server does with an APDU that it hears (5.4.5).
 
-ghost use Rattle.std.specs.Prelude.{◌≡◌, ◌≤◌, ◌==◌, IfOk, Some, length, option_copied};
-ghost use Rattle.npdu.specs.declared.mac.Way.{Way};
-ghost use Rattle.profile.specs.Limits.{MAX_SERVICE_DATA_OCTETS};
+ghost use Rattle.std.specs.Prelude.{◌≡◌, ◌++◌, IfOk};
+ghost use Rattle.server_answers.specs.Plan.{change_of};
 ghost use Rattle.server_tsm.specs.Hearing.{
   aborting,
   ack_if,
   request_ack,
-  asked_by,
-  asked_on,
   gathered,
-  invoke_id_of,
   answering,
   rejecting,
 };
@@ -24,74 +20,101 @@ use profile::{MAX_SERVICE_DATA_OCTETS, has_no_place, lives};
 use remembered::{Asker, Record, Records};
 use segments::{Receiver, Step, granted_window};
 use server_answers::{
-    AnswerLimits, Asked, Executed, Origin, RequestGathering, ServerChange, ServerPlan, ServerSaid,
+    AnswerLimits, Asked, Executed, Origin, QuietChange, RequestGathering, ServerPlan, ServerSaid,
     ServerTold, answer_chunk, fitted, kept_answer, push_window, recorded,
 };
 use services::{Executor, decode_request};
 use std::alloc::{AllocError, Allocator};
-use tags::Items;
+use tags::{Items, Octets};
 
-/// The invoke ID of an APDU, 0 where it has none.
-fn invoke_id_of(apdu: &Apdu<'_>) -> u8
-    ensures { result ≡ invoke_id_of apdu.now }
-{
-    match apdu {
-        Apdu::UnconfirmedRequest { .. } => 0,
-        Apdu::ConfirmedRequest { invoke_id, .. }
-        | Apdu::SimpleAck { invoke_id, .. }
-        | Apdu::ComplexAck { invoke_id, .. }
-        | Apdu::SegmentAck { invoke_id, .. }
-        | Apdu::Error { invoke_id, .. }
-        | Apdu::Reject { invoke_id, .. }
-        | Apdu::Abort { invoke_id, .. } => *invoke_id,
-    }
-}
-
-/// Who asks, and what of.
-fn asked_by(origin: &Origin, asker: Asker, limits: AnswerLimits, service: u8) -> Asked
-    ensures { result ≡ asked_by origin.now asker limits service }
-{
-    Asked {
-        asker,
-        way: origin.way,
-        limits,
-        service,
-    }
-}
-
-/// An Abort is said behind this, and this changes.
-fn aborting<A: Allocator + Copy>(
+/// A request that is heard at a moment, in milliseconds: who asks, and the octets, of all of it or of a segment.
+#[derive(Drop)]
+struct HeardRequest<'a, A: Allocator> {
     alloc: A,
-    mut said: Items<ServerSaid<A>, A>,
-    reason: AbortReason,
-    asked: &Asked,
-    change: ServerChange<A>,
-) -> Result<ServerPlan<A>, AllocError>
-    ensures { IfOk result (λ plan. plan ≡ aborting said reason asked.now change) }
-{
-    said.push(ServerSaid::Abort {
-        way: asked.way,
-        invoke_id: asked.asker.invoke_id,
-        reason,
-    })?;
-    ServerPlan::changing(alloc, said, change)
+    moment: u64,
+    asked: Asked,
+    octets: &'a [u8],
 }
 
-/// A request is rejected, behind this.
-fn rejecting<A: Allocator + Copy>(
-    alloc: A,
-    mut said: Items<ServerSaid<A>, A>,
-    reason: RejectReason,
-    asked: &Asked,
-) -> Result<ServerPlan<A>, AllocError>
-    ensures { IfOk result (λ plan. plan ≡ rejecting said reason asked.now) }
-{
-    said.push(ServerSaid::Reject {
-        way: asked.way,
-        invoke_id: asked.asker.invoke_id,
-        reason,
-    })?;
-    ServerPlan::changing(alloc, said, ServerChange::GivesUp(asked.asker))
+impl<A: Allocator + Copy> HeardRequest<'_, A> {
+    /// An Abort is said behind this, and this changes.
+    fn aborting(
+        &self,
+        mut said: Items<ServerSaid<A>, A>,
+        reason: AbortReason,
+        change: QuietChange<A>,
+    ) -> Result<ServerPlan<A>, AllocError>
+        ensures { IfOk result (λ plan. plan ≡ aborting said reason self.now.asked (change_of change)) }
+    {
+        said.push(ServerSaid::Abort {
+            way: self.asked.way,
+            invoke_id: self.asked.asker.invoke_id,
+            reason,
+        })?;
+        ServerPlan::changing(self.alloc, said, change)
+    }
+
+    /// A request is rejected, behind this.
+    fn rejecting(
+        &self,
+        mut said: Items<ServerSaid<A>, A>,
+        reason: RejectReason,
+    ) -> Result<ServerPlan<A>, AllocError>
+        ensures { IfOk result (λ plan. plan ≡ rejecting said reason self.now.asked) }
+    {
+        said.push(ServerSaid::Reject {
+            way: self.asked.way,
+            invoke_id: self.asked.asker.invoke_id,
+            reason,
+        })?;
+        ServerPlan::changing(self.alloc, said, QuietChange::GivesUp(self.asked.asker))
+    }
+
+    /// A SegmentACK of the request.
+    fn request_ack(&self, negative: bool, sequence_number: u8, window: u8) -> ServerSaid<A>
+        ensures { result ≡ request_ack negative sequence_number window self.now.asked }
+    {
+        ServerSaid::SegmentAck {
+            way: self.asked.way,
+            negative,
+            invoke_id: self.asked.asker.invoke_id,
+            sequence_number,
+            window,
+        }
+    }
+
+    /// A SegmentACK of the request, where one is due.
+    fn ack_if(&self, number: Option<u8>, window: u8) -> Result<Items<ServerSaid<A>, A>, AllocError>
+        ensures { IfOk result (λ said. said ≡ ack_if number window self.now.asked) }
+    {
+        let mut said = Items::new(self.alloc);
+        if let Some(number) = number {
+            said.push(self.request_ack(false, number, window))?;
+        }
+        Ok(said)
+    }
+
+    /// Its segment joins what came so far, and this is said.
+    fn gathered(
+        &self,
+        said: Items<ServerSaid<A>, A>,
+        segment: &Segment,
+    ) -> Result<ServerPlan<A>, AllocError>
+        ensures { IfOk result (λ plan. plan ≡ gathered said self.now.asked segment.now self.now.octets.now) }
+    {
+        let octets = Octets::from_slice(self.alloc, self.octets)?;
+        let change = QuietChange::Gathers(self.asked, *segment, octets);
+        ServerPlan::changing(self.alloc, said, change)
+    }
+
+    /// All octets, once those of its segment joined what came so far.
+    fn octets_behind(&self, receiver: &Receiver<A>) -> Result<Vec<u8, A>, AllocError>
+        ensures { IfOk result (λ octets. octets.items ≡ receiver.now.octets ++ self.now.octets.now) }
+    {
+        let mut octets = Vec::from_slice(self.alloc, receiver.octets())?;
+        octets.extend_from_slice(self.octets)?;
+        Ok(octets)
+    }
 }
 
 /// An answer is said behind this and remembered, and the request executed.
@@ -113,66 +136,14 @@ fn answering<A: Allocator + Copy>(
     ServerPlan::executing(alloc, said, executed, entry)
 }
 
-/// A SegmentACK of the request.
-fn request_ack<A: Allocator>(
-    negative: bool,
-    sequence_number: u8,
-    receiver: &Receiver<A>,
-    asked: &Asked,
-) -> ServerSaid<A>
-    ensures { result ≡ request_ack negative sequence_number receiver.now asked.now }
-{
-    ServerSaid::SegmentAck {
-        way: asked.way,
-        negative,
-        invoke_id: asked.asker.invoke_id,
-        sequence_number,
-        window: receiver.window(),
-    }
-}
-
-/// A SegmentACK of the request, where one is due.
-fn ack_if<A: Allocator + Copy>(
-    alloc: A,
-    number: Option<u8>,
-    receiver: &Receiver<A>,
-    asked: &Asked,
-) -> Result<Items<ServerSaid<A>, A>, AllocError>
-    ensures { IfOk result (λ said. said ≡ ack_if number receiver.now asked.now) }
-{
-    let mut said = Items::new(alloc);
-    if let Some(number) = number {
-        said.push(request_ack(false, number, receiver, asked))?;
-    }
-    Ok(said)
-}
-
-/// The request came so far, and this is said.
-fn gathered<A: Allocator + Copy>(
-    alloc: A,
-    now: u64,
-    said: Items<ServerSaid<A>, A>,
-    asked: &Asked,
-    receiver: Receiver<A>,
-) -> Result<ServerPlan<A>, AllocError>
-    ensures { IfOk result (λ plan. plan ≡ gathered now said asked.now receiver) }
-{
-    let gathering = RequestGathering {
-        asked: *asked,
-        receiver,
-        at: now,
-    };
-    ServerPlan::changing(alloc, said, ServerChange::Gathers(gathering))
-}
-
 impl<E: Executor<A> + Drop, A: Allocator + Copy> ServerTsm<E, A> {
-    ghost use Rattle.std.specs.Prelude.{◌≡◌, ◌≤◌, ◌^◌, ◌==◌, IfOk, OnErr, Some, Ok, Err, length, option_copied};
+    ghost use Rattle.std.specs.Prelude.{◌≡◌, ◌≤◌, ◌^◌, ◌==◌, IfOk, OnErr, Some, option_copied};
     ghost use Rattle.primitives.specs.Sound.{IsSoundRequest};
     ghost use Rattle.remembered.specs.Records.{is_full, remembered};
-    ghost use Rattle.profile.specs.Limits.{MAX_SERVICE_DATA_OCTETS};
+    ghost use Rattle.segments.specs.Receiver.{joining_after};
     ghost use Rattle.services.specs.Asked.{replied};
+    ghost use Rattle.server_answers.specs.Gathering.{gathering_of};
     ghost use Rattle.server_tsm.specs.Hearing.{
-      gathering_of,
       begins_if,
       completed,
       executing,
@@ -188,11 +159,11 @@ impl<E: Executor<A> + Drop, A: Allocator + Copy> ServerTsm<E, A> {
       unless,
       whole_heard,
     };
-    ghost use Rattle.server_tsm.specs.Steps.{IsFinished, IsPlan, IsStep};
+    ghost use Rattle.server_tsm.specs.Steps.{IsFinished, IsPlan, IsPlanned, IsStep};
     ghost use Rattle.profile.specs.Times.{MAX_MOMENT_MS};
 
     /// The answer to this asker that is remembered and lives.
-    fn remembered(&self, now: u64, asker: Asker) -> Option<&Record<A>>
+    fn remembered(&self, asker: Asker, now: u64) -> Option<&Record<A>>
         ensures { option_copied result ≡ remembered now asker self.now.records }
     {
         let entry = self.records.find(asker)?;
@@ -213,15 +184,15 @@ impl<E: Executor<A> + Drop, A: Allocator + Copy> ServerTsm<E, A> {
     #[tactic(auto, using(crate::proofs::Names::reply_name))]
     fn executing(
         &self,
-        now: u64,
-        asked: &Asked,
+        heard: &HeardRequest<'_, A>,
         request: Request<A>,
         said: Items<ServerSaid<A>, A>,
     ) -> Result<ServerPlan<A>, AllocError>
         requires { IsSoundRequest request }
-        ensures { IfOk result (λ plan. plan ≡
-            executing now said asked.now request (replied self.now.table request) self.now) }
+        ensures { IfOk result (λ plan. plan ≡ executing heard.now.moment said heard.now.asked request
+            (replied self.now.table request) self.now) }
     {
+        let asked = &heard.asked;
         let reply = self.executor.reply(&request)?;
         let chunk = answer_chunk(self.max_apdu, &asked.limits);
         let answer = fitted(
@@ -229,100 +200,116 @@ impl<E: Executor<A> + Drop, A: Allocator + Copy> ServerTsm<E, A> {
             chunk,
             kept_answer(self.alloc, &request, &reply)?,
         );
-        let entry = recorded(now, chunk, asked, &request, answer);
+        let entry = recorded(heard.moment, chunk, asked, &request, answer);
         answering(self.alloc, said, request, reply, entry)
     }
 
     /// A request came whole: it is rejected or executed by what its service data mean.
     fn finished(
         &self,
-        now: u64,
-        asked: &Asked,
+        heard: &HeardRequest<'_, A>,
         found: Result<Request<A>, RejectReason>,
         said: Items<ServerSaid<A>, A>,
     ) -> Result<ServerPlan<A>, AllocError>
         requires { IfOk found IsSoundRequest }
-        ensures { IfOk result (λ plan. plan ≡ finished_by found now said asked.now self.now) }
+        ensures { IfOk result (λ plan. plan ≡
+            finished_by found heard.now.moment said heard.now.asked self.now) }
     {
         match found {
-            Err(reason) => rejecting(self.alloc, said, reason, asked),
-            Ok(_) if self.is_full(now) => {
-                let change = ServerChange::GivesUp(asked.asker);
-                aborting(self.alloc, said, AbortReason::OutOfResources, asked, change)
+            Err(reason) => heard.rejecting(said, reason),
+            Ok(_) if self.is_full(heard.moment) => {
+                let change = QuietChange::GivesUp(heard.asked.asker);
+                heard.aborting(said, AbortReason::OutOfResources, change)
             }
-            Ok(request) => self.executing(now, asked, request, said),
+            Ok(request) => self.executing(heard, request, said),
         }
     }
 
     /// A request came whole, and no answer of it is remembered.
     fn completed(
         &self,
-        now: u64,
-        asked: &Asked,
-        octets: &[u8],
+        heard: &HeardRequest<'_, A>,
         said: Items<ServerSaid<A>, A>,
     ) -> Result<ServerPlan<A>, AllocError>
-        ensures { IfOk result (IsFinished now
-            (completed (record { asked = asked.now; octets = octets.now; says = said })) self.now) }
+        ensures { IfOk result (IsFinished heard.now.moment (completed (record {
+          asked = heard.now.asked;
+          octets = heard.now.octets.now;
+          says = said;
+        })) self.now) }
     {
+        let octets = heard.octets;
         if octets.len() > MAX_SERVICE_DATA_OCTETS {
-            let change = ServerChange::GivesUp(asked.asker);
-            return aborting(self.alloc, said, AbortReason::BufferOverflow, asked, change);
+            let change = QuietChange::GivesUp(heard.asked.asker);
+            return heard.aborting(said, AbortReason::BufferOverflow, change);
         }
-        let found = decode_request(self.alloc, asked.service, octets)?;
-        self.finished(now, asked, found, said)
+        let found = decode_request(self.alloc, heard.asked.service, octets)?;
+        self.finished(heard, found, said)
     }
 
     /// A request in one APDU.
-    fn whole_heard(
-        &self,
-        now: u64,
-        asked: &Asked,
-        octets: &[u8],
-    ) -> Result<ServerPlan<A>, AllocError>
-        ensures { IfOk result (IsFinished now
-            (whole_heard (remembered now asked.now.asker self.now.records) now asked.now octets.now) self.now) }
+    fn whole_heard(&self, heard: &HeardRequest<'_, A>) -> Result<ServerPlan<A>, AllocError>
+        ensures { IfOk result (IsFinished heard.now.moment (whole_heard
+            (remembered heard.now.moment heard.now.asked.asker self.now.records) heard.now.moment heard.now.asked
+            heard.now.octets.now) self.now) }
     {
-        match self.remembered(now, asked.asker) {
-            Some(entry) => repeated(self.alloc, now, asked.way, entry),
-            None => self.completed(now, asked, octets, Items::new(self.alloc)),
+        match self.remembered(heard.asked.asker, heard.moment) {
+            Some(entry) => repeated(self.alloc, heard.moment, heard.asked.way, entry),
+            None => self.completed(heard, Items::new(self.alloc)),
         }
     }
 
-    /// What comes of a segment, by what the receiver does with it.
+    /// A request whose last segment is taken, behind what came so far.
+    fn whole_joined(
+        &self,
+        heard: &HeardRequest<'_, A>,
+        receiver: &Receiver<A>,
+        said: Items<ServerSaid<A>, A>,
+    ) -> Result<ServerPlan<A>, AllocError>
+        ensures { IfOk result (IsFinished heard.now.moment (completed (record {
+          asked = heard.now.asked;
+          octets = receiver.now.octets ++ heard.now.octets.now;
+          says = said;
+        })) self.now) }
+    {
+        let octets = heard.octets_behind(receiver)?;
+        let whole = HeardRequest {
+            alloc: self.alloc,
+            moment: heard.moment,
+            asked: heard.asked,
+            octets: octets.as_slice(),
+        };
+        self.completed(&whole, said)
+    }
+
+    /// What comes of a segment, by what the receiver of what came so far does with it.
     fn joined_by(
         &self,
-        now: u64,
+        heard: &HeardRequest<'_, A>,
         step: Step,
-        more: bool,
-        asked: &Asked,
-        receiver: Receiver<A>,
+        receiver: &Receiver<A>,
+        segment: &Segment,
     ) -> Result<ServerPlan<A>, AllocError>
-        ensures { IfOk result (IsFinished now (joined_by step more now asked.now receiver) self.now) }
+        ensures { IfOk result (IsFinished heard.now.moment (joined_by step heard.now.asked segment.now
+            heard.now.octets.now (joining_after step heard.now.moment segment.now.more_follows heard.now.octets.now
+            receiver.now)) self.now) }
     {
         match step {
             Step::Taken(ack) => {
-                let said = ack_if(self.alloc, ack, &receiver, asked)?;
-                if more {
-                    return gathered(self.alloc, now, said, asked, receiver);
+                let said = heard.ack_if(ack, receiver.window())?;
+                if segment.more_follows {
+                    return heard.gathered(said, segment);
                 }
-                self.completed(now, asked, receiver.octets(), said)
+                self.whole_joined(heard, receiver, said)
             }
             Step::Nak(number) => {
                 let mut said = Items::new(self.alloc);
-                said.push(request_ack(true, number, &receiver, asked))?;
-                gathered(self.alloc, now, said, asked, receiver)
+                said.push(heard.request_ack(true, number, receiver.window()))?;
+                heard.gathered(said, segment)
             }
-            Step::Dropped => gathered(self.alloc, now, Items::new(self.alloc), asked, receiver),
+            Step::Dropped => heard.gathered(Items::new(self.alloc), segment),
             Step::Full => {
-                let change = ServerChange::GivesUp(asked.asker);
-                aborting(
-                    self.alloc,
-                    Items::new(self.alloc),
-                    AbortReason::BufferOverflow,
-                    asked,
-                    change,
-                )
+                let change = QuietChange::GivesUp(heard.asked.asker);
+                heard.aborting(Items::new(self.alloc), AbortReason::BufferOverflow, change)
             }
         }
     }
@@ -330,125 +317,114 @@ impl<E: Executor<A> + Drop, A: Allocator + Copy> ServerTsm<E, A> {
     /// A segment joins what came so far.
     fn joined(
         &self,
-        now: u64,
-        asked: &Asked,
-        mut receiver: Receiver<A>,
+        heard: &HeardRequest<'_, A>,
+        receiver: &Receiver<A>,
         segment: &Segment,
-        octets: &[u8],
     ) -> Result<ServerPlan<A>, AllocError>
-        ensures { IfOk result (IsFinished now (joined now asked.now receiver segment.now octets.now) self.now) }
+        ensures { IfOk result (IsFinished heard.now.moment (joined heard.now.moment heard.now.asked receiver.now
+            segment.now heard.now.octets.now) self.now) }
     {
         let more = segment.more_follows;
-        let step = receiver.on_segment(segment.sequence_number, more, octets, now)?;
-        self.joined_by(now, step, more, asked, receiver)
+        let step = receiver.step(segment.sequence_number, more, heard.octets, heard.moment);
+        self.joined_by(heard, step, receiver, segment)
     }
 
     /// A segment of a request of which nothing came yet: the first begins, where there is a place.
     fn begun(
         &self,
-        now: u64,
-        asked: &Asked,
+        heard: &HeardRequest<'_, A>,
         segment: &Segment,
-        octets: &[u8],
     ) -> Result<ServerPlan<A>, AllocError>
-        ensures { IfOk result (IsFinished now
-            (begins_if (segment.now.sequence_number == 0) (is_crowded now self.now.gatherings) now asked.now segment.now
-            octets.now) self.now) }
+        ensures { IfOk result (IsFinished heard.now.moment (begins_if (segment.now.sequence_number == 0)
+            (is_crowded heard.now.moment self.now.gatherings) heard.now.moment heard.now.asked segment.now
+            heard.now.octets.now) self.now) }
     {
         if segment.sequence_number != 0 {
             return Ok(ServerPlan::nothing());
         }
-        if is_crowded(self.gatherings.as_slice(), now) {
+        if is_crowded(self.gatherings.as_slice(), heard.moment) {
             let said = Items::new(self.alloc);
-            return aborting(
-                self.alloc,
-                said,
-                AbortReason::OutOfResources,
-                asked,
-                ServerChange::Stays,
-            );
+            return heard.aborting(said, AbortReason::OutOfResources, QuietChange::Stays);
         }
         let receiver = Receiver::new(self.alloc, granted_window(segment.window));
-        self.joined(now, asked, receiver, segment, octets)
+        self.joined(heard, &receiver, segment)
     }
 
     /// A segment of a request of which this came so far.
     fn continued(
         &self,
-        now: u64,
+        heard: &HeardRequest<'_, A>,
         gathering: &RequestGathering<A>,
-        asked: &Asked,
         segment: &Segment,
-        octets: &[u8],
     ) -> Result<ServerPlan<A>, AllocError>
-        ensures { IfOk result (IsFinished now
-            (part_joined (Some gathering.now) now asked.now segment.now octets.now self.now.gatherings) self.now) }
+        ensures { IfOk result (IsFinished heard.now.moment (part_joined (Some gathering.now) heard.now.moment
+            heard.now.asked segment.now heard.now.octets.now self.now.gatherings) self.now) }
     {
-        if asked.service != gathering.asked.service {
+        if heard.asked.service != gathering.asked.service {
             return Ok(ServerPlan::nothing());
         }
         let asked = Asked {
-            way: asked.way,
+            way: heard.asked.way,
             ..gathering.asked
         };
-        self.joined(now, &asked, gathering.receiver.copy()?, segment, octets)
+        let on = HeardRequest {
+            alloc: self.alloc,
+            moment: heard.moment,
+            asked,
+            octets: heard.octets,
+        };
+        self.joined(&on, &gathering.receiver, segment)
     }
 
     /// A segment of a request whose answer is not remembered.
     fn part_joined(
         &self,
-        now: u64,
-        asked: &Asked,
+        heard: &HeardRequest<'_, A>,
         segment: &Segment,
-        octets: &[u8],
     ) -> Result<ServerPlan<A>, AllocError>
-        ensures { IfOk result (IsFinished now
-            (part_joined (gathering_of now asked.now.asker self.now.gatherings) now asked.now segment.now octets.now
-            self.now.gatherings) self.now) }
+        ensures { IfOk result (IsFinished heard.now.moment (part_joined
+            (gathering_of heard.now.moment heard.now.asked.asker self.now.gatherings) heard.now.moment heard.now.asked
+            segment.now heard.now.octets.now self.now.gatherings) self.now) }
     {
-        match gathering_of(self.gatherings.as_slice(), now, asked.asker) {
-            Some(gathering) => self.continued(now, gathering, asked, segment, octets),
-            None => self.begun(now, asked, segment, octets),
+        match gathering_of(self.gatherings.as_slice(), heard.moment, heard.asked.asker) {
+            Some(gathering) => self.continued(heard, gathering, segment),
+            None => self.begun(heard, segment),
         }
     }
 
     /// A segment of a request.
     fn part_heard(
         &self,
-        now: u64,
-        asked: &Asked,
+        heard: &HeardRequest<'_, A>,
         segment: &Segment,
-        octets: &[u8],
     ) -> Result<ServerPlan<A>, AllocError>
-        ensures { IfOk result (IsFinished now
-            (part_heard (remembered now asked.now.asker self.now.records) now asked.now segment.now octets.now
-            self.now.gatherings) self.now) }
+        ensures { IfOk result (IsFinished heard.now.moment (part_heard
+            (remembered heard.now.moment heard.now.asked.asker self.now.records) heard.now.moment heard.now.asked
+            segment.now heard.now.octets.now self.now.gatherings) self.now) }
     {
-        match self.remembered(now, asked.asker) {
-            Some(entry) => repeated(self.alloc, now, asked.way, entry),
-            None => self.part_joined(now, asked, segment, octets),
+        match self.remembered(heard.asked.asker, heard.moment) {
+            Some(entry) => repeated(self.alloc, heard.moment, heard.asked.way, entry),
+            None => self.part_joined(heard, segment),
         }
     }
 
     /// A Confirmed-Request, whole or in segments, which is dropped where the server is deaf.
     fn asked(
         &self,
-        now: u64,
+        heard: &HeardRequest<'_, A>,
         by_broadcast: bool,
-        asked: &Asked,
         segment: Option<Segment>,
-        octets: &[u8],
     ) -> Result<ServerPlan<A>, AllocError>
-        ensures { IfOk result (IsFinished now
-            (unless (is_deaf now by_broadcast self.now) (request_heard segment now asked.now octets.now self.now))
-            self.now) }
+        ensures { IfOk result (IsFinished heard.now.moment
+            (unless (is_deaf heard.now.moment by_broadcast self.now)
+            (request_heard segment heard.now.moment heard.now.asked heard.now.octets.now self.now)) self.now) }
     {
-        if by_broadcast || now < self.quiet_until {
+        if by_broadcast || heard.moment < self.quiet_until {
             return Ok(ServerPlan::nothing());
         }
         match segment {
-            None => self.whole_heard(now, asked, octets),
-            Some(segment) => self.part_heard(now, asked, &segment, octets),
+            None => self.whole_heard(heard),
+            Some(segment) => self.part_heard(heard, &segment),
         }
     }
 
@@ -463,11 +439,19 @@ impl<E: Executor<A> + Drop, A: Allocator + Copy> ServerTsm<E, A> {
         apdu: &Apdu<'_>,
         now: u64,
     ) -> Result<ServerPlan<A>, AllocError>
+        ensures heard { IfOk result (IsPlan now origin.now (heard_of apdu.now) self.now) }
+        ensures planned { IfOk result (IsPlanned now self.now) }
+    {
+        self.heard(origin, apdu, now)
+    }
+
+    /// What the server plans for this APDU.
+    fn heard(&self, origin: &Origin, apdu: &Apdu<'_>, now: u64) -> Result<ServerPlan<A>, AllocError>
         ensures { IfOk result (IsPlan now origin.now (heard_of apdu.now) self.now) }
     {
         let asker = Asker {
             station: origin.station,
-            invoke_id: invoke_id_of(apdu),
+            invoke_id: apdu.invoke_id().unwrap_or(0),
         };
         match apdu {
             Apdu::ConfirmedRequest {
@@ -484,8 +468,18 @@ impl<E: Executor<A> + Drop, A: Allocator + Copy> ServerTsm<E, A> {
                     max_segments: *max_segments,
                     max_apdu: *max_apdu,
                 };
-                let asked = asked_by(origin, asker, limits, *service);
-                self.asked(now, origin.by_broadcast, &asked, *segment, data)
+                let heard = HeardRequest {
+                    alloc: self.alloc,
+                    moment: now,
+                    asked: Asked {
+                        asker,
+                        way: origin.way,
+                        limits,
+                        service: *service,
+                    },
+                    octets: data,
+                };
+                self.asked(&heard, origin.by_broadcast, *segment)
             }
             Apdu::SegmentAck {
                 server: false,
@@ -497,16 +491,23 @@ impl<E: Executor<A> + Drop, A: Allocator + Copy> ServerTsm<E, A> {
                 let ack = Ack::new(*negative, *sequence_number, *window);
                 ack_heard(
                     self.alloc,
-                    self.remembered(now, asker),
+                    self.remembered(asker, now),
                     now,
                     ack,
                     origin.way,
                 )
             }
             Apdu::Abort { server: false, .. } => {
-                given_up(self.alloc, self.remembered(now, asker), asker)
+                given_up(self.alloc, self.remembered(asker, now), asker)
             }
-            _ => Ok(ServerPlan::nothing()),
+            // What no client says is not for a server. An arm for each: where they join, no proof is found.
+            Apdu::SegmentAck { server: true, .. } => Ok(ServerPlan::nothing()),
+            Apdu::Abort { server: true, .. } => Ok(ServerPlan::nothing()),
+            Apdu::UnconfirmedRequest { .. } => Ok(ServerPlan::nothing()),
+            Apdu::SimpleAck { .. } => Ok(ServerPlan::nothing()),
+            Apdu::ComplexAck { .. } => Ok(ServerPlan::nothing()),
+            Apdu::Error { .. } => Ok(ServerPlan::nothing()),
+            Apdu::Reject { .. } => Ok(ServerPlan::nothing()),
         }
     }
 

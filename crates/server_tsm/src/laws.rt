@@ -6,8 +6,10 @@ ghost use Rattle.server_tsm.specs.Laws.{
   BusyIsFull,
   DeafDoesNothing,
   ExecutedIsFitted,
+  FullIsAborted,
   JoinedIsExecuted,
   OnePlan,
+  PlannedStaysKept,
   RememberedIsNotExecuted,
   RepeatIsSaidAgain,
   StaysTimely,
@@ -49,6 +51,12 @@ pub fn busy_is_full<A: Allocator>()
     ensures fitted { ExecutedIsFitted A }
 {}
 
+/// Where 64 answers live, a faultless request in a whole APDU, from a station alone, outside the quiet time, of which
+/// no answer is remembered, is aborted for want of resources, and nothing is executed.
+pub fn full_is_aborted<A: Allocator>()
+    ensures { FullIsAborted A }
+{}
+
 /// Nothing is said of an answer once its record is dead.
 #[tactic(auto, using(crate::proofs::Silent::silent_rules))]
 pub fn dead_is_silent<A: Allocator>()
@@ -60,6 +68,12 @@ pub fn dead_is_silent<A: Allocator>()
 #[tactic(auto, using(crate::proofs::Silent::stays_timely))]
 pub fn stays_timely<A: Allocator>()
     ensures { StaysTimely A }
+{}
+
+/// What is planned for what is heard, or for a wake, keeps 64 answers at most, one for each asker, in order of
+/// execution, and none of them executed later than the moment.
+pub fn planned_stays_kept<A: Allocator>()
+    ensures { PlannedStaysKept A }
 {}
 
 /// The octets of an answer, whole, are those of the APDU that answers.

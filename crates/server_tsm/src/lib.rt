@@ -55,11 +55,11 @@ mod server;
 mod waking;
 
 pub use laws::{
-    answer_is_whole, busy_is_full, dead_is_silent, deaf_does_nothing, one_plan,
-    repeat_is_said_again, stays_timely, whole_is_executed,
+    answer_is_whole, busy_is_full, dead_is_silent, deaf_does_nothing, full_is_aborted, one_plan,
+    planned_stays_kept, repeat_is_said_again, stays_timely, whole_is_executed,
 };
 pub use server::ServerTsm;
 pub use server_answers::{
-    AnswerLimits, Asked, Executed, Origin, RequestGathering, Saying, ServerChange, ServerPlan,
+    AnswerLimits, Asked, Executed, Origin, QuietChange, RequestGathering, Saying, ServerPlan,
     ServerPlanSaid, ServerSaid, ServerTold, write_whole,
 };

@@ -3,23 +3,20 @@
 ghost use Rattle.std.specs.Prelude.{◌≡◌, IfOk, None, option_copied};
 ghost use Rattle.remembered.specs.Records.{said_on};
 ghost use Rattle.server_tsm.specs.Hearing.{ack_heard, ack_taken, given_up, is_sending};
-ghost use Rattle.server_answers.specs.Plan.{quiet};
+ghost use Rattle.server_answers.specs.Plan.{change_of, quiet};
 ghost use Rattle.server_tsm.specs.Hearing.{repeated, answer_plan, turned_by};
 ghost use Rattle.server_tsm.specs.Waking.{saying_by};
 
 use npdu::Way;
 use remembered::{Asker, Record};
 use segments::{Sender, Turn};
-use server_answers::{Saying, ServerChange, ServerPlan, begun, push_answer};
+use server_answers::{QuietChange, Saying, ServerPlan, begun, push_answer};
 use std::alloc::{AllocError, Allocator};
 use tags::Items;
 
 /// Nothing is said or executed, and this changes.
-fn quiet<A: Allocator + Copy>(
-    alloc: A,
-    change: ServerChange<A>,
-) -> Result<ServerPlan<A>, AllocError>
-    ensures { IfOk result (λ plan. plan ≡ quiet change) }
+fn quiet<A: Allocator + Copy>(alloc: A, change: QuietChange<A>) -> Result<ServerPlan<A>, AllocError>
+    ensures { IfOk result (λ plan. plan ≡ quiet (change_of change)) }
 {
     ServerPlan::changing(alloc, Items::new(alloc), change)
 }
@@ -50,7 +47,7 @@ fn answer_plan<A: Allocator + Copy>(
         way,
         sending,
     };
-    ServerPlan::changing(alloc, said, ServerChange::Says(saying))
+    ServerPlan::changing(alloc, said, QuietChange::Says(saying))
 }
 
 /// A request came whose answer is remembered: while segments of it are said it is dropped, else it is said again.
@@ -69,10 +66,10 @@ pub(crate) fn repeated<A: Allocator + Copy>(
 }
 
 /// Nothing more of an answer is said.
-fn ended<A: Allocator>(way: Way, entry: &Record<A>) -> ServerChange<A>
-    ensures { result ≡ ServerChange.Says (saying_by None (said_on way None entry.now)) }
+fn ended<A: Allocator>(way: Way, entry: &Record<A>) -> QuietChange<A>
+    ensures { result ≡ QuietChange.Says (saying_by None (said_on way None entry.now)) }
 {
-    ServerChange::Says(Saying {
+    QuietChange::Says(Saying {
         asker: entry.asker,
         way,
         sending: None,
@@ -165,7 +162,7 @@ pub(crate) fn given_up<A: Allocator + Copy>(
     ensures { IfOk result (λ plan. plan ≡ given_up (option_copied found.entry) asker) }
 {
     match found {
-        None => quiet(alloc, ServerChange::GivesUp(asker)),
+        None => quiet(alloc, QuietChange::GivesUp(asker)),
         Some(entry) => quiet(alloc, ended(entry.way, entry)),
     }
 }

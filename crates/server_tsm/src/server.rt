@@ -4,13 +4,13 @@ ghost use Rattle.std.specs.Prelude.{◌≡◌, ◌<◌, ◌∷◌, ◌++◌, []}
 ghost use Rattle.std.specs.Prelude.{vec_capacity, vec_len};
 ghost use Rattle.server_tsm.specs.Waking.{after_sayings};
 
-use crate::gatherings::{copied, keep_gathered};
-use apdu::MaxApdu;
+use crate::gatherings::{copied, keep_gathered, take_joined};
+use apdu::{MaxApdu, Segment};
 use primitives::Request;
 use remembered::{Asker, Record, Records, SlabRecords};
 use server_answers::{
-    Executed, Planned, RequestGathering, Saying, ServerChange, ServerPlan, ServerTold, push_whole,
-    restart,
+    Asked, Executed, Planned, QuietChange, RequestGathering, Saying, ServerPlan, ServerTold,
+    push_whole, restart,
 };
 use services::Executor;
 use std::alloc::{AllocError, Allocator};
@@ -30,7 +30,7 @@ pub struct ServerTsm<E: Executor<A> + Drop, A: Allocator> {
 }
 
 impl<E: Executor<A> + Drop, A: Allocator> Model for ServerTsm<E, A> {
-    ghost use Rattle.server_tsm.specs.Server.{ServerTsmState, AreTimely};
+    ghost use Rattle.server_tsm.specs.Server.{ServerTsmState, AreKept};
 
     ghost Value = { ServerTsmState A };
 
@@ -43,7 +43,7 @@ impl<E: Executor<A> + Drop, A: Allocator> Model for ServerTsm<E, A> {
       moment = s.moment;
     } };
 
-    ghost invariant = { λ s. AreTimely s.moment s.records };
+    ghost invariant = { λ s. AreKept s.moment s.records };
 }
 
 /// Puts an element behind all others, for which there is room.
@@ -63,11 +63,12 @@ fn say_all<A: Allocator + Copy>(records: &mut SlabRecords<A>, sayings: &[Saying]
     }
 }
 
-#[tactic(auto, using(crate::proofs::Timely::timely_rules))]
+#[tactic(auto, using(crate::proofs::Kept::kept_rules))]
 impl<E: Executor<A> + Drop, A: Allocator + Copy> ServerTsm<E, A> {
     ghost use Rattle.std.specs.Prelude.{◌≡◌, ◌≤◌, ◌^◌, IfOk, OnOk, OnErr, None};
-    ghost use Rattle.server_tsm.specs.Server.{committed, new_server, restarted};
-    ghost use Rattle.server_tsm.specs.Steps.{told_of_plan};
+    ghost use Rattle.server_tsm.specs.Server.{HasPlace, committed, new_server, restarted};
+    ghost use Rattle.server_answers.specs.Plan.{Says, Gathers, GivesUp, Executes, Wakes, change_of};
+    ghost use Rattle.server_tsm.specs.Steps.{IsPlanned, told_of_plan};
     ghost use Rattle.profile.specs.Times.{MAX_MOMENT_MS};
 
     /// A server that has executed nothing, on the objects of this executor, whose memory will be that of `alloc`.
@@ -131,9 +132,8 @@ impl<E: Executor<A> + Drop, A: Allocator + Copy> ServerTsm<E, A> {
         self.moment = now;
     }
 
-    /// Does what was planned, at the moment `now`, in milliseconds, and answers the request that was executed, if one
-    /// was. It was planned at that moment, with no other input between. What is remembered of a request has that
-    /// moment.
+    /// Does what is planned at the moment `now`, in milliseconds, and answers the request that was executed, if one
+    /// was. What is remembered of a request has that moment.
     ///
     /// # Errors
     /// Want of memory, where a request is executed or came so far. The server is then as it was.
@@ -144,6 +144,7 @@ impl<E: Executor<A> + Drop, A: Allocator + Copy> ServerTsm<E, A> {
     ) -> Result<Option<Executed<A>>, AllocError>
         requires greatest { now ≤ MAX_MOMENT_MS }
         requires order { self.old.moment ≤ now }
+        requires planned { IsPlanned now self.old plan }
         ensures done { OnOk result (self.new ≡ committed now plan.change self.old) }
         ensures told { IfOk result (λ told. told ≡ plan.executed) }
         ensures unchanged { OnErr result (self.new ≡ self.old) }
@@ -172,6 +173,7 @@ impl<E: Executor<A> + Drop, A: Allocator + Copy> ServerTsm<E, A> {
     ) -> Result<ServerTold<A>, AllocError>
         requires greatest { now ≤ MAX_MOMENT_MS }
         requires order { self.old.moment ≤ now }
+        requires planned { IsPlanned now self.old plan }
         ensures told { IfOk result (λ told. told ≡ told_of_plan plan) }
         ensures left { OnOk result (self.new ≡ committed now plan.change self.old) }
         ensures unchanged { OnErr result (self.new ≡ self.old) }
@@ -203,19 +205,20 @@ impl<E: Executor<A> + Drop, A: Allocator + Copy> ServerTsm<E, A> {
     }
 
     /// Makes a change.
-    fn change(&mut self, change: ServerChange<A>, now: u64) -> Result<(), AllocError>
+    fn change(&mut self, change: QuietChange<A>, now: u64) -> Result<(), AllocError>
         requires greatest { now ≤ MAX_MOMENT_MS }
         requires order { self.old.moment ≤ now }
-        ensures done { OnOk result (self.new ≡ committed now change self.old) }
+        ensures done { OnOk result (self.new ≡ committed now (change_of change) self.old) }
         ensures unchanged { OnErr result (self.new ≡ self.old) }
     {
         match change {
-            ServerChange::Stays => self.moment = now,
-            ServerChange::Says(saying) => self.say(saying, now),
-            ServerChange::Gathers(gathering) => self.gather(gathering, now)?,
-            ServerChange::GivesUp(asker) => self.give_up(asker, now),
-            ServerChange::Executes(request, entry) => self.execute(&request, entry, now)?,
-            ServerChange::Wakes(sayings) => self.wake(sayings.as_slice(), now),
+            QuietChange::Stays => self.moment = now,
+            QuietChange::Says(saying) => self.say(saying, now),
+            QuietChange::Gathers(asked, segment, octets) => {
+                self.gather(asked, &segment, octets.as_slice(), now)?;
+            }
+            QuietChange::GivesUp(asker) => self.give_up(asker, now),
+            QuietChange::Wakes(sayings) => self.wake(sayings.as_slice(), now),
         }
         Ok(())
     }
@@ -223,21 +226,35 @@ impl<E: Executor<A> + Drop, A: Allocator + Copy> ServerTsm<E, A> {
     /// An answer is said so.
     fn say(&mut self, saying: Saying, now: u64)
         requires { self.old.moment ≤ now }
-        ensures { self.new ≡ committed now (ServerChange.Says saying) self.old }
+        ensures { self.new ≡ committed now (Says saying) self.old }
     {
         self.records
             .replace(saying.asker, saying.way, saying.sending);
         self.moment = now;
     }
 
-    /// A request came so far.
-    fn gather(&mut self, gathering: RequestGathering<A>, now: u64) -> Result<(), AllocError>
+    /// A segment with these octets joins what came of a request, of who asks so. All growths come first.
+    fn gather(
+        &mut self,
+        asked: Asked,
+        segment: &Segment,
+        octets: &[u8],
+        now: u64,
+    ) -> Result<(), AllocError>
         requires { self.old.moment ≤ now }
-        ensures done { OnOk result (self.new ≡ committed now (ServerChange.Gathers gathering) self.old) }
+        ensures done { OnOk result (self.new ≡ committed now (Gathers asked segment.now octets.now) self.old) }
         ensures unchanged { OnErr result (self.new ≡ self.old) }
     {
         self.gatherings.reserve(1)?;
-        keep_gathered(&mut self.gatherings, now, Some(gathering.asked.asker));
+        let gathering = take_joined(
+            self.alloc,
+            &mut self.gatherings,
+            asked,
+            segment,
+            octets,
+            now,
+        )?;
+        keep_gathered(&mut self.gatherings, now, Some(asked.asker));
         push_reserved(&mut self.gatherings, gathering);
         self.moment = now;
         Ok(())
@@ -246,22 +263,23 @@ impl<E: Executor<A> + Drop, A: Allocator + Copy> ServerTsm<E, A> {
     /// What came of a request of this asker is given up.
     fn give_up(&mut self, asker: Asker, now: u64)
         requires { self.old.moment ≤ now }
-        ensures { self.new ≡ committed now (ServerChange.GivesUp asker) self.old }
+        ensures { self.new ≡ committed now (GivesUp asker) self.old }
     {
         keep_gathered(&mut self.gatherings, now, Some(asker));
         self.moment = now;
     }
 
     /// A request is executed, and this remembered of it. No memory is taken after the execution.
-    #[tactic(auto, using(crate::proofs::Timely::timely_rules, crate::proofs::Names::left_name))]
+    #[tactic(auto, using(crate::proofs::Kept::kept_rules, crate::proofs::Names::left_name))]
     fn execute(
         &mut self,
         request: &Request<A>,
         mut kept: Record<A>,
         now: u64,
     ) -> Result<(), AllocError>
-        requires { self.old.moment ≤ now }
-        ensures done { OnOk result (self.new ≡ committed now (ServerChange.Executes request.now kept) self.old) }
+        requires order { self.old.moment ≤ now }
+        requires place { HasPlace now kept.asker self.old.records }
+        ensures done { OnOk result (self.new ≡ committed now (Executes request.now kept) self.old) }
         ensures unchanged { OnErr result (self.new ≡ self.old) }
     {
         kept.at = now;
@@ -276,7 +294,7 @@ impl<E: Executor<A> + Drop, A: Allocator + Copy> ServerTsm<E, A> {
     /// What is too old is forgotten, and answers are said so. It takes no memory.
     fn wake(&mut self, sayings: &[Saying], now: u64)
         requires { self.old.moment ≤ now }
-        ensures { self.new ≡ committed now (ServerChange.Wakes sayings.now) self.old }
+        ensures { self.new ≡ committed now (Wakes sayings.now) self.old }
     {
         self.records.forget_dead(now);
         say_all(&mut self.records, sayings);

@@ -8,7 +8,7 @@ use crate::server::ServerTsm;
 use profile::lives;
 use remembered::{Record, Records, SlabRecords};
 use segments::{Sender, Turn};
-use server_answers::{Saying, ServerChange, ServerPlan, ServerSaid, ServerTold, push_answer};
+use server_answers::{QuietChange, Saying, ServerPlan, ServerSaid, ServerTold, push_answer};
 use services::Executor;
 use std::alloc::{AllocError, Allocator};
 use tags::Items;
@@ -91,7 +91,7 @@ fn wake_at<A: Allocator + Copy>(
 impl<E: Executor<A> + Drop, A: Allocator + Copy> ServerTsm<E, A> {
     ghost use Rattle.std.specs.Prelude.{◌≡◌, ◌≤◌, ◌^◌, IfOk, OnOk, OnErr};
     ghost use Rattle.server_tsm.specs.Server.{committed};
-    ghost use Rattle.server_tsm.specs.Steps.{told_of_plan};
+    ghost use Rattle.server_tsm.specs.Steps.{IsPlanned, told_of_plan};
     ghost use Rattle.server_tsm.specs.Waking.{woken};
     ghost use Rattle.profile.specs.Times.{MAX_MOMENT_MS};
 
@@ -101,7 +101,8 @@ impl<E: Executor<A> + Drop, A: Allocator + Copy> ServerTsm<E, A> {
     /// # Errors
     /// Want of memory.
     pub fn plan_tick(&self, now: u64) -> Result<ServerPlan<A>, AllocError>
-        ensures { IfOk result (λ plan. plan ≡ woken now self.now.records) }
+        ensures woken { IfOk result (λ plan. plan ≡ woken now self.now.records) }
+        ensures planned { IfOk result (IsPlanned now self.now) }
     {
         let mut said = Items::new(self.alloc);
         let mut sayings = Items::new(self.alloc);
@@ -115,7 +116,7 @@ impl<E: Executor<A> + Drop, A: Allocator + Copy> ServerTsm<E, A> {
                 &mut sayings,
             )?;
         }
-        ServerPlan::changing(self.alloc, said, ServerChange::Wakes(sayings))
+        ServerPlan::changing(self.alloc, said, QuietChange::Wakes(sayings))
     }
 
     /// Wakes at the moment `now`, in milliseconds, and answers what is said.

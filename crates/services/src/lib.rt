@@ -27,7 +27,7 @@ mod request;
 mod spelled;
 mod values;
 
-pub use answers::{Answer, Executor, ObjectExecutor, answer_of, is_answer_to};
+pub use answers::{Answer, Executor, ObjectExecutor, ReplyPdu, answer_of, is_answer_to, pdu_of};
 pub use asked::{
     left_by_is_after, replied_is_reply, request_octets_are_canonical, service_asked_is_service,
 };

@@ -5,11 +5,11 @@
 #![tactic(auto)]
 
 pub use client_tsm::{
-    Accepts, Bound, ClientChange, ClientPlan, ClientSaid, ClientTsm, ClientTsmIssued,
+    Accepts, Bound, ClientSaid, ClientTsm, ClientTsmChange, ClientTsmIssued, ClientTsmPlan,
     ClientTsmTold, Gathering, Outcome, Transaction, TransactionOutcome,
 };
 pub use remembered::{Asker, Record, RememberedAnswer};
 pub use server_tsm::{
-    AnswerLimits, Asked, Executed, Origin, RequestGathering, Saying, ServerChange, ServerPlan,
+    AnswerLimits, Asked, Executed, Origin, QuietChange, RequestGathering, Saying, ServerPlan,
     ServerPlanSaid, ServerSaid, ServerTold, ServerTsm, write_whole,
 };

@@ -1,19 +1,16 @@
--- An NPDU brings one thing to a station, or none.
-use Rattle.std.proofs.Common.{◌≡◌, ◌≢◌, ◌∙◌, refl, sym, ap, subst, List, ℕ, Bool, true, false, Some, None}
-use Rattle.apdu.specs.Apdu.{PlainApdu, OnlyApdu, NoApdu}
+-- Why an NPDU brings nothing to a station.
+use Rattle.std.proofs.Common.{◌≡◌, ◌≢◌, ◌∙◌, refl, sym, ap, subst, List, ℕ, true, false, Some, None}
+use Rattle.apdu.specs.Apdu.{NoApdu}
 use Rattle.npdu.specs.Header.{Header, OnlyHeader, NoHeader}
-use Rattle.npdu.specs.Rejected.{OnlyRejected, NoRejected}
+use Rattle.npdu.specs.Rejected.{NoRejected}
 use Rattle.npdu.specs.declared.mac.Mac.{Mac}
-use Rattle.npdu.specs.declared.mac.Station.{Station}
 use Rattle.npdu.specs.declared.mac.Target.{Target}
-use Rattle.npdu.specs.declared.mac.Way.{Way}
 use Rattle.npdu.specs.declared.message.Message.{Message}
 use Rattle.npdu.specs.declared.message.Message.TheVariants.{WhoIsRouterToNetwork, IAmRouterToNetwork, RejectMessageToNetwork, Other, Proprietary}
-use Rattle.npdu.specs.declared.rejected.Rejected.{Rejected}
-use Rattle.unitdata.specs.Hearing.{HeardContent, says, refuses, Heard, Brings, OnlyBrings, BringsNothing, BringsSomething, OnlyContent, NoContent}
+use Rattle.unitdata.specs.Hearing.{HeardContent, says, refuses, Heard, Brings, BringsNothing, BringsSomething, NoContent}
 use Rattle.unitdata.specs.Hearing.{SpellsContent}
-use Rattle.unitdata.specs.Hearing.{is_here, sender, way_to}
-use Rattle.unitdata.specs.Hearing.{is_alone}
+use Rattle.unitdata.specs.Hearing.{is_here}
+use Rattle.npdu.specs.Sender.{sender}
 
 some_same : {X : Type 0} (x y : X) → Some x ≡ Some y → x ≡ y
 some_same x y e = cc
@@ -24,26 +21,12 @@ none_some x e = cc
 false_true : false ≡ true → ⊥
 false_true e = cc
 
-pub only_apdu : (octets : List ℕ) (a : PlainApdu) → OnlyApdu octets a → OnlyContent None octets (says a)
-only_apdu octets a one = record { only = λ x s. is_it x s }
-  where
-    is_it : (x : HeardContent) → SpellsContent None octets x → says a ≡ x
-    is_it (says b) s = ap says (one.only b s)
-    is_it (refuses r) s = absurd s
-
 pub no_apdu : (octets : List ℕ) → NoApdu octets → NoContent None octets
 no_apdu octets lacks = record { none = λ x s. is_none x s }
   where
     is_none : (x : HeardContent) → SpellsContent None octets x → ⊥
     is_none (says b) s = lacks.none b s
     is_none (refuses r) s = s
-
-pub only_refusal : (octets : List ℕ) (r : Rejected) → OnlyRejected octets r → OnlyContent (Some RejectMessageToNetwork) octets (refuses r)
-only_refusal octets r one = record { only = λ x s. is_it x s }
-  where
-    is_it : (x : HeardContent) → SpellsContent (Some RejectMessageToNetwork) octets x → refuses r ≡ x
-    is_it (refuses q) s = ap refuses (one.only q s)
-    is_it (says b) s = absurd s
 
 pub no_refusal : (octets : List ℕ) → NoRejected octets → NoContent (Some RejectMessageToNetwork) octets
 no_refusal octets lacks = record { none = λ x s. is_none x s }
@@ -59,30 +42,11 @@ other_message RejectMessageToNetwork octets other = absurd (other refl)
 other_message (Other kind) octets other = record { none = λ x s. s }
 other_message (Proprietary kind vendor) octets other = record { none = λ x s. s }
 
-pub ruleset content_rules = (only_apdu, no_apdu, only_refusal, no_refusal, other_message)
-
-same_heard : (x y : Heard) → x.station ≡ y.station → x.way ≡ y.way → x.alone ≡ y.alone → x.content ≡ y.content → x ≡ y
-same_heard x y station way alone content =
-    ap (λ (s : Station). record { station = s; way = x.way; alone = x.alone; content = x.content }) station
-    ∙ ap (λ (w : Way). record { station = y.station; way = w; alone = x.alone; content = x.content }) way
-    ∙ ap (λ (b : Bool). record { station = y.station; way = y.way; alone = b; content = x.content }) alone
-    ∙ ap (λ (c : HeardContent). record { station = y.station; way = y.way; alone = y.alone; content = c }) content
+pub ruleset content_rules = (no_apdu, no_refusal, other_message)
 
 module _ (net : ℕ) (from : Mac) (to : Target) (npdu : List ℕ) (h : Header) (one : OnlyHeader npdu h) where
   same_header : (y : Heard) (b : Brings net from to npdu y) → h ≡ b.header
   same_header y b = one.only b.header b.spelled
-
-  pub only_brings : (x : Heard) → Brings net from to npdu x → OnlyContent h.message h.body x.content → OnlyBrings net from to npdu x
-  only_brings x a content = record {
-    only = λ y b.
-        let e = same_header y b in
-        let first = same_header x a in
-        let station = some_same x.station y.station (sym a.sent ∙ ap (λ (k : Header). sender net from k.source) (sym first ∙ e) ∙ b.sent) in
-        same_heard x y station
-        (a.way ∙ ap (way_to net from) station ∙ sym b.way)
-        (a.alone ∙ ap (λ (k : Header). is_alone to k.destination) (sym first ∙ e) ∙ sym b.alone)
-        (content.only y.content (subst (λ (k : Header). SpellsContent k.message k.body y.content) (sym e) b.said));
-  }
 
   pub not_here : is_here h.destination ≡ false → BringsNothing net from to npdu
   not_here other = record {
@@ -102,7 +66,7 @@ module _ (net : ℕ) (from : Mac) (to : Target) (npdu : List ℕ) (h : Header) (
 pub no_header : (net : ℕ) (from : Mac) (to : Target) (npdu : List ℕ) → NoHeader npdu → BringsNothing net from to npdu
 no_header net from to npdu lacks = record { none = λ y b. lacks.none b.header b.spelled }
 
-pub ruleset hear_rules = (only_brings, not_here, no_sender, no_content, no_header)
+pub ruleset hear_rules = (not_here, no_sender, no_content, no_header)
 
 -- what brings a thing brings something
 pub something : (net : ℕ) (from : Mac) (to : Target) (npdu : List ℕ) (h : Heard) → Brings net from to npdu h → BringsSomething net from to npdu

@@ -1,2 +1,4 @@
 pub mod HearLaws
 pub mod SayLaws
+pub mod OnceLaws
+pub mod BringLaws

@@ -2,9 +2,10 @@
 use Rattle.std.specs.Prelude.{◌≡◌, ℕ, Bool, true, false, List, Option, Some, None, is_none}
 use Rattle.apdu.specs.Apdu.{PlainApdu}
 use Rattle.apdu.specs.Apdu as application
-use Rattle.npdu.specs.Header.{Header, PlainDestination, PlainSource}
+use Rattle.npdu.specs.Header.{Header, PlainDestination}
 use Rattle.npdu.specs.Header as network
-use Rattle.npdu.specs.Mac.{mac_of, same_station}
+use Rattle.npdu.specs.Mac.{same_station}
+use Rattle.npdu.specs.Sender.{sender}
 use Rattle.npdu.specs.Rejected.{SpellsRejected}
 use Rattle.npdu.specs.declared.mac.Mac.{Mac}
 use Rattle.npdu.specs.declared.mac.Station.{Station}
@@ -32,16 +33,6 @@ abbrev pub is_alone : Target → Option PlainDestination → Bool
 is_alone (One mac) destination = is_none destination
 is_alone All destination = false
 
--- the station of a network with an address of MS/TP or BACnet/IP (Table 6-2)
-abbrev pub station_at : ℕ → Option Mac → Option Station
-station_at net None = None
-station_at net (Some mac) = Some (record { net = net; mac = mac })
-
--- who says a message: the station that SNET and SADR name, else the one on this network that sent it (6.2.2)
-abbrev pub sender : ℕ → Mac → Option PlainSource → Option Station
-sender net from None = station_at net (Some from)
-sender net from (Some s) = station_at s.net (mac_of s.mac)
-
 -- a station is named by DNET and DADR, unless it is on this network where the message came from
 abbrev pub destination_if : Bool → Station → Option Station
 destination_if true s = None
@@ -63,10 +54,6 @@ SpellsContent None octets (says apdu) = application.Spells octets apdu
 SpellsContent (Some RejectMessageToNetwork) octets (refuses rejected) = SpellsRejected octets rejected
 SpellsContent message octets content = ⊥
 
--- what stands behind a header says this and nothing else
-pub record OnlyContent (message : Option Message) (octets : List ℕ) (content : HeardContent) : Type 0 where
-  pub only : (x : HeardContent) → SpellsContent message octets x → content ≡ x
-
 -- what stands behind a header says nothing that a station's application hears
 pub record NoContent (message : Option Message) (octets : List ℕ) : Type 0 where
   pub none : (x : HeardContent) → SpellsContent message octets x → ⊥
@@ -87,10 +74,6 @@ pub record Brings (net : ℕ) (from : Mac) (to : Target) (npdu : List ℕ) (h : 
   pub way : h.way ≡ way_to net from h.station
   pub alone : h.alone ≡ is_alone to header.destination
   pub said : SpellsContent header.message header.body h.content
-
--- such an NPDU brings this there and nothing else
-pub record OnlyBrings (net : ℕ) (from : Mac) (to : Target) (npdu : List ℕ) (h : Heard) : Type 0 where
-  pub only : (x : Heard) → Brings net from to npdu x → h ≡ x
 
 -- such an NPDU brings nothing there
 pub record BringsNothing (net : ℕ) (from : Mac) (to : Target) (npdu : List ℕ) : Type 0 where

@@ -1,14 +1,14 @@
 //! What an NPDU brings to a station.
 
 ghost use Rattle.std.specs.Prelude.{◌≡◌, IfSome, IfNone, option_map};
-ghost use Rattle.npdu.specs.Header.{destination_of, source_of};
+ghost use Rattle.npdu.specs.Header.{destination_of};
 ghost use Rattle.unitdata.specs.Hearing as spec;
-ghost use Rattle.unitdata.specs.Hearing.{Brings, BringsNothing, NoContent, OnlyBrings, OnlyContent, SpellsContent};
-ghost use Rattle.unitdata.specs.Hearing.{destination_if, sender, way_to};
+ghost use Rattle.unitdata.specs.Hearing.{Brings, BringsNothing, NoContent, SpellsContent};
+ghost use Rattle.unitdata.specs.Hearing.{destination_if, way_to};
 ghost use Rattle.unitdata.specs.Heard.{IsNamed, content_of, heard_of};
 
 use apdu::Apdu;
-use npdu::{Destination, Dnet, Mac, Message, Source, Station, Target, View, Way};
+use npdu::{Destination, Dnet, Mac, Message, Station, Target, View, Way};
 
 /// What a station's application hears of a message.
 #[derive(Clone, Copy, Debug, PartialEq, Eq)]
@@ -39,7 +39,6 @@ pub struct Heard<'a> {
 #[tactic(auto, using(crate::proofs::HearLaws::hear_rules))]
 pub fn hear(net: u16, from: Mac, to: Target, npdu: &[u8]) -> Option<Heard<'_>>
     ensures brings { IfSome result (λ heard. Brings net from to npdu.now (heard_of heard)) }
-    ensures only { IfSome result (λ heard. OnlyBrings net from to npdu.now (heard_of heard)) }
     ensures named { IfSome result (λ heard. IsNamed heard.content) }
     ensures nothing { IfNone result (BringsNothing net from to npdu.now) }
 {
@@ -49,7 +48,7 @@ pub fn hear(net: u16, from: Mac, to: Target, npdu: &[u8]) -> Option<Heard<'_>>
     if !is_here(view.destination) {
         return None;
     }
-    let station = sender(net, from, view.source)?;
+    let station = view.sender(net, from)?;
     let content = behind(view.message, view.body)?;
     Some(Heard {
         station,
@@ -83,20 +82,6 @@ fn is_alone(to: Target, destination: Option<Destination<'_>>) -> bool
     }
 }
 
-/// Who says a message.
-fn sender(net: u16, from: Mac, source: Option<Source<'_>>) -> Option<Station>
-    ensures { result ≡ sender net from (option_map source_of source.entry) }
-{
-    let Some(source) = source else {
-        return Some(Station { net, mac: from });
-    };
-    let mac = Mac::from_octets(source.mac)?;
-    Some(Station {
-        net: source.net,
-        mac,
-    })
-}
-
 /// How an answer goes to a station whose message came from an address on this network.
 fn way_to(net: u16, from: Mac, station: Station) -> Way
     ensures { result ≡ way_to net from station }
@@ -112,7 +97,6 @@ fn way_to(net: u16, from: Mac, station: Station) -> Way
 #[tactic(auto, using(crate::proofs::HearLaws::content_rules))]
 fn behind(message: Option<Message>, octets: &[u8]) -> Option<HeardContent<'_>>
     ensures says { IfSome result (λ content. SpellsContent message octets.now (content_of content)) }
-    ensures only { IfSome result (λ content. OnlyContent message octets.now (content_of content)) }
     ensures named { IfSome result IsNamed }
     ensures nothing { IfNone result (NoContent message octets.now) }
 {

@@ -13,13 +13,14 @@ use tags::Fault;
 /// How many octets a buffer of an NPDU takes at first: so it doesn't grow for a short one.
 const SHORT_NPDU: usize = 64;
 
-/// Whether a destination has a network number, 1..=65534, so that DNET can name it.
+/// Whether DNET and DADR can name a destination: its network's number is 1..=65534, and its address has one octet or
+/// six (6.2.2).
 pub fn is_spelled(destination: Option<Station>) -> bool
     ensures { result ≡ spec.is_spelled destination }
 {
     match destination {
         None => true,
-        Some(station) => 0 < station.net && station.net < 65535,
+        Some(station) => { 0 < station.net && station.net < 65535 && station.mac.is_address() }
     }
 }
 

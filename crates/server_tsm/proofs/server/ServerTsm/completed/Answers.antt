@@ -7,9 +7,10 @@ use Rattle.server_tsm.proofs.server.ServerTsm.completed.Goals as goal
 
 pub returns : goal.returns
 returns g c =
-    let fits : nat_lt MAX_SERVICE_DATA_OCTETS (length c.args.octets.now) ≡ false =
-    le-ltb MAX_SERVICE_DATA_OCTETS (length c.args.octets.now) c.if-octets-gt-MAX_SERVICE_DATA_OCTETS.false in
-    is_completed c.args.now (record { asked = c.args.asked.now; octets = c.args.octets.now; says = c.args.said }) c.args.self.now c.in_ok-found.found
+    let heard = c.args.heard.now in
+    let fits : nat_lt MAX_SERVICE_DATA_OCTETS (length heard.octets.now) ≡ false =
+    le-ltb MAX_SERVICE_DATA_OCTETS (length heard.octets.now) c.if-octets-gt-MAX_SERVICE_DATA_OCTETS.false in
+    is_completed heard.moment (record { asked = heard.asked; octets = heard.octets.now; says = c.args.said }) c.args.self.now c.in_ok-found.found
     c.finished.result fits
-    (means_of c.args.asked.now.service c.args.octets.now c.in_ok-found.found c.in_ok-found.ensures.read c.in_ok-found.ensures.rejected)
+    (means_of heard.asked.service heard.octets.now c.in_ok-found.found c.in_ok-found.ensures.read c.in_ok-found.ensures.rejected)
     c.finished.ensures

@@ -1,8 +1,0 @@
-use Rattle.std.proofs.Common.{◌≡◌, drop}
-use Rattle.std.specs.List.{find}
-use Rattle.server_answers.specs.Gathering.{is_for}
-use Rattle.server_tsm.proofs.gatherings.gathering_of.Given as goal
-
--- what is found in the rest is found in all
-abbrev pub invariant-loop-gathering : goal.invariant-loop-gathering
-invariant-loop-gathering g l = find (is_for l.asker) (drop l.gathering-index l.gatherings) ≡ find (is_for l.asker) l.gatherings
