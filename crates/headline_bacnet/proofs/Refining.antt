@@ -2,12 +2,14 @@
 use Rattle.std.proofs.Common.{◌≡◌, refl, sym, ap, subst, ◌∙◌, List, [], ◌∷◌, ◌++◌}
 use Rattle.std.proofs.lemmas.List.{append-nil, append_assoc}
 use Rattle.std.specs.List.{AllByRecursion}
-use Rattle.headline.proofs.Laws.{honest_more, run_more}
+use Rattle.headline.proofs.Laws.{honest_more, run_more, said_stays}
 use Rattle.headline.specs.Happenings.{Core, Happening, happens, run}
 use Rattle.headline.specs.Honest.{IsHonest, IsHonestRun}
+use Rattle.headline.specs.Promised.{StaysSaid}
 use Rattle.headline.specs.Protocol.{Protocol, Site}
 use Rattle.history.specs.Book.{Message}
-use Rattle.headline_bacnet.specs.Refined.{IsRefined}
+use Rattle.headline_bacnet.specs.Protocol.{bacnet}
+use Rattle.headline_bacnet.specs.Refined.{IsRefined, RefinedSaidStays}
 
 -- nothing happens
 pub refined_none : {S Q R T : Type 0} (p : Protocol S Q R T) (s : Site S T) (w : Core S Q R T) → IsRefined p s w w
@@ -57,3 +59,19 @@ says_from {S} {Q} {R} {T} p s w (m ∷ ms) said can =
 pub says_refined : {S Q R T : Type 0} (p : Protocol S Q R T) (s : Site S T) (w : Core S Q R T) (ms : List (Message S)) → AllByRecursion (CanSay p s w) ms →
     IsRefined p s w (saying (w.book.said ++ ms) w)
 says_refined p s w ms can = says_from p s w ms w.book.said can
+
+-- what was said stays said, over happenings
+run_stays : {S Q R T : Type 0} (p : Protocol S Q R T) (s : Site S T) (hs : List (Happening S Q R T)) (k : Core S Q R T) →
+    StaysSaid k.book (run p s hs k).book
+run_stays p s [] k = ([], sym (append-nil k.book.said))
+run_stays {S} p s (h ∷ hs) k =
+    let one = said_stays p s k h in
+    let rest = run_stays p s hs (happens p s k h) in
+    (one.0 ++ rest.0, rest.1 ∙ ap (λ (l : List (Message S)). l ++ rest.0) one.1 ∙ append_assoc k.book.said one.0 rest.0)
+
+pub refined_stays : {S Q R T : Type 0} (p : Protocol S Q R T) (s : Site S T) (w v : Core S Q R T) → IsRefined p s w v → StaysSaid w.book v.book
+refined_stays {S} {Q} {R} {T} p s w v a =
+    subst (λ (k : Core S Q R T). StaysSaid w.book k.book) (sym a.same) (run_stays p s a.happenings w)
+
+pub refined_said_stays : {A : Type 0} → RefinedSaidStays A
+refined_said_stays {A} s w v a = refined_stays (bacnet A) s w v a

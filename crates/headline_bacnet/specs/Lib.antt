@@ -1,3 +1,4 @@
+pub mod Stations
 pub mod Bodies
 pub mod Speaking
 pub mod Protocol

@@ -3,6 +3,7 @@ use Rattle.std.specs.Prelude.{◌≡◌, List}
 use Rattle.headline.specs.Protocol.{Protocol, Site}
 use Rattle.headline.specs.Happenings.{Core, Happening, run}
 use Rattle.headline.specs.Honest.{IsHonestRun}
+use Rattle.headline.specs.Promised.{StaysSaid}
 use Rattle.npdu.specs.declared.mac.Station.{Station}
 use Rattle.object_model.specs.Objects.{PlainTable}
 use Rattle.primitives.specs.declared.plain_data.Reply.{Reply}
@@ -26,3 +27,7 @@ ObjectSite A = Site Station (PlainTable A)
 -- from some stations to others there are honest happenings of BACnet's objects
 abbrev pub Refined : {A : Type 0} → ObjectSite A → ObjectCore A → ObjectCore A → Type 0
 Refined {A} s w v = IsRefined (bacnet A) s w v
+
+-- what was said stays said, wherever honest happenings lead
+abbrev pub RefinedSaidStays : Type 0 → Type 0
+RefinedSaidStays A = (s : ObjectSite A) (w v : ObjectCore A) → Refined s w v → StaysSaid w.book v.book

@@ -3,6 +3,7 @@
 //! To the layers above it gives the stations, requests, replies and tables that the promise is about, with their laws,
 //! and what an APDU says of them. It has no code. In `specs/`, from below:
 //!
+//! - `Stations`: the longest APDU of each station.
 //! - `Bodies`: what an APDU says, for the book of all that was said, and where a way leads.
 //! - `Protocol`: what requests and answers mean, and the protocol.
 //! - `Speaking`: that octets are heard to say what they say.
@@ -11,6 +12,7 @@
 //! - `Network`: that what the network brings to a station was said.
 #![tactic(auto)]
 
+ghost use Rattle.headline_bacnet.specs.Refined.{RefinedSaidStays};
 ghost use Rattle.headline_bacnet.specs.Speaking.{ErrorIsSaid, IAmIsSaid, WhoIsIsSaid, WrittenIsSaid};
 
 use headline::HasProtocol;
@@ -48,4 +50,9 @@ pub fn written_is_said()
 pub fn unconfirmed_is_said()
     ensures i_am { IAmIsSaid }
     ensures who_is { WhoIsIsSaid }
+{}
+
+/// What was said stays said, wherever honest happenings lead.
+pub fn refined_said_stays<A: Allocator>()
+    ensures { RefinedSaidStays A }
 {}

@@ -1,2 +1,2 @@
 pub mod Doing
-pub mod Parcels
+pub mod Itself

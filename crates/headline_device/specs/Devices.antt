@@ -1,6 +1,6 @@
 -- What a step of a device is among all stations: a step of its server, an I-Am, or nothing.
 use Rattle.std.proofs.Common.{inl, inr}
-use Rattle.std.specs.Prelude.{◌≡◌, ◌≢◌, ℕ, List, [], ◌∷◌, Some}
+use Rattle.std.specs.Prelude.{◌≡◌, ◌≢◌, ◌<◌, ◌^◌, ℕ, List, [], ◌∷◌, Some}
 use Rattle.apdu.specs.Apdu.{abort_pdu, complex_ack, confirmed, error_pdu, reject_pdu, segment_ack, simple_ack, unconfirmed}
 use Rattle.device.specs.Device.{DeviceState, new_device, restarts}
 use Rattle.device.specs.Hearing.{AnswersWho, DeviceHears, Does, origin_of, says_who, silence}
@@ -14,6 +14,7 @@ use Rattle.npdu.specs.declared.mac.Target.{Target}
 use Rattle.headline_bacnet.specs.Network.{BringsWhatWasSaid}
 use Rattle.headline_bacnet.specs.Protocol.{bacnet}
 use Rattle.headline_bacnet.specs.Refined.{ObjectSite, Refined, ObjectCore}
+use Rattle.object_model.specs.Objects.{PlainTable}
 use Rattle.object_model.specs.Site.{opening_table}
 use Rattle.object_model.specs.declared.site.SiteObjects.{SiteObjects}
 use Rattle.headline_server.specs.Laws.{IsServed}
@@ -98,6 +99,33 @@ abbrev pub deed_in : {A : Type 0} (now : ℕ) (from : Mac) (to : Target) (npdu :
 deed_in now from to npdu device told left (inl h) =
     deed_on now (origin_of h.heard) h.heard.content device told left h.does
 deed_in now from to npdu device told left (inr drops) = idles
+
+-- the instance and the vendor of a device have the bits that the standard gives them (12.11, 20.2.14)
+pub record HasNumbers {A : Type 0} (device : DeviceState A) : Type 0 where
+  pub instance : device.instance < 2 ^ 22
+  pub vendor : device.vendor < 2 ^ 32
+
+-- one device, at two moments: its instance, vendor, station and the longest APDU that it takes (12.11)
+pub record IsItself {A : Type 0} (device left : DeviceState A) : Type 0 where
+  pub instance : left.instance ≡ device.instance
+  pub vendor : left.vendor ≡ device.vendor
+  pub station : station_of left ≡ station_of device
+  pub size : left.server.max_apdu ≡ device.server.max_apdu
+
+-- where an NPDU comes, a device stays itself (12.11)
+abbrev pub StaysItselfHearing : Type 0 → Type 0
+StaysItselfHearing A = (now : ℕ) (from : Mac) (to : Target) (npdu : List ℕ) (device left : DeviceState A)
+    (told : DeviceTold A) → DeviceHears now from to npdu device told left → IsItself device left
+
+-- where it wakes (12.11)
+abbrev pub StaysItselfWaking : Type 0 → Type 0
+StaysItselfWaking A = (now : ℕ) (device : DeviceState A) →
+    IsItself device (record device { server = committed now (woken now device.server.records).change device.server })
+
+-- where it restarts (12.11)
+abbrev pub StaysItselfRestarting : Type 0 → Type 0
+StaysItselfRestarting A = (now : ℕ) (table : PlainTable A) (device : DeviceState A) →
+    IsItself device (restarts now table device)
 
 -- what a device does where an NPDU comes is honest (5.4.5, 16.10.2)
 abbrev pub HearingIsDone : Type 0 → Type 0

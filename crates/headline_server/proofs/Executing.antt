@@ -31,14 +31,15 @@ use Rattle.services.specs.Asked.{replied}
 use Rattle.services.specs.Request.{SpellsRequest}
 use Rattle.headline_server.proofs.Going.{execution_refines, gathered_had, gives_up_on, quiet_refines}
 use Rattle.headline_server.proofs.Keeping.{Fits}
-use Rattle.headline_server.proofs.Listed.{all_both, all_so, has_map, map_has}
+use Rattle.history.proofs.HasLaws.{has_map, map_has}
+use Rattle.headline_server.proofs.Listed.{all_both, all_so}
 use Rattle.headline_server.proofs.Records.{forgotten_has, kept_has, none_living, so_lives}
 use Rattle.headline_server.proofs.Saying.{IsHonestlySaid, IsNoAnswer, CanTell, answer_told, free_said}
 use Rattle.headline_server.proofs.Sending.{answer_is, begun_sent, chunk_holds, fitted_cut}
 use Rattle.headline_server.proofs.Staying.{no_site, still_served}
 use Rattle.headline_server.proofs.Served.{IsComplete, IsInput, IsReachedWell, reached_well}
 use Rattle.headline_server.specs.Keeping.{IsSayable}
-use Rattle.headline_server.specs.Laws.{IsHeardFrom, IsServed, MayBeExecuted, StepKeeps, StepRefines, ToldMayBeExecuted}
+use Rattle.headline_server.specs.Laws.{IsHeardFrom, IsServed, MayBeExecuted, StepKeeps, StepRefines, ToldMayBeExecuted, WholeWasAsked}
 use Rattle.headline_server.specs.Refines.{served}
 use Rattle.headline_server.specs.Safe.{safe_device, safe_record}
 use Rattle.server_answers.specs.Answering.{answer_of, answered_by, record_of}
@@ -298,3 +299,10 @@ step_refines s w d st left from a server_told v h step = step_is_refined s w d s
 
 pub step_keeps : {A : Type 0} → StepKeeps A
 step_keeps w d st left from a server_told v h step = step_is_kept (no_site st) w d st v left from a server_told h step
+
+-- what comes whole was asked so
+pub whole_was_asked : {A : Type 0} → WholeWasAsked A
+whole_was_asked {A} w d st from a x v h is =
+    let well : IsReachedWell (no_site st) w d st v (completes x) =
+    subst (λ (r : Reached A). IsReachedWell (no_site st) w d st v r) is (heard_well (no_site st) w d st v from a h) in
+    well.came

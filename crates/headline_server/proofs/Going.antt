@@ -27,7 +27,7 @@ use Rattle.remembered.specs.declared.record.Asker.{Asker}
 use Rattle.remembered.specs.declared.record.Record.{Record}
 use Rattle.services.specs.Asked.{replied}
 use Rattle.headline_server.proofs.Keeping.{Fits}
-use Rattle.headline_server.proofs.Listed.{has_map, map_has}
+use Rattle.history.proofs.HasLaws.{has_map, map_has}
 use Rattle.headline_server.proofs.Records.{forgotten_has, kept_has, safe_all_said, safe_said, so_lives}
 use Rattle.headline_server.proofs.Saying.{IsHonestlySaid, all_said}
 use Rattle.headline_server.specs.Refines.{message_of, served, told_by}

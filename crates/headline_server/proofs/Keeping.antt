@@ -10,7 +10,8 @@ use Rattle.remembered.specs.Records.{AreDistinct, askers, forgotten, is_of, newe
 use Rattle.remembered.specs.declared.record.Asker.{Asker}
 use Rattle.remembered.specs.declared.record.Record.{Record}
 use Rattle.segments.specs.Sender.{SenderState}
-use Rattle.headline_server.proofs.Listed.{all_has, all_so, has_all, has_map}
+use Rattle.history.proofs.HasLaws.{all_has, has_all, has_map}
+use Rattle.headline_server.proofs.Listed.{all_so}
 use Rattle.headline_server.proofs.Records.{forgotten_has}
 use Rattle.headline_server.specs.Keeping.{IsSayable, IsWellKept}
 use Rattle.server_tsm.proofs.Kept.{planned_kept}

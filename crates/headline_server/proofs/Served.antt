@@ -32,7 +32,8 @@ use Rattle.segments.specs.declared.step.Turn.TheVariants as turn
 use Rattle.headline_server.proofs.Going.{IsQuiet, gathers_on, gives_up_on, says_on, stays_on}
 use Rattle.headline_server.proofs.Receiving.{IsInOrder, begins_in_order, joins_so, taken_next}
 use Rattle.headline_server.proofs.Keeping.{FitsSaying, one_each}
-use Rattle.headline_server.proofs.Listed.{all_both, all_has, all_so, has_map}
+use Rattle.history.proofs.HasLaws.{all_has, has_map}
+use Rattle.headline_server.proofs.Listed.{all_both, all_so}
 use Rattle.headline_server.proofs.Records.{IsRemembered, remembered_is, safe_said}
 use Rattle.headline_server.proofs.Saying.{CanTell, IsHonestlySaid, IsNoAnswer, answer_told, free_said}
 use Rattle.headline_bacnet.proofs.Sending.{hears_cut}

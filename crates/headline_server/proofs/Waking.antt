@@ -17,7 +17,8 @@ use Rattle.segments.specs.declared.step.Turn.{Turn}
 use Rattle.segments.specs.declared.step.Turn.TheVariants.{Waits, Sends, Ends}
 use Rattle.headline_server.proofs.Going.{IsQuiet, quiet_refines, wakes_on}
 use Rattle.headline_server.proofs.Keeping.{FitsSaying, one_each}
-use Rattle.headline_server.proofs.Listed.{all_flat, all_has, has_map}
+use Rattle.history.proofs.HasLaws.{all_has, has_map}
+use Rattle.headline_server.proofs.Listed.{all_flat}
 use Rattle.headline_server.proofs.Records.{forgotten_has, kept_has, lives_so, safe_all_said}
 use Rattle.headline_server.proofs.Saying.{IsHonestlySaid, CanTell, answer_told}
 use Rattle.headline_server.proofs.Sending.{again_sent}

@@ -5,18 +5,18 @@ use Rattle.apdu.specs.Apdu.{PlainApdu, Spells, apdu_of, HasNamedNumbers}
 use Rattle.apdu.specs.declared.apdu.Apdu.{Apdu}
 use Rattle.apdu.specs.declared.sizes.MaxApdu.{MaxApdu}
 use Rattle.headline.specs.Happenings.{says}
-use Rattle.headline.specs.Honest.{IsHeard, MayExecute}
+use Rattle.headline.specs.Honest.{IsAsked, IsHeard, MayExecute}
 use Rattle.headline.specs.Stations.{Record, new_device}
 use Rattle.history.specs.Book.{Broadcast, I_am, Message}
 use Rattle.npdu.specs.declared.mac.Station.{Station}
-use Rattle.headline_bacnet.specs.Bodies.{Says, led_to}
+use Rattle.headline_bacnet.specs.Bodies.{Says, head_of, led_to}
 use Rattle.headline_bacnet.specs.Protocol.{bacnet}
 use Rattle.headline_bacnet.specs.Refined.{ObjectSite, Refined, ObjectCore}
 use Rattle.object_model.specs.Objects.{PlainTable}
 use Rattle.headline_server.specs.Keeping.{IsWellKept}
 use Rattle.headline_server.specs.Refines.{begun_anew, said_body, served}
 use Rattle.headline_server.specs.Safe.{safe_device}
-use Rattle.server_tsm.specs.Hearing.{heard_of}
+use Rattle.server_tsm.specs.Hearing.{Whole, completes, heard_of, reached}
 use Rattle.server_answers.specs.Plan.{ServerChange, ServerPlan}
 use Rattle.server_answers.specs.Said.{said_octets}
 use Rattle.server_tsm.specs.Server.{ServerTsmState, committed, new_server, restarted}
@@ -49,6 +49,15 @@ StepRefines A = (s : ObjectSite A) (w : ObjectCore A) (d : Station) (st left : S
     (from : Origin) (a : Apdu) (server_told : ServerTold A) → IsServed w d st → IsHeardFrom w d st.max_apdu from a →
     IsStep w.book.moment from (heard_of a) st server_told left →
     Refined s w (served d server_told left w)
+
+-- a request that comes whole by what a server hears was said whole, in one message or by its last piece (5.4.5.1,
+-- 5.4.5.2)
+abbrev pub WholeWasAsked : Type 0 → Type 0
+WholeWasAsked A = (w : ObjectCore A) (d : Station) (st : ServerTsmState A) (from : Origin) (a : Apdu) (x : Whole A) →
+    IsServed w d st → IsHeardFrom w d st.max_apdu from a →
+    reached w.book.moment from (heard_of a) st ≡ completes x →
+    IsAsked w.book d (safe_device st) x.asked.asker.station x.asked.asker.invoke_id
+    (head_of st.max_apdu x.asked.limits x.asked.service) x.octets
 
 -- a server may execute this, for the asker and as it remembers it (5.4.5)
 pub record MayBeExecuted {A : Type 0} (w : ObjectCore A) (d : Station) (st : ServerTsmState A) (e : Executed A) :

@@ -22,6 +22,7 @@ ghost use Rattle.headline_server.specs.Laws.{
   ToldMayBeExecuted,
   WakeKeeps,
   WakeRefines,
+  WholeWasAsked,
 };
 
 use std::alloc::Allocator;
@@ -68,4 +69,9 @@ pub fn size_stays<A: Allocator>()
 /// What is read of what a server says is what it says, to any station.
 pub fn said_is_heard<A: Allocator>()
     ensures { SaidIsHeard A }
+{}
+
+/// A request that comes whole by what a server hears was said whole, in one message or by its last piece.
+pub fn whole_was_asked<A: Allocator>()
+    ensures { WholeWasAsked A }
 {}

@@ -62,7 +62,7 @@ module _ {A : Type 0} (s : ObjectSite A) (k : ObjectCore A) (inv : Inv (bacnet A
     gatherings = λ a h. h;
   }
 
-  of_issue : (q : Request A) (r : Record Station) → MayExecute (bacnet A) k.book d (k.devices d) q r → IsOfIssue (bacnet A) s k.book r.client r.invoke_id d q
+  pub of_issue : (q : Request A) (r : Record Station) → MayExecute (bacnet A) k.book d (k.devices d) q r → IsOfIssue (bacnet A) s k.book r.client r.invoke_id d q
   of_issue q r may = executed_issues (bacnet A) s (object_laws A) k inv d q (least r) (after_it q r) (least_may q r may, least_is q r)
 
 executed_is_issued_at : {A : Type 0} (own : Station → MaxApdu) (s : ObjectSite A) (w : AllStations A) → Stands own s w → Inv (bacnet A) s w.core →

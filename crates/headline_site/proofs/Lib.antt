@@ -1,7 +1,10 @@
 pub mod Lists
 pub mod Standing
 pub mod Steps
+pub mod Reached
 pub mod Promised
 pub mod Outcomes
 pub mod Executions
+pub mod Hearings
 pub mod Contracts
+pub mod Placed

@@ -33,7 +33,7 @@ module _ {A : Type 0} (own : Station → MaxApdu) (s : ObjectSite A) (w : AllSta
   its : (place : ℕ) (c : ClientState A) → slice_get w.clients place ≡ Some c → IsClient own w.core c
   its place c there = all_at (λ z. IsClient own w.core z) w.clients place c at.clients there
 
-  of_issue : (c : ClientState A) → IsClient own w.core c → (t : TransactionOutcome A) → ClosesHonestly own w.core.book (station_of c) c.machine.open_ones t →
+  pub of_issue : (c : ClientState A) → IsClient own w.core c → (t : TransactionOutcome A) → ClosesHonestly own w.core.book (station_of c) c.machine.open_ones t →
       IsOfItsIssue s w c t
   of_issue c is t h =
       let o : Open A = h.transaction in

@@ -22,6 +22,7 @@ use Rattle.npdu.specs.declared.mac.Way.{Way}
 use Rattle.headline_bacnet.specs.Bodies.{Says, led_to}
 use Rattle.headline_bacnet.specs.Protocol.{bacnet}
 use Rattle.headline_bacnet.specs.Refined.{ObjectSite}
+use Rattle.headline_bacnet.specs.Stations.{kind_of}
 use Rattle.object_model.specs.Site.{opening_table}
 use Rattle.object_model.specs.declared.site.SiteObjects.{SiteObjects}
 use Rattle.primitives.specs.Sound.{IsSoundRequest}
@@ -100,12 +101,13 @@ pub record IsNewClient {A : Type 0} (c : ClientState A) : Type 0 where
   pub code : apdu_code max_apdu < 16
   pub is : c ≡ new_client address segmented max_apdu
 
--- a device of the site, with its opening objects
+-- a device of the site, with its opening objects, on the kind of link that its address is of
 pub record IsNewDevice {A : Type 0} (s : ObjectSite A) (d : DeviceState A) : Type 0 where
   pub objects : SiteObjects A
   pub address : Station
   pub instance : s.instance_of address ≡ Some objects.instance
   pub opening : s.opening address ≡ opening_table objects
+  pub link : objects.data_link ≡ kind_of address.mac
   pub is : d ≡ new_device objects address
 
 -- no two clients are at one station, and no two devices

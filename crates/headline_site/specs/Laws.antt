@@ -1,6 +1,7 @@
 -- What is promised of all stations of a site, over every fair list of events.
 use Rattle.std.specs.Prelude.{◌≡◌, ℕ, Bool, List, Option, Some, Result, slice_get}
 use Rattle.std.specs.List.{AllByRecursion}
+use Rattle.apdu.specs.Apdu.{HasNamedNumbers, apdu_of}
 use Rattle.apdu.specs.declared.apdu.Apdu.{Apdu}
 use Rattle.apdu.specs.declared.numbers.RejectReason.{RejectReason}
 use Rattle.apdu.specs.declared.sizes.MaxApdu.{MaxApdu}
@@ -12,12 +13,12 @@ use Rattle.client_tsm.specs.Waking.{woken}
 use Rattle.client_tsm.specs.declared.plan.TransactionOutcome.{TransactionOutcome}
 use Rattle.headline_device.specs.Devices.{deed_in, left_of_deed, station_of}
 use Rattle.device.specs.Device.{DeviceState}
-use Rattle.device.specs.Hearing.{DeviceHears}
+use Rattle.device.specs.Hearing.{DeviceHears, origin_of}
 use Rattle.device.specs.declared.plan.DeviceTold as device_told
 use Rattle.headline.specs.Happenings.{Happening, after_all}
 use Rattle.headline.specs.Honest.{AreHonest}
 use Rattle.headline.specs.Protocol.{IsSite}
-use Rattle.headline.specs.Promised.{IsExecutedReply, IsOfIssue, StaysSaid}
+use Rattle.headline.specs.Promised.{IsExecutedReply, IsOfIssue, IsWholeRequest, StaysSaid}
 use Rattle.history.specs.Book.{Message}
 use Rattle.history.specs.Legal.{IsWhatExecutionsLeave}
 use Rattle.history.specs.Lists.{Has}
@@ -25,6 +26,7 @@ use Rattle.npdu.specs.declared.mac.Mac.{Mac}
 use Rattle.npdu.specs.declared.mac.Station.{Station}
 use Rattle.npdu.specs.declared.mac.Target.{Target}
 use Rattle.npdu.specs.declared.mac.Way.{Way}
+use Rattle.headline_bacnet.specs.Bodies.{head_of}
 use Rattle.headline_bacnet.specs.Network.{BringsWhatWasSaid}
 use Rattle.headline_bacnet.specs.Protocol.{bacnet}
 use Rattle.headline_bacnet.specs.Refined.{ObjectSite, Refined, ObjectCore}
@@ -32,7 +34,9 @@ use Rattle.object_model.specs.Objects.{PlainTable}
 use Rattle.primitives.specs.declared.plain_data.Reply.{Reply}
 use Rattle.primitives.specs.declared.plain_data.Request.{Request}
 use Rattle.server_answers.specs.declared.plan.Executed.{Executed}
+use Rattle.server_tsm.specs.Hearing.{Whole, completes, heard_of, reached}
 use Rattle.services.specs.Asked.{left_by, replied}
+use Rattle.unitdata.specs.Hearing.{Brings, Heard, says}
 use Rattle.headline_client.specs.Heard.{said_in}
 use Rattle.headline_client.specs.Safe as client
 use Rattle.headline_client.specs.Safe.{safe_client}
@@ -68,6 +72,26 @@ pub record IsReached {A : Type 0} (s : ObjectSite A) (k : ObjectCore A) : Type 0
   pub happenings : List (Happening Station (Request A) (Reply A) (PlainTable A))
   pub honest : AreHonest (bacnet A) s happenings
   pub same : k ≡ after_all (bacnet A) s happenings
+
+-- over every site, this holds wherever honest happenings led and the core is what safety sees of each station, whatever
+-- the steps were
+abbrev pub Wherever : (A : Type 0) → ((Station → MaxApdu) → ObjectSite A → AllStations A → Type 0) → Type 0
+Wherever A Holds = (own : Station → MaxApdu) (s : ObjectSite A) (w : AllStations A) → IsSite (bacnet A) s →
+    IsReached s w.core → Stands own s w → Holds own s w
+
+-- honest happenings lead to where a site begins
+abbrev pub BeginsReached : Type 0 → Type 0
+BeginsReached A = (s : ObjectSite A) (w : AllStations A) → IsBegun s w → IsReached s w.core
+
+-- they lead on where stations go on
+abbrev pub ReachedThen : Type 0 → Type 0
+ReachedThen A = (own : Station → MaxApdu) (s : ObjectSite A) (w v : AllStations A) → IsReached s w.core →
+    Goes own s w v → IsReached s v.core
+
+-- stations go on from where they went
+abbrev pub GoesThen : Type 0 → Type 0
+GoesThen A = (own : Station → MaxApdu) (s : ObjectSite A) (w u v : AllStations A) → Goes own s w u → Goes own s u v →
+    Goes own s w v
 
 -- the objects of each device are what the executed requests leave whose issue names its instance, in their order, from
 -- its opening objects, and anew from there after each restart; and the replies are the object machine's (12, 15, 19)
@@ -116,6 +140,42 @@ ExecutedIsIssued {A} s w = (place : ℕ) (m : Message Station) (way : Way) (by_b
     (asked_plan (now w) (record { station = m.from; way = way; by_broadcast = by_broadcast }) apdu found d).executed ≡
     Some e →
     IsOfIssue (bacnet A) s w.core.book e.asker.station e.asker.invoke_id (station_of d) e.request
+
+-- what a device executes on an NPDU by its contract, where what it brings was said, is the request of the last issue of
+-- the asker under its invoke ID, which names the instance of the device (5.4.5)
+abbrev pub HearingExecutesIssued : {A : Type 0} → ObjectSite A → AllStations A → Type 0
+HearingExecutesIssued {A} s w = (place : ℕ) (d left : DeviceState A) (from : Mac) (to : Target) (npdu : List ℕ)
+    (told : device_told.DeviceTold A) (e : Executed A) → slice_get w.devices place ≡ Some d →
+    BringsWhatWasSaid d.server.max_apdu w.core.book (station_of d) from to npdu →
+    DeviceHears (now w) from to npdu d told left → told.executed ≡ Some e →
+    IsOfIssue (bacnet A) s w.core.book e.asker.station e.asker.invoke_id (station_of d) e.request
+
+-- a request comes whole to a device by this NPDU, before any service data are read (5.4.5.1, 5.4.5.2)
+pub record ComesWhole {A : Type 0} (now : ℕ) (from : Mac) (to : Target) (npdu : List ℕ) (d : DeviceState A)
+    (x : Whole A) : Type 0 where
+  pub heard : Heard
+  pub brings : Brings d.net from to npdu heard
+  pub apdu : Apdu
+  pub named : HasNamedNumbers apdu
+  pub content : heard.content ≡ says (apdu_of apdu)
+  pub whole : reached now (origin_of heard) (heard_of apdu) d.server ≡ completes x
+
+-- a request that comes whole to a device, executed, rejected or aborted, is the whole body of an issue of the asker to
+-- it, where what the NPDU brings was said (5.4.5)
+abbrev pub HearingIsWholeIssue : {A : Type 0} → ObjectSite A → AllStations A → Type 0
+HearingIsWholeIssue {A} s w = (place : ℕ) (d : DeviceState A) (from : Mac) (to : Target) (npdu : List ℕ) (x : Whole A) →
+    slice_get w.devices place ≡ Some d →
+    BringsWhatWasSaid d.server.max_apdu w.core.book (station_of d) from to npdu →
+    ComesWhole (now w) from to npdu d x →
+    IsWholeRequest (bacnet A) s w.core.book (station_of d) x.asked.asker.station x.asked.asker.invoke_id
+    (head_of d.server.max_apdu x.asked.limits x.asked.service) x.octets
+
+-- what a client tells on an NPDU by its contract, where what it brings was said, is of its issues (5.4.4)
+abbrev pub HearingTellsOfIssues : {A : Type 0} → (own : Station → MaxApdu) → ObjectSite A → AllStations A → Type 0
+HearingTellsOfIssues {A} own s w = (place : ℕ) (c next : ClientState A) (from : Mac) (to : Target) (npdu : List ℕ)
+    (told : ClientTold A) → slice_get w.clients place ≡ Some c →
+    BringsWhatWasSaid (own (client.station_of c)) w.core.book (client.station_of c) from to npdu →
+    ClientHears (now w) from to npdu c told next → AllByRecursion (λ t. IsOfItsIssue s w c t) told.outcomes
 
 -- what a client does on an NPDU by its contract, where what it brings was said, goes well
 abbrev pub ClientHearingGoes : Type 0 → Type 0

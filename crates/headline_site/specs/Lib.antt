@@ -1,3 +1,4 @@
 pub mod AllStations
 pub mod Fair
+pub mod Placed
 pub mod Laws

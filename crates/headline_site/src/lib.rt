@@ -5,6 +5,7 @@
 //!
 //! - `AllStations`: the clients and devices of a site over one book, and what comes of an event.
 //! - `Fair`: which events are fair, and how a site begins.
+//! - `Placed`: a site by its devices.
 //! - `Laws`: what the functions state.
 #![tactic(auto)]
 
@@ -13,8 +14,17 @@ ghost use Rattle.headline.specs.Promised as core;
 ghost use Rattle.history.specs.Legal.{AnswersWereExecuted, AreClosedOnce, AreExecutedOnce, AreNumbered, StandAfterIssue};
 ghost use Rattle.headline_bacnet.specs.Protocol.{bacnet};
 ghost use Rattle.headline_site.specs.Laws.{Always, BeginsWell, ClientHearingGoes, DeviceHearingGoes, ExecutedIsIssued, IsReached, OutcomesAreOfIssues, SaidStays, StepRefines, TablesAreLeft};
+ghost use Rattle.headline_site.specs.Laws.{BeginsReached, GoesThen, HearingExecutesIssued, HearingIsWholeIssue, HearingTellsOfIssues, ReachedThen, Wherever};
+ghost use Rattle.headline_site.specs.Placed.{SiteHasEach, SiteIsSite};
 
 use std::alloc::Allocator;
+
+/// Devices with sound objects, at stations of their own and with instances of their own, are a site of the promise,
+/// which has each of them with its opening objects.
+pub fn site_is_site<A: Allocator>()
+    ensures site { SiteIsSite A }
+    ensures each { SiteHasEach A }
+{}
 
 /// What comes of a fair event is a list of honest happenings, and the core stays what safety sees of each station; so
 /// it is where a site begins.
@@ -73,6 +83,34 @@ pub fn outcomes_are_of_issues<A: Allocator>()
 pub fn whole_bodies<A: Allocator>()
     ensures requests { Always A (λ s w. RequestsAreWhole (bacnet A) s w.core) }
     ensures answers { Always A (λ s w. AnswersAreWhole (bacnet A) s w.core) }
+{}
+
+/// Honest happenings lead to where a site begins, and on to wherever its stations go, in however many steps.
+pub fn reached_leads_on<A: Allocator>()
+    ensures begins { BeginsReached A }
+    ensures leads { ReachedThen A }
+    ensures goes { GoesThen A }
+{}
+
+/// All of it holds wherever honest happenings led and the core is what safety sees of each station, whatever the steps
+/// were: the history is legal there, and the objects of each device are what the executions of its requests leave.
+pub fn holds_wherever_reached<A: Allocator>()
+    ensures numbered { Wherever A (λ own s w. AreNumbered w.core.book.history) }
+    ensures after_issue { Wherever A (λ own s w. StandAfterIssue w.core.book.history) }
+    ensures executed { Wherever A (λ own s w. AreExecutedOnce w.core.book.history) }
+    ensures answered { Wherever A (λ own s w. AnswersWereExecuted w.core.book.history) }
+    ensures closed { Wherever A (λ own s w. AreClosedOnce w.core.book.history) }
+    ensures tables { Wherever A (λ own s w. TablesAreLeft s w) }
+{}
+
+/// So is what a device executes and a client tells on an NPDU by its contract of an issue, and what they gather is the
+/// whole body of one.
+pub fn hearings_are_of_issues<A: Allocator>()
+    ensures executed { Wherever A (λ own s w. HearingExecutesIssued s w) }
+    ensures told { Wherever A (λ own s w. HearingTellsOfIssues own s w) }
+    ensures whole { Wherever A (λ own s w. HearingIsWholeIssue s w) }
+    ensures requests { Wherever A (λ own s w. RequestsAreWhole (bacnet A) s w.core) }
+    ensures answers { Wherever A (λ own s w. AnswersAreWhole (bacnet A) s w.core) }
 {}
 
 /// Nothing that was said is taken back.

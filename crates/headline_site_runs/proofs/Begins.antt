@@ -45,6 +45,6 @@ pub is_begun : (A : Type 0) → IsBegun (site A) (begun A)
 is_begun A = record {
   core = refl;
   clients = (record { address = client; segmented = true; max_apdu = UpTo1476; code = omega arith; is = refl }, tt);
-  devices = (record { objects = objects; address = device; instance = refl; opening = refl; is = refl }, tt);
+  devices = (record { objects = objects; address = device; instance = refl; opening = refl; link = refl; is = refl }, tt);
   apart = record { clients = (tt, tt); devices = (tt, tt) };
 }

@@ -9,7 +9,7 @@ use Rattle.device.specs.Device.{new_device}
 use Rattle.headline.specs.Happenings.{start}
 use Rattle.history.specs.Book.{Broadcast, I_am, Message}
 use Rattle.npdu.specs.Mac.{same_station}
-use Rattle.npdu.specs.declared.mac.Mac.TheVariants.{One}
+use Rattle.npdu.specs.declared.mac.Mac.TheVariants.{Six}
 use Rattle.npdu.specs.declared.mac.Station.{Station}
 use Rattle.npdu.specs.declared.mac.Way.{Way}
 use Rattle.headline_bacnet.specs.Protocol.{bacnet}
@@ -23,10 +23,10 @@ use Rattle.headline_site.specs.AllStations.{AllStations}
 
 -- the stations
 abbrev pub client : Station
-client = record { net = 1; mac = One 1 }
+client = record { net = 1; mac = Six (127 ∷ 0 ∷ 0 ∷ 1 ∷ 186 ∷ 193 ∷ []) }
 
 abbrev pub device : Station
-device = record { net = 1; mac = One 9 }
+device = record { net = 1; mac = Six (127 ∷ 0 ∷ 0 ∷ 1 ∷ 186 ∷ 201 ∷ []) }
 
 -- the device is 10, called D, and has no objects but its Device object
 abbrev pub objects : {A : Type 0} → SiteObjects A
@@ -60,10 +60,10 @@ abbrev pub says_i_am : Message Station
 says_i_am = record { from = device; to = Broadcast; body = I_am 10; stamp = 0 }
 
 abbrev pub to_device : Way
-to_device = record { to = One 9; destination = None }
+to_device = record { to = device.mac; destination = None }
 
 abbrev pub to_client : Way
-to_client = record { to = One 1; destination = None }
+to_client = record { to = client.mac; destination = None }
 
 -- the request: Object_Name of the device
 abbrev pub reads_name : {A : Type 0} → Request A

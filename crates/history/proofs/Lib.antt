@@ -1,4 +1,5 @@
 pub mod Lists
+pub mod HasLaws
 pub mod Pieces
 pub mod Last
 pub mod Past

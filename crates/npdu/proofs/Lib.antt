@@ -1,3 +1,4 @@
+pub mod CanonicalLaws
 pub mod FieldLaws
 pub mod HeaderLaws
 pub mod SpellingLaws

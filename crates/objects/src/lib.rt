@@ -30,4 +30,5 @@ pub use laws::{
     write_leaves_shape, write_reads_back, writes_end_at_failure,
 };
 pub use object_model::{SiteObject, SiteObjects, ValueKind};
+pub use opening::is_site;
 pub use table::Table;

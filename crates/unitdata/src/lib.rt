@@ -7,7 +7,8 @@
 //! an APDU, and `begin_global` that of one to all; the octets of the APDU are written behind it.
 //!
 //! To the layer above it promises: what is heard is the one thing that the octets bring there, and nothing is heard
-//! where they bring nothing; what is said has the header that its way asks for. Whether a message came to one station
+//! where they bring nothing; what is heard is inside the message, for each station that hears it; what is said has the
+//! header that its way asks for, and is inside it. Whether a message came to one station
 //! alone, whether it asks for this device and whether a reply is expected are rules of their own, so that a wrong one
 //! is refused here, before any state is read.
 //!
@@ -28,7 +29,10 @@ mod sizes;
 
 pub use asking::asks_who;
 pub use hearing::{Heard, HeardContent, hear};
-pub use laws::{brought_once, learnt_is_spelled, longest_is_of_link, spoken_is_brought};
+pub use laws::{
+    brought_once, heard_and_said_is_inside, learnt_is_spelled, longest_is_of_link,
+    spoken_is_brought,
+};
 pub use parcels::{Say, announced, parcels_of, push_parcel};
 pub use saying::{begin, begin_global, expects_reply, is_spelled};
 pub use sizes::longest_apdu;

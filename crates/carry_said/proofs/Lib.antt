@@ -1,0 +1,4 @@
+pub mod Parcels
+pub mod Devices
+pub mod Clients
+pub mod Hearing

@@ -1,0 +1,111 @@
+-- Laws of what parcels carry: what stations say is said, and what is heard of it was said to who hears it.
+use Rattle.std.specs.Prelude.{◌≡◌, ◌≤◌, ◌+◌, ℕ, List, [], ◌∷◌, Option}
+use Rattle.std.specs.List.{AllByRecursion}
+use Rattle.apdu.specs.Apdu.{PlainApdu}
+use Rattle.apdu.specs.declared.sizes.MaxApdu.{MaxApdu}
+use Rattle.apdu.specs.declared.unconfirmed.Limits.{Limits}
+use Rattle.client.specs.Client.{ClientState}
+use Rattle.client.specs.Hearing.{ClientHears}
+use Rattle.client.specs.Saying as client
+use Rattle.client.specs.declared.plan.ClientTold.{ClientTold}
+use Rattle.client_tsm.specs.declared.plan.TransactionOutcome.{TransactionOutcome}
+use Rattle.client_tsm.specs.declared.said.ClientSaid.{ClientSaid}
+use Rattle.device.specs.Device.{DeviceState}
+use Rattle.device.specs.Hearing.{DeviceHears}
+use Rattle.device.specs.declared.plan.DeviceTold.{DeviceTold}
+use Rattle.headline.specs.Happenings as core
+use Rattle.headline.specs.Promised.{StaysSaid}
+use Rattle.headline.specs.Stations.{Client}
+use Rattle.headline_bacnet.specs.Network.{BringsWhatWasSaid}
+use Rattle.headline_bacnet.specs.Refined.{ObjectCore}
+use Rattle.headline_client.specs.Laws.{CanWrite}
+use Rattle.headline_client.specs.Safe as clients
+use Rattle.headline_client.specs.Told.{acts, issues}
+use Rattle.headline_device.specs.Devices as devices
+use Rattle.headline_device.specs.Devices.{Deed, after_deed, told_of_deed}
+use Rattle.headline_device.specs.Devices.{HasNumbers}
+use Rattle.history.specs.Book.{Broadcast, Issued, Other}
+use Rattle.history.specs.Lists.{Has}
+use Rattle.inside.specs.Inside.{Inside, Reaches, Said}
+use Rattle.npdu.specs.declared.mac.Mac.{Mac}
+use Rattle.npdu.specs.declared.mac.Station.{Station}
+use Rattle.npdu.specs.declared.mac.Target.{Target}
+use Rattle.npdu.specs.declared.parcel.Parcel.{Parcel}
+use Rattle.primitives.specs.declared.plain_data.Request.{Request}
+use Rattle.profile.specs.Times.{LIFE_MS}
+use Rattle.unitdata.specs.Hearing.{Brings, Heard, says}
+use Rattle.carry_said.specs.Said.{CarriesSaid, HasInsides, HasSomething, IsAmong, IsSaid, ObjectBook, WasSaid}
+
+-- what was said stays said, whatever is said later
+abbrev pub SaidStill : Type 0 → Type 0
+SaidStill A = (own : Station → MaxApdu) (b later : ObjectBook A) (i : Inside) (stamp : ℕ) → StaysSaid b later →
+    IsSaid own b i stamp → IsSaid own later i stamp
+
+-- what a device hears of a parcel that reaches it, within a second, was said to it: all that is asked of the network
+abbrev pub DeviceHearsSaid : Type 0 → Type 0
+DeviceHearsSaid A = (own : Station → MaxApdu) (w : ObjectCore A) (d : DeviceState A) (p : Parcel A) →
+    CarriesSaid own w.book d.net p → Reaches p.to d.mac → w.book.moment ≤ p.stamp + LIFE_MS →
+    own (devices.station_of d) ≡ d.server.max_apdu →
+    BringsWhatWasSaid d.server.max_apdu w.book (devices.station_of d) p.from p.to p.npdu
+
+-- so is what a client hears
+abbrev pub ClientHearsSaid : Type 0 → Type 0
+ClientHearsSaid A = (own : Station → MaxApdu) (b : ObjectBook A) (c : ClientState A) (p : Parcel A) →
+    CarriesSaid own b c.net p → Reaches p.to c.mac → b.moment ≤ p.stamp + LIFE_MS →
+    BringsWhatWasSaid (own (clients.station_of c)) b (clients.station_of c) p.from p.to p.npdu
+
+-- the parcels of a device carry what it says (5.4.5, 16.10.2)
+abbrev pub DeviceSaysSaid : Type 0 → Type 0
+DeviceSaysSaid A = (own : Station → MaxApdu) (w : ObjectCore A) (d : DeviceState A) (deed : Deed A) (p : Parcel A) →
+    HasNumbers d → Has (told_of_deed w.book.moment d deed).said p →
+    CarriesSaid own (after_deed d deed w).book d.net p
+
+-- so do those of a client, where it hears or wakes (5.4.4)
+abbrev pub ClientSaysSaid : Type 0 → Type 0
+ClientSaysSaid A = (own : Station → MaxApdu) (w : ObjectCore A) (c : ClientState A) (says : List (ClientSaid A))
+    (tells : List (TransactionOutcome A)) (next : Client Station (Request A)) (p : Parcel A) →
+    AllByRecursion CanWrite says → Has (client.parcels_of w.book.moment c.mac says) p →
+    CarriesSaid own (acts own (clients.station_of c) says tells next w).book c.net p
+
+-- where it issues a request (5.4.4.1)
+abbrev pub ClientIssuesSaid : Type 0 → Type 0
+ClientIssuesSaid A = (own : Station → MaxApdu) (w : ObjectCore A) (c : ClientState A)
+    (row : Issued Station (Request A)) (says : List (ClientSaid A)) (next : Client Station (Request A)) (p : Parcel A) →
+    AllByRecursion CanWrite says → Has (client.parcels_of w.book.moment c.mac says) p →
+    CarriesSaid own (issues own (clients.station_of c) row says next w).book c.net p
+
+-- and where it asks who is there (16.10.1)
+abbrev pub ClientAsksSaid : Type 0 → Type 0
+ClientAsksSaid A = (own : Station → MaxApdu) (w : ObjectCore A) (c : ClientState A) (limits : Option Limits) →
+    CarriesSaid own (core.says (clients.station_of c) Broadcast (Other ∷ []) w).book c.net
+    (client.who_is_parcel w.book.moment c.mac limits)
+
+-- what a station hears of a parcel whose inside is among what was said was said so
+abbrev pub HeardWasSaid : Type 0 → Type 0
+HeardWasSaid A = (l : List Said) (net : ℕ) (p : Parcel A) (h : Heard) (a : PlainApdu) → IsAmong l net p →
+    Brings net p.from p.to p.npdu h → h.content ≡ says a → WasSaid l net p h a
+
+-- there is something inside each parcel that a device says, whatever it does
+abbrev pub DeviceSaysSomething : Type 0 → Type 0
+DeviceSaysSomething A = (now : ℕ) (d : DeviceState A) (deed : Deed A) (p : Parcel A) →
+    Has (told_of_deed now d deed).said p → HasSomething d.net p
+
+-- there is something inside each parcel that a client says
+abbrev pub ClientSaysSomething : Type 0 → Type 0
+ClientSaysSomething A = (now : ℕ) (c : ClientState A) (says : List (ClientSaid A)) (p : Parcel A) →
+    Has (client.parcels_of now c.mac says) p → HasSomething c.net p
+
+-- there is something inside a Who-Is
+abbrev pub WhoIsSaysSomething : Type 0 → Type 0
+WhoIsSaysSomething A = (now : ℕ) (c : ClientState A) (limits : Option Limits) →
+    HasSomething {A = A} c.net (client.who_is_parcel now c.mac limits)
+
+-- there is something inside each parcel that a device says where it hears something
+abbrev pub DeviceHearingHasInsides : Type 0 → Type 0
+DeviceHearingHasInsides A = (now : ℕ) (from : Mac) (to : Target) (npdu : List ℕ) (d left : DeviceState A)
+    (told : DeviceTold A) → DeviceHears now from to npdu d told left → HasInsides d.net told.said
+
+-- there is something inside each parcel that a client says where it hears something
+abbrev pub ClientHearingHasInsides : Type 0 → Type 0
+ClientHearingHasInsides A = (now : ℕ) (from : Mac) (to : Target) (npdu : List ℕ) (c next : ClientState A)
+    (told : ClientTold A) → ClientHears now from to npdu c told next → HasInsides c.net told.said

@@ -1,0 +1,5 @@
+pub mod Internetwork
+pub mod InternetworkSteps
+pub mod PlainWorld
+pub mod PlainSteps
+pub mod Laws

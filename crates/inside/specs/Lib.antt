@@ -1,0 +1,4 @@
+pub mod Inside
+pub mod View
+pub mod Routed
+pub mod Laws
