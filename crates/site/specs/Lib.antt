@@ -1,0 +1,10 @@
+pub mod Apart
+pub mod Networks
+pub mod Named
+pub mod Roles
+pub mod Links
+pub mod Devices
+pub mod Marks
+pub mod Managers
+pub mod Foreigns
+pub mod Sound

@@ -1,0 +1,3 @@
+pub mod Places
+pub mod Roles
+pub mod Names

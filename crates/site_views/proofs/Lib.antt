@@ -1,0 +1,4 @@
+pub mod PartLaws
+pub mod ApartLaws
+pub mod CountLaws
+pub mod FullLaws
