@@ -1,5 +1,5 @@
 -- The parcels of a client carry what it says.
-use Rattle.std.proofs.Common.{◌≡◌, ◌∙◌, inl, inr, refl, sym, ap, subst, ℕ, List, [], ◌∷◌, ◌++◌, map, Option, Some, None}
+use Rattle.std.proofs.Common.{◌≡◌, inl, inr, refl, sym, subst, ℕ, List, map, Option}
 use Rattle.std.specs.List.{AllByRecursion, flat_map}
 use Rattle.apdu.specs.Apdu.{PlainApdu, abort_pdu, complex_ack, confirmed, error_pdu, reject_pdu, segment_ack, simple_ack, unconfirmed}
 use Rattle.apdu.specs.Unconfirmed.{limits_octets, service_number}
@@ -7,8 +7,8 @@ use Rattle.apdu.specs.declared.sizes.MaxApdu.{MaxApdu}
 use Rattle.apdu.specs.declared.unconfirmed.Limits.{Limits}
 use Rattle.apdu.specs.declared.unconfirmed.UnconfirmedService.TheVariants as kind
 use Rattle.client.specs.Client.{ClientState}
-use Rattle.client.specs.Hearing.{ClientHears, Does, Transacts, silence}
-use Rattle.client.specs.Saying.{parcel_of, who_is_parcel}
+use Rattle.client.specs.Hearing.{Does, Transacts, silence}
+use Rattle.client.specs.Saying.{parcel_of}
 use Rattle.client.specs.declared.plan.ClientTold.{ClientTold}
 use Rattle.client_tsm.specs.Said.{said_apdu, said_way, spoken_of}
 use Rattle.client_tsm.specs.declared.said.ClientSaid.{ClientSaid}

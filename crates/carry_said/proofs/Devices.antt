@@ -1,5 +1,5 @@
 -- The parcels of a device carry what it says.
-use Rattle.std.proofs.Common.{◌≡◌, ◌∙◌, ⊎_elim, inl, inr, refl, sym, ap, subst, ℕ, ◌<◌, ◌^◌, List, [], ◌∷◌, ◌++◌, map, Some, None, arith}
+use Rattle.std.proofs.Common.{◌≡◌, ⊎_elim, inl, inr, refl, subst, ℕ, ◌<◌, ◌^◌, List, [], map, arith}
 use Rattle.apdu.specs.Apdu.{PlainApdu, abort_pdu, complex_ack, confirmed, error_pdu, reject_pdu, segment_ack, simple_ack, unconfirmed}
 use Rattle.apdu.specs.Sizes.{apdu_taken}
 use Rattle.apdu.specs.Unconfirmed.{i_am_octets, service_number}
@@ -7,7 +7,7 @@ use Rattle.apdu.specs.declared.sizes.MaxApdu.{MaxApdu}
 use Rattle.apdu.specs.declared.sizes.MaxApdu.TheVariants.{UpTo50, UpTo128, UpTo206, UpTo480, UpTo1024, UpTo1476, Reserved}
 use Rattle.apdu.specs.declared.unconfirmed.UnconfirmedService.TheVariants as kind
 use Rattle.device.specs.Device.{DeviceState, i_am_of}
-use Rattle.device.specs.Hearing.{AnswersWho, DeviceHears, Does, Serves, origin_of}
+use Rattle.device.specs.Hearing.{AnswersWho, Does, Serves, origin_of}
 use Rattle.device.specs.Saying.{i_am_parcel, parcel_of}
 use Rattle.device.specs.declared.plan.DeviceTold.{DeviceTold}
 use Rattle.headline_bacnet.proofs.Speaking.{i_am_is_said}

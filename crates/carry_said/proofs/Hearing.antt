@@ -1,9 +1,7 @@
 -- What a parcel carries stays said, and is heard as it was said.
-use Rattle.std.proofs.Common.{◌≡◌, ◌∙◌, refl, sym, ap, subst, ℕ, ◌≤◌, ◌+◌, List, [], ◌∷◌, ◌++◌, arith}
+use Rattle.std.proofs.Common.{◌≡◌, ◌∙◌, refl, sym, subst, ℕ, ◌≤◌, ◌+◌, List, ◌++◌, arith}
 use Rattle.apdu.specs.Apdu.{PlainApdu}
 use Rattle.apdu.specs.declared.sizes.MaxApdu.{MaxApdu}
-use Rattle.headline.specs.Honest.{IsHeard}
-use Rattle.headline_bacnet.specs.Bodies.{Says}
 use Rattle.headline_bacnet.specs.Network.{WasSaid}
 use Rattle.headline_client.specs.Safe as clients
 use Rattle.headline_device.specs.Devices as devices

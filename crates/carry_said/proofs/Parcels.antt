@@ -1,5 +1,5 @@
 -- What is said in a parcel is what is inside it, and whoever reads it finds that in the book.
-use Rattle.std.proofs.Common.{◌≡◌, ◌∙◌, ⊎_elim, refl, sym, ap, subst, ℕ, Bool, true, false, List, [], ◌∷◌, ◌++◌, Option, Some, None}
+use Rattle.std.proofs.Common.{◌≡◌, ◌∙◌, ⊎_elim, refl, sym, subst, ℕ, Bool, true, false, List, [], ◌∷◌, Option, Some, None}
 use Rattle.apdu.specs.declared.sizes.MaxApdu.{MaxApdu}
 use Rattle.headline_bacnet.specs.Bodies.{led_to, station_by}
 use Rattle.history.proofs.Lists.{has, has_cons, has_next, none_has}

@@ -1,6 +1,6 @@
 -- What a station says by itself is carried.
 use Rattle.headline_bacnet.specs.Stations.{longest_of}
-use Rattle.std.proofs.Common.{◌≡◌, ⊎_elim, refl, sym, ap, subst, ◌∙◌, ℕ, List, [], ◌∷◌, Option, Some, None}
+use Rattle.std.proofs.Common.{◌≡◌, ⊎_elim, refl, sym, subst, ℕ, List, [], ◌∷◌, Option, Some, None}
 use Rattle.std.specs.Prelude.{slice_get}
 use Rattle.std.specs.List.{AllByRecursion}
 use Rattle.client.specs.Client.{ClientState}
@@ -16,7 +16,6 @@ use Rattle.headline.specs.Happenings as core
 use Rattle.history.proofs.Lists.{has_cons, none_has}
 use Rattle.history.specs.Book.{Broadcast, Other}
 use Rattle.history.specs.Lists.{Has}
-use Rattle.npdu.specs.declared.mac.Station.{Station}
 use Rattle.npdu.specs.declared.parcel.Parcel.{Parcel}
 use Rattle.headline_bacnet.specs.Refined.{ObjectSite}
 use Rattle.primitives.specs.declared.plain_data.Request.{Request}
@@ -34,7 +33,7 @@ use Rattle.headline_client.specs.Safe.{safe_client, station_of}
 use Rattle.headline_client.specs.Told.{row_of}
 use Rattle.headline_device.specs.Devices.{Deed, announces}
 use Rattle.carry_world.specs.Internetwork.{IsSized}
-use Rattle.carry_world.specs.InternetworkSteps.{IsOfClient, IsOfDevice, IsWhoIs, SaysParcels, issue_says}
+use Rattle.carry_world.specs.InternetworkSteps.{SaysParcels, issue_says}
 use Rattle.carry_world.proofs.Lists.{at_one}
 
 module _ {A : Type 0} (s : ObjectSite A) (w : AllStations A) (at : Stands longest_of s w) (sized : AllByRecursion IsSized w.devices) where

@@ -1,24 +1,20 @@
 -- Each step keeps what holds of an internetwork.
-use Rattle.std.proofs.Common.{◌≡◌, ◌⊎◌, ⊎_elim, refl, sym, ap, subst, ◌∙◌, ℕ, ◌≤◌, ◌+◌, List, [], ◌∷◌, ◌++◌, Some}
+use Rattle.std.proofs.Common.{◌≡◌, ◌⊎◌, ⊎_elim, refl, sym, subst, ℕ, ◌≤◌, ◌+◌, List, [], ◌∷◌, Some}
 use Rattle.std.specs.Prelude.{slice_get}
 use Rattle.std.specs.List.{AllByRecursion}
-use Rattle.std.proofs.lemmas.List.{append-nil}
 use Rattle.apdu.specs.Apdu.{PlainApdu}
 use Rattle.carry.proofs.Passed.{carried_still, passed_on_is_carried, put_out_is_carried}
 use Rattle.carry.specs.Passing.{PassesOn, PutsOut}
-use Rattle.carry.specs.Things.{AreCarried, IsCarried, Thing, net_of}
+use Rattle.carry.specs.Things.{AreCarried, Thing}
 use Rattle.client.specs.Client.{ClientState}
-use Rattle.client.specs.Hearing.{ClientHears}
 use Rattle.client.specs.declared.plan.ClientTold as client
 use Rattle.device.specs.Device.{DeviceState}
-use Rattle.device.specs.Hearing.{DeviceHears}
 use Rattle.device.specs.declared.plan.DeviceTold as device
 use Rattle.headline.specs.Happenings.{start}
-use Rattle.headline.specs.Promised.{StaysSaid}
 use Rattle.history.proofs.Lists.{has, has_cons, has_either, has_next, none_has}
 use Rattle.history.specs.Lists.{Has}
 use Rattle.profile.specs.Times.{LIFE_MS}
-use Rattle.inside.specs.Inside.{AreInside, HasInside, Inside, IsInsideOf, Said}
+use Rattle.inside.specs.Inside.{AreInside, HasInside, IsInsideOf, Said}
 use Rattle.npdu.specs.declared.mac.Mac.{Mac}
 use Rattle.npdu.specs.declared.mac.Station.{Station}
 use Rattle.npdu.specs.declared.parcel.Parcel.{Parcel}
@@ -30,12 +26,12 @@ use Rattle.carry_said.proofs.Hearing as hearing_said
 use Rattle.carry_said.proofs.Hearing.{heard_was_said, said_still}
 use Rattle.carry_said.proofs.Clients.{client_says}
 use Rattle.carry_said.proofs.Devices.{device_says}
-use Rattle.carry_said.specs.Said.{CarriesSaid, IsSaid, ObjectBook}
+use Rattle.carry_said.specs.Said.{CarriesSaid, IsSaid}
 use Rattle.headline_site.proofs.Contracts.{client_hearing_goes, device_hearing_goes}
 use Rattle.headline_site.proofs.Steps.{begins_well, step_goes}
 use Rattle.headline_site.specs.Fair.{Stands}
 use Rattle.headline_site.specs.Laws.{Goes}
-use Rattle.headline_site.specs.AllStations.{Event, AllStations, device_does, now, step, with_client}
+use Rattle.headline_site.specs.AllStations.{AllStations, device_does, now, step, with_client}
 use Rattle.headline_client.proofs.Laws.{hearing}
 use Rattle.headline_client.proofs.Places.{all_at}
 use Rattle.headline_client.specs.Heard.{said_in}
@@ -45,7 +41,7 @@ use Rattle.headline_client.specs.Safe.{safe_client}
 use Rattle.headline_client.specs.Told.{acts}
 use Rattle.headline_device.proofs.Doing.{hearing_is_done}
 use Rattle.headline_device.specs.Devices as devices
-use Rattle.headline_device.specs.Devices.{IsDevice, after_deed, deed_in, left_of_deed, told_of_deed}
+use Rattle.headline_device.specs.Devices.{IsDevice, deed_in, left_of_deed}
 use Rattle.unitdata.specs.Hearing.{Brings, Heard, says}
 use Rattle.carry_world.specs.Internetwork.{Adds, Internetwork, IsBegun, IsDelivered, IsSized}
 use Rattle.carry_world.specs.Laws.{IsHeardAsSaid}

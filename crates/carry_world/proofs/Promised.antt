@@ -1,5 +1,5 @@
 -- What is promised of a world.
-use Rattle.std.proofs.Common.{◌≡◌, ◌∙◌, refl, sym, ap, subst, ℕ, List, [], ◌∷◌, ◌++◌, Option, Some, None}
+use Rattle.std.proofs.Common.{◌≡◌, ◌∙◌, refl, sym, ap, subst, ℕ, List, [], ◌∷◌, ◌++◌, Option, Some}
 use Rattle.carry.specs.Things.{AreCarried, Thing}
 use Rattle.client.specs.Client.{ClientState}
 use Rattle.client_tsm.specs.declared.plan.TransactionOutcome.{TransactionOutcome}

@@ -1,14 +1,12 @@
 -- A world is seen as an internetwork, and each of its steps is one of that.
-use Rattle.std.proofs.Common.{◌≡◌, ◌⊎◌, ◌∙◌, refl, sym, ap, subst, ℕ, ◌+◌, ◌≤◌, List, [], ◌∷◌, ◌++◌, length, map, Option, Some, None}
+use Rattle.std.proofs.Common.{◌≡◌, ◌∙◌, refl, sym, ap, subst, ℕ, ◌+◌, List, [], ◌∷◌, ◌++◌, Option, Some}
 use Rattle.std.specs.Prelude.{slice_get, slice_set}
-use Rattle.std.specs.List.{AllByRecursion}
 use Rattle.carry.specs.Things.{Thing}
 use Rattle.client.specs.Client.{ClientState}
 use Rattle.client.specs.Saying.{parcels_of}
 use Rattle.bindings.specs.Binding.{binding_of}
 use Rattle.bindings.specs.declared.binding.Binding.{Binding}
 use Rattle.client_tsm.specs.Client as client
-use Rattle.client_tsm.specs.Issuing.{issued}
 use Rattle.client_tsm.specs.Waking as client_waking
 use Rattle.device.specs.Device.{DeviceState}
 use Rattle.device.specs.declared.plan.DeviceTold as device
@@ -45,7 +43,7 @@ use Rattle.carry_world.specs.PlainSteps.{ArePlainSteps, ClientAsks, ClientHearsI
 use Rattle.carry_world.specs.PlainWorld.{Delivers, Key, PlainWorld, Puts, executed_told}
 use Rattle.headline_bacnet.specs.Stations.{longest_of}
 use Rattle.carry_world.proofs.Sizes.{all_sized}
-use Rattle.carry_world.proofs.Keys.{deed_left, key_of, keys_length, keys_more, keys_of, outcomes_same}
+use Rattle.carry_world.proofs.Keys.{deed_left, keys_length, keys_more, keys_of, outcomes_same}
 
 -- what a world of stations is without its book
 abbrev pub kept_of : {A : Type 0} → AllStations A → List (Thing A) → List Said → PlainWorld A

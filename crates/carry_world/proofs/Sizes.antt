@@ -5,11 +5,11 @@ use Rattle.std.specs.List.{AllByRecursion}
 use Rattle.bindings.specs.Binding.{binding_of}
 use Rattle.bindings.specs.declared.binding.Binding.{Binding}
 use Rattle.client.specs.Client.{ClientState}
-use Rattle.device.specs.Device.{DeviceState, new_device, restarts}
+use Rattle.device.specs.Device.{DeviceState, restarts}
 use Rattle.headline_bacnet.specs.Refined.{ObjectSite}
 use Rattle.headline_bacnet.specs.Stations.{longest_of}
 use Rattle.headline_client.proofs.Places.{all_at}
-use Rattle.headline_device.specs.Devices.{IsItself, announces, station_of}
+use Rattle.headline_device.specs.Devices.{IsItself, station_of}
 use Rattle.headline_device.specs.Devices.{HasNumbers}
 use Rattle.headline_server.proofs.Waking.{size_stays}
 use Rattle.headline_site.specs.AllStations.{Announces, Asks_who, Client_hears, Client_learns, Client_marks, Client_wakes, Device_hears, Device_wakes, Event}

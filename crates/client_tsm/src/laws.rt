@@ -4,17 +4,15 @@ ghost use Rattle.client_tsm.specs.Laws as spec;
 
 use std::alloc::Allocator;
 
-/// What is heard counts only from the station addressed, with the invoke ID of an open transaction and, where it has
-/// one, its service, before the deadline and the end of the transaction; all else changes nothing. One outcome is told
-/// at most, that which was heard, only where it counts, and it closes the transaction.
+/// What is heard counts only from the station addressed, under an open invoke ID and with its service, before the end;
+/// all else changes nothing. One outcome is told at most: that which was heard, where it counts, and that closes it.
 pub fn told_is_open<A: Allocator>()
     ensures counts { spec.CountsOrNothing A }
     ensures told { spec.ToldIsOpen A }
 {}
 
-/// Where the invoke IDs of the open transactions differ, an outcome of one for which what is heard counts is told, and
-/// nothing else: so each answer that counts and means a reply is given, a whole one, and one whose last segment is
-/// taken.
+/// Where the open invoke IDs differ, an outcome of one for which what is heard counts is told, and nothing else: so
+/// each answer that counts and means a reply is given, a whole one, and one whose last segment is taken.
 pub fn counted_is_told<A: Allocator>()
     ensures { spec.CountedIsTold A }
 {}

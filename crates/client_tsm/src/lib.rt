@@ -1,10 +1,8 @@
-//! The client of transactions (ANSI/ASHRAE 135, clauses 5.4.1 and 5.4.4): requests under invoke IDs, their repeats,
-//! and their answers, whole or in segments.
+//! The client of transactions (ANSI/ASHRAE 135, clauses 5.4.1 and 5.4.4): requests, their repeats, and their answers.
 //!
-//! To the layer above it promises: each call is one step of a function on plain data, and is planned before
-//! anything changes. An answer counts only from the station addressed, with an open invoke ID and the service of
-//! the request, before the transaction's end; a whole one that counts gives the reply that it means. The client
-//! knows no clock and no network: a moment is an argument, and what is said is told with its way.
+//! To the layer above it promises: each call is one step of a function on plain data, planned before anything changes.
+//! An answer counts only from the station addressed, under an open invoke ID and with its service, before the end; a
+//! whole one that counts gives the reply that it means. A moment is an argument, and what is said is told with its way.
 //!
 //! The states of a transaction (5.4.4), and what leads from one to another:
 //!
@@ -31,8 +29,7 @@
 //! - `client`: the client, and what changes of it.
 //! - `issuing`, `hearing`, `waking`: an issue, an APDU that is heard, a wake: what is planned, and the whole step.
 //! - `transaction`, `gathering`: a request that has no end yet, and the segments of its answer.
-//! - `asking`: what is said of a request.
-//! - `said`, `plan`: what is said, told and changed.
+//! - `asking`, `said`, `plan`: what is said of a request; what is said, told and changed.
 //! - `laws`: what holds of any client, for the proofs of the layers above.
 #![tactic(auto)]
 

@@ -1,5 +1,5 @@
 -- A plan of the server is one of its device.
-use Rattle.std.proofs.Common.{◌≡◌, refl, sym, ap, subst, ◌∙◌, inl, ℕ, List, Option}
+use Rattle.std.proofs.Common.{◌≡◌, refl, sym, ap, subst, inl, ℕ, List}
 use Rattle.apdu.specs.Apdu.{apdu_of, HasNamedNumbers}
 use Rattle.apdu.specs.declared.apdu.Apdu.{Apdu}
 use Rattle.npdu.specs.declared.mac.Mac.{Mac}

@@ -1,5 +1,5 @@
 -- Why a parcel has nothing inside.
-use Rattle.std.proofs.Common.{◌≡◌, ◌≢◌, ◌∙◌, sym, ap, subst, ℕ, Some, None}
+use Rattle.std.proofs.Common.{◌≡◌, ◌≢◌, ◌∙◌, sym, ap, ℕ, Some, None}
 use Rattle.npdu.specs.Header.{Header, NoHeader, OnlyHeader}
 use Rattle.npdu.specs.Sender.{sender}
 use Rattle.npdu.specs.declared.parcel.Parcel.{Parcel}

@@ -1,10 +1,10 @@
 -- What is inside what a router passes on was inside what it heard.
-use Rattle.std.proofs.Common.{◌≡◌, ◌∙◌, ⊎_elim, refl, sym, ap, subst, ℕ, ◌<◌, Bool, true, List, [], ◌∷◌, Option, Some, None, arith}
+use Rattle.std.proofs.Common.{◌≡◌, ◌∙◌, ⊎_elim, refl, sym, ap, subst, ℕ, ◌<◌, true, List, [], ◌∷◌, Option, Some, None, arith}
 use Rattle.std.specs.Prelude.{IfSome}
 use Rattle.inside.proofs.Insides.{inside_its_header, some_same}
 use Rattle.inside.specs.Inside.{HasInside, Inside, at_address, linked, named, reach_of, to_station}
 use Rattle.inside.specs.Laws.{RoutedIsInside}
-use Rattle.inside.specs.Routed.{Arrives, GoesOn, IsRouted, at_last, on_way, source_on, target_of, to_mac}
+use Rattle.inside.specs.Routed.{Arrives, GoesOn, at_last, on_way, source_on, target_of, to_mac}
 use Rattle.npdu.proofs.CanonicalLaws.{canonical_spells, mac_again, mac_length}
 use Rattle.npdu.specs.Header.{IsDestination, IsSound, IsSource, PlainDestination, PlainSource, Header, Spells}
 use Rattle.npdu.specs.Mac.{is_address, mac_of, station_at}

@@ -1,5 +1,5 @@
 -- The addresses and devices of a sound site are apart.
-use Rattle.std.proofs.Common.{◌≡◌, ◌∙◌, refl, sym, ap, subst, ℕ, List, [], ◌∷◌, ◌++◌, map, Option, Some, None, inl}
+use Rattle.std.proofs.Common.{◌≡◌, refl, sym, subst, ℕ, List, [], ◌∷◌, ◌++◌, map, Option, Some, None, inl}
 use Rattle.std.specs.List.{AllByRecursion, flat_map}
 use Rattle.npdu.specs.declared.mac.Mac.{Mac}
 use Rattle.npdu.specs.declared.mac.Mac.TheVariants.{One, Six}
@@ -8,17 +8,16 @@ use Rattle.object_model.specs.Site.{IsSite}
 use Rattle.object_model.specs.declared.site.SiteObjects.{SiteObjects}
 use Rattle.bvll.specs.Address.{address_octets}
 use Rattle.bvll.specs.declared.address.Address.{Address}
-use Rattle.site.specs.Apart.{AreApart, IsOther}
-use Rattle.site.specs.Devices.{AreDevices, IsDevice, IsDeviceIn}
-use Rattle.site.specs.Marks.{mark_at, mark_of, marks_in, marks_of, managed, network_mark}
+use Rattle.site.specs.Apart.{AreApart}
+use Rattle.site.specs.Devices.{AreDevices, IsDeviceIn}
+use Rattle.site.specs.Marks.{mark_at, mark_of, marks_in, marks_of, network_mark}
 use Rattle.site.specs.Sound.{IsSound}
 use Rattle.site.specs.declared.marks.Mark.{Mark}
 use Rattle.site.specs.declared.marks.Mark.TheVariants as mark
-use Rattle.site_parts.specs.Places.{beyond_at, links_at, network_of, station_of}
-use Rattle.site_parts.specs.Roles.{beyond, links_in, objects_in}
+use Rattle.site_parts.specs.Places.{beyond_at, links_at, station_of}
+use Rattle.site_parts.specs.Roles.{objects_in}
 use Rattle.site_parts.specs.declared.parts.Parts.{Parts}
 use Rattle.site_parts.specs.declared.parts.Station.{Station}
-use Rattle.site_parts.specs.declared.place.Foreign.{Foreign}
 use Rattle.site_parts.specs.declared.place.Link.{Link}
 use Rattle.site_parts.specs.declared.place.Link.TheVariants as link
 use Rattle.site_parts.specs.declared.place.Place.{Place}
@@ -27,7 +26,7 @@ use Rattle.site_parts.specs.declared.role.Role.{Role}
 use Rattle.site_parts.specs.declared.role.Role.TheVariants as role
 use Rattle.site_views.specs.Laws.{AreDevicesApart, DeviceAt, devices, devices_at}
 use Rattle.site_views.specs.Views.{addresses, addresses_of, foreign_at, foreign_stations, host}
-use Rattle.site_views.proofs.PartLaws.{IsPart, part_skip, part_same, part_behind, part_both, part_apart, part_flat, apart_of_map, map_flat, map_map}
+use Rattle.site_views.proofs.PartLaws.{IsPart, part_skip, part_behind, part_apart, part_flat, apart_of_map, map_flat, map_map}
 
 -- the mark of an address of the internetwork
 abbrev pub by_mac : ℕ → Mac → Mark

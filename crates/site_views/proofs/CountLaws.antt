@@ -1,5 +1,5 @@
 -- Sums over the subnets of a network, each of which is there once.
-use Rattle.std.proofs.Common.{◌≡◌, ◌∙◌, ◌≤◌, ◌+◌, ◌==◌, ◌||◌, refl, sym, ap, subst, arith, inl, inr, ℕ, Bool, true, false, cond, not, List, [], ◌∷◌, ◌++◌, map, true≢false}
+use Rattle.std.proofs.Common.{◌≡◌, ◌∙◌, ◌≤◌, ◌+◌, ◌==◌, ◌||◌, refl, sym, ap, subst, arith, inl, inr, ℕ, Bool, true, false, cond, not, List, [], ◌∷◌, ◌++◌, true≢false}
 use Rattle.std.specs.Prelude.{filter, if◌then◌else◌, ◌&&◌}
 use Rattle.std.specs.List.{AllByRecursion, flat_map, list_any}
 use Rattle.bbmd.proofs.Times.{total, total-more, total-zero, times-append}

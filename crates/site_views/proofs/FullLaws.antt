@@ -1,13 +1,11 @@
 -- The managers of a sound site have full tables.
 use Rattle.std.proofs.Common.{◌≡◌, ◌∙◌, ◌≤◌, ◌+◌, ◌==◌, ◌||◌, ◌⊎◌, refl, sym, ap, subst, arith, inl, inr, ℕ, Bool, true, false, cond, not, List, [], ◌∷◌, ◌++◌, map, length, Option, Some, None, option_map, true≢false}
 use Rattle.std.specs.Prelude.{filter, if◌then◌else◌, ◌&&◌, option_to_list, is_some}
-use Rattle.std.proofs.lemmas.List.Folds.{flat_map-map}
 use Rattle.std.specs.List.{AllByRecursion, flat_map, list_all, list_any}
-use Rattle.bbmd.proofs.Times.{total, total-more, total-zero, times-append, times-flat_map, times-others, same_is, itself_is, times_among}
-use Rattle.bbmd.specs.Reach.{AreFull, IsManaged, all_in, everyone, managers_of, owns, times}
-use Rattle.bbmd.specs.declared.spreading.Subnet.{Subnet}
+use Rattle.bbmd.proofs.Times.{total, total-more, total-zero, times-append, times-others, same_is, itself_is, times_among}
+use Rattle.bbmd.specs.Reach.{IsManaged, all_in, everyone, managers_of, owns, times}
 use Rattle.bbmd_manager.specs.State.{ManagerState}
-use Rattle.bbmd_tables.specs.Tables.{is_among, others, peers_of, same_address, served}
+use Rattle.bbmd_tables.specs.Tables.{is_among, others, same_address, served}
 use Rattle.bbmd_tables.specs.declared.registration.Registration.{Registration}
 use Rattle.bvll.specs.Address.{address_octets}
 use Rattle.bvll.specs.declared.address.Address.{Address}
@@ -18,7 +16,7 @@ use Rattle.site.specs.Sound.{IsSound}
 use Rattle.site.specs.declared.managers.SubnetId.{SubnetId}
 use Rattle.site.specs.declared.marks.Mark.{Mark}
 use Rattle.site.specs.declared.marks.Mark.TheVariants as mark
-use Rattle.site_parts.specs.Places.{beyond_at, links_at, network_of}
+use Rattle.site_parts.specs.Places.{beyond_at, links_at}
 use Rattle.site_parts.specs.Roles.{beyond, links_in}
 use Rattle.site_parts.specs.declared.parts.Parts.{Parts}
 use Rattle.site_parts.specs.declared.parts.Station.{Station}
@@ -35,7 +33,7 @@ use Rattle.site_views.specs.Laws.{AreRegistered, distinct, first, foreign_if, fo
 use Rattle.site_views.specs.Views.{address_at, host, managed_at, manager_at, managers, member_at, members, on_subnet}
 use Rattle.site_views.proofs.ApartLaws.{within}
 use Rattle.site_views.proofs.CountLaws.{occurs, is_in, distinct_once, distinct_one, distinct_in, picked, unpicked, total_le, total_same, swap_le, swap_same, in_left, in_right, in_both}
-use Rattle.site_views.proofs.PartLaws.{IsPart, part_skip, part_both, part_flat, map_flat}
+use Rattle.site_views.proofs.PartLaws.{IsPart, part_skip, part_flat, map_flat}
 
 -- the sum over a network's subnets of what is on each
 on_zero : (a : Address) (n net j : ℕ) (b : Bool) (xs : List Address) (ks : List ℕ) → b ≡ false →
