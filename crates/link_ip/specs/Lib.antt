@@ -1,0 +1,5 @@
+pub mod Port
+pub mod Saying
+pub mod Hearing
+pub mod Steps
+pub mod CarryLaws

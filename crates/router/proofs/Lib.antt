@@ -1,0 +1,5 @@
+pub mod HearLaws
+pub mod KeepLaws
+pub mod PassLaws
+pub mod Ports
+pub mod RouteLaws

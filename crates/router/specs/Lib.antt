@@ -1,0 +1,10 @@
+pub mod Router
+pub mod Handling
+pub mod Sending
+pub mod Routes
+pub mod Messages
+pub mod Passing
+pub mod Said
+pub mod Hearing
+pub mod Plan
+pub mod Laws

@@ -1,0 +1,179 @@
+//! What a router does with a parcel that it hears.
+
+ghost use Rattle.std.specs.Prelude.{◌≡◌, []};
+ghost use Rattle.router.specs.declared.plan.RouterChange.TheVariants.{Nothing};
+
+use crate::handling::Handling;
+use crate::heard::Heard;
+use crate::plan::{PortParcel, RouterChange, RouterPlan};
+use crate::router::Router;
+use crate::routes::Route;
+use npdu::{Parcel, View};
+use std::alloc::Allocator;
+use tags::{Fault, Items};
+
+/// Nothing goes out, and nothing changes but the moment.
+fn silence<A: Allocator + Copy>(alloc: A) -> RouterPlan<A>
+    ensures { result ≡ record { out = []; change = Nothing } }
+{
+    RouterPlan {
+        out: Items::new(alloc),
+        change: RouterChange::Nothing,
+    }
+}
+
+impl<A: Allocator + Copy> Router<A> {
+    ghost use Rattle.std.specs.Prelude.{◌≡◌, ◌≢◌, ◌≤◌, ◌⊎◌, true, false, Some, IfOk, IfErr, OnOk, OnErr, slice_get};
+    ghost use Rattle.npdu.specs.Header.{IsSound, Spells, header_of};
+    ghost use Rattle.profile.specs.Times.{MAX_MOMENT_MS};
+    ghost use Rattle.router.specs.Hearing.{Comes, IsOverfull, IsTaken, RouterHears, Teaches, handling_of};
+    ghost use Rattle.router.specs.Plan.{HasRoutes, changed, heard_of, left_by};
+    ghost use Rattle.router.specs.Router.{IsNumbered};
+    ghost use Rattle.router.specs.Routes as routes;
+    ghost use Rattle.router.specs.Said.{left, said, teaches_too_many};
+
+    /// Hears a parcel on the port of this number at the moment `now`, in milliseconds, and answers what goes out over
+    /// which ports, in order (6.5, 6.6.3). A parcel that is dropped, for its header or its destination, takes no memory
+    /// and is never refused.
+    ///
+    /// # Errors
+    /// `TableFull` for an announcement behind which it would know more than `MAX_LEARNED_ROUTES` routes, or `Memory`.
+    /// The router is then as it was.
+    pub fn on_parcel(
+        &mut self,
+        port: usize,
+        parcel: &Parcel<A>,
+        now: u64,
+    ) -> Result<Items<PortParcel<A>, A>, Fault>
+        requires greatest { now ≤ MAX_MOMENT_MS }
+        requires order { self.old.moment ≤ now }
+        ensures step { IfOk result (λ out. RouterHears now port parcel.now self.old out self.new) }
+        ensures cause { IfErr result (λ fault. (fault ≡ Fault.Memory) ⊎
+            ((fault ≡ Fault.TableFull) × IsOverfull port parcel.now self.old)) }
+        ensures taken { OnErr result (IsTaken port parcel.now self.old) }
+        ensures unchanged { OnErr result (self.new ≡ self.old) }
+    {
+        let plan = self.plan_parcel(port, parcel, now)?;
+        let out = self.commit(plan, now);
+        Ok(out)
+    }
+
+    /// What it does where it hears a parcel on the port of this number at the moment `now`, in milliseconds: `commit`
+    /// does it. A parcel that is dropped, for its header or its destination, takes no memory and is never refused; only
+    /// one that teaches a route has its routes copied.
+    ///
+    /// # Errors
+    /// `TableFull` for an announcement behind which it would know more than `MAX_LEARNED_ROUTES` routes, or `Memory`.
+    pub fn plan_parcel(
+        &self,
+        port: usize,
+        parcel: &Parcel<A>,
+        now: u64,
+    ) -> Result<RouterPlan<A>, Fault>
+        ensures step { IfOk result (λ plan.
+            RouterHears now port parcel.now self.now plan.out (left_by now plan self.now)) }
+        ensures copied { IfOk result (λ plan. HasRoutes plan.change → Teaches port parcel.now self.now) }
+        ensures cause { IfErr result (λ fault. (fault ≡ Fault.Memory) ⊎
+            ((fault ≡ Fault.TableFull) × IsOverfull port parcel.now self.now)) }
+        ensures taken { OnErr result (IsTaken port parcel.now self.now) }
+    {
+        let Some(at) = self.port(port) else {
+            return Ok(silence(self.alloc));
+        };
+        let Ok(view) = View::read(parcel.npdu.as_slice()) else {
+            return Ok(silence(self.alloc));
+        };
+        let heard = Heard {
+            moment: now,
+            port,
+            at,
+            parcel,
+            view,
+        };
+        self.plan_met(&heard)
+    }
+
+    /// What it does where it hears a message on one of its ports.
+    fn plan_met(&self, heard: &Heard<'_, A>) -> Result<RouterPlan<A>, Fault>
+        requires there { slice_get self.now.ports heard.now.port ≡ Some heard.now.at }
+        requires spelled { Spells heard.now.parcel.now.npdu (header_of heard.now.view) }
+        requires numbered { IsNumbered heard.now.at }
+        ensures step { IfOk result (λ plan. RouterHears heard.now.moment heard.now.port heard.now.parcel.now self.now
+            plan.out (left_by heard.now.moment plan self.now)) }
+        ensures copied { IfOk result (λ plan. HasRoutes plan.change →
+            Teaches heard.now.port heard.now.parcel.now self.now) }
+        ensures cause { IfErr result (λ fault. (fault ≡ Fault.Memory) ⊎
+            ((fault ≡ Fault.TableFull) × IsOverfull heard.now.port heard.now.parcel.now self.now)) }
+        ensures taken { OnErr result (IsTaken heard.now.port heard.now.parcel.now self.now) }
+    {
+        match self.plan_heard(heard) {
+            Ok(plan) => Ok(plan),
+            Err(fault) => Err(fault),
+        }
+    }
+
+    /// What it says to a message, and what changes.
+    fn plan_heard(&self, heard: &Heard<'_, A>) -> Result<RouterPlan<A>, Fault>
+        requires sound { IsSound (header_of heard.now.view) }
+        requires numbered { IsNumbered heard.now.at }
+        ensures comes { IfOk result (λ plan. Comes (heard_of heard.now) self.now plan.out
+            (left_by heard.now.moment plan self.now)) }
+        ensures copied { IfOk result (λ plan. HasRoutes plan.change →
+            ((handling_of self.now (heard_of heard.now) ≡ Handling.Learn) ×
+            (routes.teaches self.now.ports heard.now.view.body.now ≡ true))) }
+        ensures cause { IfErr result (λ fault. (fault ≡ Fault.Memory) ⊎ ((fault ≡ Fault.TableFull) ×
+            (teaches_too_many (heard_of heard.now) self.now (handling_of self.now (heard_of heard.now)) ≡ true))) }
+        ensures taken { OnErr result (handling_of self.now (heard_of heard.now) ≢ Handling.Discard) }
+    {
+        let handling = self.handling(heard.port, heard.parcel.to, &heard.view);
+        let out = self.said(heard, handling)?;
+        let change = self.change(heard, handling)?;
+        Ok(RouterPlan { out, change })
+    }
+
+    /// What changes, by what is done with the message: an announcement alone teaches.
+    fn change(&self, heard: &Heard<'_, A>, handling: Handling) -> Result<RouterChange<A>, Fault>
+        ensures left { IfOk result (λ change.
+            changed heard.now.moment change self.now ≡ left (heard_of heard.now) self.now handling) }
+        ensures fits { OnOk result (teaches_too_many (heard_of heard.now) self.now handling ≡ false) }
+        ensures copied { IfOk result (λ change. HasRoutes change →
+            ((handling ≡ Handling.Learn) × (routes.teaches self.now.ports heard.now.view.body.now ≡ true))) }
+        ensures cause { IfErr result (λ fault. (fault ≡ Fault.Memory) ⊎ ((fault ≡ Fault.TableFull) ×
+            (teaches_too_many (heard_of heard.now) self.now handling ≡ true))) }
+        ensures taken { OnErr result (handling ≢ Handling.Discard) }
+    {
+        match handling {
+            Handling::Learn => self.learns(heard),
+            Handling::Discard
+            | Handling::Spread
+            | Handling::Relay { .. }
+            | Handling::Deliver { .. }
+            | Handling::FindRoute(_)
+            | Handling::NameAll
+            | Handling::NameAsked
+            | Handling::AskOthers
+            | Handling::RefuseType => Ok(RouterChange::Nothing),
+        }
+    }
+
+    /// What an announcement changes: nothing, where it names no network that may be learned.
+    fn learns(&self, heard: &Heard<'_, A>) -> Result<RouterChange<A>, Fault>
+        ensures left { IfOk result (λ change.
+            changed heard.now.moment change self.now ≡ left (heard_of heard.now) self.now Handling.Learn) }
+        ensures fits { OnOk result (teaches_too_many (heard_of heard.now) self.now Handling.Learn ≡ false) }
+        ensures copied { IfOk result (λ change. HasRoutes change →
+            (routes.teaches self.now.ports heard.now.view.body.now ≡ true)) }
+        ensures cause { IfErr result (λ fault. (fault ≡ Fault.Memory) ⊎ ((fault ≡ Fault.TableFull) ×
+            (teaches_too_many (heard_of heard.now) self.now Handling.Learn ≡ true))) }
+    {
+        let route = Route {
+            port: heard.port,
+            next: heard.parcel.from,
+        };
+        match self.routes.taught(self.ports(), route, heard.view.body) {
+            Ok(None) => Ok(RouterChange::Nothing),
+            Ok(Some(routes)) => Ok(RouterChange::Learns(routes)),
+            Err(fault) => Err(fault),
+        }
+    }
+}

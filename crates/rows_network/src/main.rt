@@ -1,0 +1,53 @@
+//! The program `rows_network`: what a router does with a parcel (ANSI/ASHRAE 135, clauses 6.5 and 6.6), what a port of
+//! BACnet/IP puts out and hands up (Annex J), and what is inside a message on a network (6.2), run on the rows of its
+//! `data/`.
+//!
+//! - `addresses`: addresses in words.
+//! - `named`: octets in words, with announcements of many networks.
+//! - `routing`: the rows of a router, step by step; `stepping`: a step in every way.
+//! - `ports`: the rows of a port.
+//! - `insides`: the rows of what is inside.
+#![tactic(auto)]
+
+mod addresses;
+mod insides;
+mod named;
+mod ports;
+mod routing;
+mod stepping;
+
+use sheets::{Bench, Counts, Given, Part, Report, Row, Stop};
+use std::alloc::AllocError;
+use std::io;
+
+/// What the rows of the program run on.
+struct NetworkRows;
+
+impl Bench for NetworkRows {
+    fn run(
+        given: Given<'_>,
+        name: &str,
+        rows: &[Row<'_>],
+        report: &mut Report<'_>,
+    ) -> Result<(), AllocError> {
+        for row in rows {
+            report.add(row, run_row(given, name, row))?;
+        }
+        Ok(())
+    }
+}
+
+/// Runs a row of a file of this name.
+fn run_row(given: Given<'_>, name: &str, row: &Row<'_>) -> Result<Counts, Stop> {
+    let wanted = row.wanted()?;
+    match name {
+        "router.txt" => routing::run(given, given.memory, row.asked, wanted),
+        "ports.txt" => ports::run(given, row.asked, wanted),
+        "inside.txt" => insides::run(given, row.asked, wanted),
+        _ => Err(Stop::Unread(Part::Asked)),
+    }
+}
+
+fn main(rt: HostRuntime) -> io::Result<()> {
+    sheets::run_files::<NetworkRows>(&rt)
+}

@@ -1,0 +1,2 @@
+pub mod StationKeeping
+pub mod Planning
