@@ -6,7 +6,7 @@ use Rattle.npdu.specs.Header.{Header, Spells}
 use Rattle.npdu.specs.declared.mac.Station.{Station}
 use Rattle.npdu.specs.declared.parcel.Parcel.{Parcel}
 use Rattle.router.specs.Handling.{handling}
-use Rattle.router.specs.Hearing.{Comes, Drops, Hears, IsMet, IsOverfull, IsTaken, RouterHears, Teaches, handling_of, heard}
+use Rattle.router.specs.Hearing.{Comes, Drops, Hears, IsMet, IsOverfull, IsTaken, RouterHears, Teaches, heard}
 use Rattle.router.specs.Laws.{HeardOnce}
 use Rattle.router.specs.Messages.{Heard}
 use Rattle.router.specs.Router.{RouterState}

@@ -8,13 +8,12 @@ use Rattle.std.specs.declared.cmp.Ordering.{Ordering}
 use Rattle.std.specs.declared.cmp.Ordering.TheVariants.{Less, Equal, Greater}
 use Rattle.byteorder.specs.Endian.{big_number}
 use Rattle.npdu.specs.declared.mac.Station.{Station}
-use Rattle.npdu.specs.declared.parcel.Parcel.{Parcel}
-use Rattle.router.specs.Hearing.{Comes, RouterHears, handling_of, heard}
+use Rattle.router.specs.Hearing.{handling_of, heard}
 use Rattle.router.specs.Laws.{AreRoutes, RouterKeeps}
 use Rattle.router.specs.Messages.{Heard}
 use Rattle.router.specs.Router.{RouterState}
 use Rattle.router.specs.Routes.{is_learnable, is_overfull, is_too_many, learned, learned_one, teaches}
-use Rattle.router.specs.Said.{left, route_back, routes_left, teaches_too_many}
+use Rattle.router.specs.Said.{route_back, routes_left, teaches_too_many}
 use Rattle.router.specs.declared.handling.Handling.{Handling}
 use Rattle.router.specs.declared.handling.Handling.TheVariants as does
 use Rattle.router.specs.declared.routes.Route.{Route}

@@ -1,5 +1,5 @@
 -- What a router says is made of what it heard, or has nothing inside.
-use Rattle.std.proofs.Common.{◌≡◌, ◌∙◌, refl, sym, ap, subst, inl, inr, arith, ℕ, ◌+◌, ◌<◌, cond, Bool, true, false, List, [], ◌∷◌, ◌++◌, Option, Some, None}
+use Rattle.std.proofs.Common.{◌≡◌, ◌∙◌, refl, sym, ap, subst, inl, inr, arith, ℕ, ◌+◌, cond, Bool, true, false, List, [], ◌∷◌, Option, Some, None}
 use Rattle.std.specs.Prelude.{IfSome, option_map, slice_get}
 use Rattle.std.specs.List.{AllByRecursion}
 use Rattle.byteorder.specs.Endian.{big_bytes}
@@ -18,13 +18,12 @@ use Rattle.npdu.specs.declared.parcel.Parcel.{Parcel}
 use Rattle.npdu.specs.declared.view.Dnet.{Dnet}
 use Rattle.npdu.specs.declared.view.Dnet.TheVariants as dnet
 use Rattle.inside.proofs.Insides.{network_message_has_nothing}
-use Rattle.inside.specs.Inside.{HasNothingInside}
-use Rattle.inside.specs.Routed.{IsRouted, at_last, on_way, target_of}
+use Rattle.inside.specs.Routed.{IsRouted, on_way, target_of}
 use Rattle.router.specs.Handling.{announcing, answering, asking, by_net, by_port, by_route, delivered, handled, handling}
 use Rattle.router.specs.Handling.{is_on, own_port, reaches, relayed, route_to, unknown}
-use Rattle.router.specs.Hearing.{Comes, Drops, Hears, RouterHears, handling_of, heard}
+use Rattle.router.specs.Hearing.{handling_of, heard}
 use Rattle.router.specs.Laws.{IsOwn, IsPassedOn, RouterAnnounces, RouterPassesOn}
-use Rattle.router.specs.Messages.{Heard, announced, announced_if, back_to, behind, message_header, message_npdu}
+use Rattle.router.specs.Messages.{Heard, announced_if, back_to, behind, message_header, message_npdu}
 use Rattle.router.specs.Messages.{named_on_each, refused, said_on, said_on_others, said_there}
 use Rattle.router.specs.Passing.{fits, last_of, net_of, passed, passed_if, spread_there, way_if, way_of}
 use Rattle.router.specs.Router.{RouterState}
