@@ -1,10 +1,10 @@
 -- What is printed is what the device responds.
-use Rattle.std.proofs.Common.{◌≡◌, ℕ, List, Option}
+use Rattle.std.proofs.Common.{ℕ, List, Option}
 use Rattle.std.specs.Io.KnownBytes.{Appends}
 use Rattle.device.specs.Device.{DeviceState}
 use Rattle.console.specs.Answer.{printed, sender, SomeResponse, PrintsAnswer}
-use Rattle.console.specs.HexText.{SpellsHex, OnlyHex}
-use Rattle.console.specs.Respond.{Said, Responds}
+use Rattle.words.specs.HexText.{SpellsHex, OnlyHex}
+use Rattle.console.specs.Respond.{Responds}
 
 pub some_response : {A : Type 0} (datagram : List ℕ) (device left : DeviceState A) (said : List (List ℕ)) → Responds sender datagram device left said →
     SomeResponse datagram device said

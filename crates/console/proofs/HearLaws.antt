@@ -1,28 +1,30 @@
--- A datagram hands up one NPDU, or none.
+-- Octets bring one parcel, or none.
 use Rattle.std.proofs.Common.{◌≡◌, ◌∙◌, sym, ap, List, ℕ, Option, Some, None}
-use Rattle.bvll.specs.Datagram as link
+use Rattle.bvll.proofs.Unique.{one_datagram}
+use Rattle.bvll.specs.Datagram.{Datagram}
+use Rattle.carry.proofs.Passed.{none_some}
+use Rattle.inside.proofs.Insides.{some_same}
+use Rattle.link_ip.specs.Hearing.{IsHeard, IsRefused, handed_up}
 use Rattle.npdu.specs.declared.mac.Mac.{Mac}
-use Rattle.console.specs.Hearing.{Sent, handed_up, OnlyHandsUp, HandsUpNothing}
+use Rattle.npdu.specs.declared.mac.Mac.TheVariants.{One, Six}
+use Rattle.npdu.specs.declared.parcel.Parcel.{Parcel}
+use Rattle.tags.specs.declared.fault.Fault.{Fault}
+use Rattle.console.specs.Hearing.{Brings, HandsUpNothing}
 
-some_same : {X : Type 0} (x y : X) → Some x ≡ Some y → x ≡ y
-some_same x y e = cc
+module _ {A : Type 0} (own : Mac) where
+  one_up : (from : Mac) (datagram : List ℕ) (up other : Option (Parcel A)) → IsHeard from own datagram 0 up → IsHeard from own datagram 0 other → up ≡ other
+  one_up (One from) datagram up other h k = h ∙ sym k
+  one_up (Six from) datagram up other h k =
+      let same = one_datagram datagram h.datagram k.datagram h.spelled k.spelled in
+      h.is ∙ ap (λ (d : Datagram). handed_up (Six from) own 0 d) same ∙ sym k.is
 
-none_some : {X : Type 0} (x : X) → None ≡ Some x → ⊥
-none_some x e = cc
+  pub heard_brings : (from : Mac) (datagram : List ℕ) (up : Option (Parcel A)) → IsHeard from own datagram 0 up → Brings own from datagram up
+  heard_brings from datagram None h = record { none = λ p k. none_some p (one_up from datagram None (Some p) h k) }
+  heard_brings from datagram (Some p) h =
+      (h, record { only = λ q k. some_same p q (one_up from datagram (Some p) (Some q) h k) })
 
-pub only_up : (own from : Mac) (datagram : List ℕ) (d : link.Datagram) (s : Sent) → link.OnlyDatagram datagram d → handed_up own from d ≡ Some s →
-    OnlyHandsUp own from datagram s
-only_up own from datagram d s one up = record {
-  only = λ x other. some_same s x (sym up ∙ ap (handed_up own from) (one.only other.carried other.spelled) ∙ other.up);
-}
+  pub refused_brings : (from : Mac) (datagram : List ℕ) (fault : Fault) → IsRefused fault datagram → HandsUpNothing A own from datagram
+  refused_brings (One from) datagram fault r = record { none = λ p k. none_some p (sym k) }
+  refused_brings (Six from) datagram fault r = record { none = λ p k. r.none.none k.datagram k.spelled }
 
-pub nothing_up : (own from : Mac) (datagram : List ℕ) (d : link.Datagram) → link.OnlyDatagram datagram d → handed_up own from d ≡ None →
-    HandsUpNothing own from datagram
-nothing_up own from datagram d one up = record {
-  none = λ x other. none_some x (sym up ∙ ap (handed_up own from) (one.only other.carried other.spelled) ∙ other.up);
-}
-
-pub no_datagram : (own from : Mac) (datagram : List ℕ) → link.NoDatagram datagram → HandsUpNothing own from datagram
-no_datagram own from datagram lacks = record { none = λ x other. lacks.none other.carried other.spelled }
-
-pub ruleset link_rules = (only_up, nothing_up, no_datagram)
+pub ruleset link_rules = (heard_brings, refused_brings)

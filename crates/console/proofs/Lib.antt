@@ -1,5 +1,5 @@
-pub mod HexLaws
 pub mod HearLaws
+pub mod SayLaws
 pub mod SiteLaws
 pub mod AnswerLaws
 pub mod RespondLaws

@@ -10,7 +10,8 @@ use Rattle.unitdata.specs.Hearing.{HeardContent, refuses, says}
 use Rattle.device.specs.Device.{DeviceState}
 use Rattle.device.specs.Hearing.{DeviceHears, Does, Serves}
 use Rattle.device.specs.declared.plan.DeviceTold.{DeviceTold}
-use Rattle.console.specs.Hearing.{HandsUp, HandsUpNothing, OnlyHandsUp, Sent}
+use Rattle.npdu.specs.declared.parcel.Parcel.{Parcel}
+use Rattle.console.specs.Hearing.{HandsUp, HandsUpNothing, OnlyHandsUp}
 use Rattle.console.specs.Respond.{Responds, Said, SaysTo}
 
 module _ {A : Type 0} where
@@ -58,28 +59,27 @@ module _ {A : Type 0} where
   hears_there now from to npdu old told new (inr d) = same_there now old new d.same
 
   -- a device that is equal to the built-in one stays at the moment 0, and at its address
-  pub stays : (own from : Mac) (to : Target) (npdu : List ℕ) (device old new : DeviceState A) (said : Said) → SaysTo from to npdu old new said → old ≡ device →
+  pub stays : (own : Mac) (p : Parcel A) (device old new : DeviceState A) (said : Said) → SaysTo p old new said → old ≡ device →
       device.server.moment ≡ 0 → device.mac ≡ own → (new.server.moment ≡ 0) × (new.mac ≡ own)
-  stays own from to npdu device old new said s same at there =
-      let h = hears_there 0 from to npdu old s.told new s.hears in
+  stays own p device old new said s same at there =
+      let h = hears_there 0 p.from p.to p.npdu old s.told new s.hears in
       (h.moment (ap (λ (d : DeviceState A). d.server.moment) same ∙ at), h.mac ∙ ap (λ (d : DeviceState A). d.mac) same ∙ there)
 
   -- what it says to what is handed up is what it says to the datagram
-  pub answers : (own from : Mac) (datagram : List ℕ) (sent : Sent) (device old new : DeviceState A) (said : Said) → HandsUp own from datagram sent →
-      OnlyHandsUp own from datagram sent →
-      SaysTo sent.from sent.to sent.npdu old new said → old ≡ device → device.mac ≡ own → Responds from datagram device new said
-  answers own from datagram sent device old new said up only spoken same there = inl (record {
-    sent = sent;
-    up = subst (λ (m : Mac). HandsUp m from datagram sent) (sym there) up;
-    only = subst (λ (m : Mac). OnlyHandsUp m from datagram sent) (sym there) only;
-    says = subst (λ (d : DeviceState A). SaysTo sent.from sent.to sent.npdu d new said) same spoken;
+  pub answers : (own from : Mac) (datagram : List ℕ) (p : Parcel A) (device old new : DeviceState A) (said : Said) → HandsUp own from datagram p →
+      OnlyHandsUp own from datagram p → SaysTo p old new said → old ≡ device → device.mac ≡ own → Responds from datagram device new said
+  answers own from datagram p device old new said up only spoken same there = inl (record {
+    parcel = p;
+    up = subst (λ (m : Mac). HandsUp m from datagram p) (sym there) up;
+    only = subst (λ (m : Mac). OnlyHandsUp m from datagram p) (sym there) only;
+    says = subst (λ (d : DeviceState A). SaysTo p d new said) same spoken;
   })
 
   -- where nothing is handed up, nothing is said
-  pub ignores : (own from : Mac) (datagram : List ℕ) (device : DeviceState A) (said : Said) → HandsUpNothing own from datagram → said ≡ [] →
+  pub ignores : (own from : Mac) (datagram : List ℕ) (device : DeviceState A) (said : Said) → HandsUpNothing A own from datagram → said ≡ [] →
       device.mac ≡ own → Responds from datagram device device said
   ignores own from datagram device said nothing silent there = inr (record {
-    nothing = subst (λ (m : Mac). HandsUpNothing m from datagram) (sym there) nothing;
+    nothing = subst (λ (m : Mac). HandsUpNothing A m from datagram) (sym there) nothing;
     silent = silent;
     same = refl;
   })

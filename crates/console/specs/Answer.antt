@@ -5,7 +5,8 @@ use Rattle.std.specs.Io.KnownBytes.{Appends}
 use Rattle.npdu.specs.declared.mac.Mac.{Mac}
 use Rattle.npdu.specs.declared.mac.Mac.TheVariants.{Six}
 use Rattle.device.specs.Device.{DeviceState}
-use Rattle.console.specs.HexText.{SpellsHex, OnlyHex, pairs_of}
+use Rattle.console.specs.HexText.{pairs_of}
+use Rattle.words.specs.HexText.{SpellsHex, OnlyHex}
 use Rattle.console.specs.Respond.{Said, Responds}
 
 -- the text of words: a space between each and the next

@@ -1,5 +1,8 @@
 -- The built-in device of the program (12.8, 12.11).
-use Rattle.std.specs.Prelude.{ℕ, [], ◌∷◌, codes}
+use Rattle.std.specs.Prelude.{◌≡◌, ℕ, [], ◌∷◌, codes, refl}
+use Rattle.bvll.specs.declared.address.Address.{Address}
+use Rattle.link_ip.specs.Port.{IpPortState, new_port, station_of}
+use Rattle.link_ip.specs.declared.port.Reach.TheVariants.{Members}
 use Rattle.tags.specs.declared.value.Value.TheVariants as value
 use Rattle.object_model.specs.declared.object.ValueKind.TheVariants as kind
 use Rattle.profile.specs.declared.link_kind.LinkKind.TheVariants.{BacnetIp}
@@ -33,9 +36,21 @@ builtin_site = record {
   objects = builtin_value ∷ [];
 }
 
+-- an address of this host (J.1.2)
+abbrev pub here : ℕ → Address
+here port = record { ip = 127 ∷ 0 ∷ 0 ∷ 1 ∷ []; port = port }
+
+-- its port: on network 1 at 127.0.0.1:47808, where 127.0.0.1:47809 is the one other member (J.4.5)
+abbrev pub builtin_port : {A : Type 0} → IpPortState A
+builtin_port = new_port 1 (here 47808) (Members (here 47809 ∷ []))
+
 -- where it is: network 1, at 127.0.0.1:47808
 abbrev pub builtin_address : Station
 builtin_address = record { net = 1; mac = Six (127 ∷ 0 ∷ 0 ∷ 1 ∷ 186 ∷ 192 ∷ []) }
+
+-- a row that a slip in a definition would break: that is where its port is
+row_address : (A : Type 0) → station_of (builtin_port {A = A}) ≡ builtin_address
+row_address A = refl
 
 -- the device as it opens
 abbrev pub builtin_device : {A : Type 0} → DeviceState A

@@ -13,7 +13,7 @@ use Rattle.apdu.specs.Apdu as application
 use Rattle.apdu.specs.declared.apdu.Segment.{Segment}
 use Rattle.tags.specs.Element.{TakesTags}
 use Rattle.tags.specs.Tag.{PlainTag}
-use Rattle.console.specs.HexText.{SpellsHex, OnlyHex}
+use Rattle.words.specs.HexText.{SpellsHex, OnlyHex}
 use Rattle.console.specs.Answer.{Known}
 use Rattle.console.specs.Text.{link_text, contents_text, control_text, dnet_text, snet_text, hops_text, message_text}
 use Rattle.console.specs.Text.{origin_text, type_text, flags_text, transaction_text, segment_ack_text, reason_text}

@@ -1,14 +1,8 @@
--- What the code hands up and prints, seen without where its octets lie.
+-- What the code prints, seen without where its octets lie.
 use Rattle.std.specs.Prelude.{Option, option_map}
 use Rattle.npdu.specs.Header.{PlainDestination, PlainSource, destination_of, source_of}
 use Rattle.npdu.specs.declared.view.Destination.{Destination}
 use Rattle.npdu.specs.declared.view.Source.{Source}
-use Rattle.console.specs.declared.hearing.Sent.{Sent}
-use Rattle.console.specs.Hearing as plain
-
--- an NPDU, from whom and for whom
-abbrev pub sent_of : Sent → plain.Sent
-sent_of s = record { from = s.from; to = s.to; npdu = s.npdu.now }
 
 -- a destination of a header
 abbrev pub way_of : Option Destination → Option PlainDestination

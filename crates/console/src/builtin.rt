@@ -1,15 +1,17 @@
 //! The built-in device of `answer`, from octets to octets.
 
-ghost use Rattle.std.specs.Prelude.{◌≡◌, ◌≤◌, IfOk, IfErr, OnErr, length};
+ghost use Rattle.std.specs.Prelude.{◌≡◌, ◌≤◌, ◌++◌, IfOk, IfErr, OnOk, OnErr, map};
 ghost use Rattle.std.specs.List.{flat_map};
-ghost use Rattle.console.specs.Builtin.{builtin_site};
-ghost use Rattle.profile.specs.LinkKind.{max_npdu};
-ghost use Rattle.console.specs.Respond.{Responds, SaysTo, datagram_of, datagram_to};
+ghost use Rattle.console.specs.Builtin.{builtin_port, builtin_site};
+ghost use Rattle.console.specs.Hearing.{Brings};
+ghost use Rattle.console.specs.Respond.{Responds, SaysTo, datagrams_of};
+ghost use Rattle.link_ip.specs.Port.{station_of};
 
-use crate::hearing::{Sent, handed_up};
-use bvll::Bvll;
+use bvll::Address;
 use endpoint::Device;
-use npdu::{Mac, Parcel, Station, Target};
+use link::Sent;
+use link_ip::{IpPort, Reach};
+use npdu::{Mac, Parcel};
 use objects::{SiteObject, SiteObjects, ValueKind};
 use profile::LinkKind;
 use std::alloc::{AllocError, Allocator};
@@ -22,22 +24,32 @@ use tags::{Fault, Items, Octets, Value};
 pub struct Builtin<A: Allocator + Copy> {
     alloc: A,
     device: Device<A>,
+    port: IpPort<A>,
 }
 
 impl<A: Allocator + Copy> Model for Builtin<A> {
     ghost use Rattle.std.specs.Prelude.{◌≡◌};
     ghost use Rattle.device.specs.Device.{DeviceState};
-    ghost use Rattle.console.specs.Builtin.{builtin_address};
+    ghost use Rattle.console.specs.Builtin.{builtin_address, builtin_port};
 
     ghost Value = { DeviceState A };
 
     ghost view = { λ s. s.device };
 
-    ghost invariant = { λ s. (s.device.server.moment ≡ 0) × (s.device.mac ≡ builtin_address.mac) };
+    ghost invariant = { λ s. (s.device.server.moment ≡ 0) × (s.device.mac ≡ builtin_address.mac) × (s.port ≡ builtin_port) };
 }
 
-/// The address of the built-in device: 127.0.0.1:47808.
-const ADDRESS: Mac = Mac::Six([127, 0, 0, 1, 0xBA, 0xC0]);
+/// The address of the built-in device, on network 1.
+const ADDRESS: Address = Address {
+    ip: [127, 0, 0, 1],
+    port: 47808,
+};
+
+/// The one other member of its subnet.
+const OTHER: Address = Address {
+    ip: [127, 0, 0, 1],
+    port: 47809,
+};
 
 impl<A: Allocator + Copy> Builtin<A> {
     ghost use Rattle.std.specs.Prelude.{◌≡◌, IfOk, IfErr};
@@ -52,12 +64,13 @@ impl<A: Allocator + Copy> Builtin<A> {
         ensures opened { IfOk result (λ device. device ≡ builtin_device) }
         ensures memory { IfErr result (λ fault. fault ≡ Fault.Memory) }
     {
-        let address = Station {
-            net: 1,
-            mac: ADDRESS,
-        };
-        let device = Device::new(alloc, builtin_site(alloc)?, address)?;
-        Ok(Builtin { alloc, device })
+        let port = builtin_port(alloc)?;
+        let device = Device::new(alloc, builtin_site(alloc)?, port.station())?;
+        Ok(Builtin {
+            alloc,
+            device,
+            port,
+        })
     }
 
     /// An equal device, in the same memory.
@@ -70,8 +83,17 @@ impl<A: Allocator + Copy> Builtin<A> {
         Ok(Builtin {
             alloc: self.alloc,
             device: self.device.copy()?,
+            port: self.port.copy()?,
         })
     }
+}
+
+/// The port of the device.
+fn builtin_port<A: Allocator + Copy>(alloc: A) -> Result<IpPort<A>, AllocError>
+    ensures { IfOk result (λ port. port ≡ builtin_port) }
+{
+    let others = Items::from_slice(alloc, &[OTHER])?;
+    Ok(IpPort::new(alloc, 1, ADDRESS, Reach::Members(others)))
 }
 
 /// The device as its site has it.
@@ -96,7 +118,8 @@ fn builtin_site<A: Allocator + Copy>(alloc: A) -> Result<SiteObjects<A>, AllocEr
 }
 
 /// What the device says when it hears a datagram from a station (5.4.5, 16.10.2, J.2): an APDU whole, or the segments
-/// that are due. A request that it remembers is answered again and not executed.
+/// that are due. A request that it remembers is answered again and not executed. What comes from an address of MS/TP
+/// brings nothing.
 ///
 /// # Errors
 /// `Memory` alone. The device is then as it was.
@@ -109,76 +132,97 @@ pub fn respond<A: Allocator + Copy>(
     ensures memory { IfErr result (λ fault. fault ≡ Fault.Memory) }
     ensures unchanged { OnErr result (device.new ≡ device.old) }
 {
-    let alloc = device.alloc;
-    let Some(sent) = handed_up(ADDRESS, from, datagram) else {
-        return Ok(Items::new(alloc));
+    let Some(parcel) = handed_up(&mut device.port, from, datagram)? else {
+        return Ok(Items::new(device.alloc));
     };
-    let parcel = parcel_of(alloc, sent)?;
     let mut next = device.device.copy()?;
-    let said = say_to(alloc, &mut next, &parcel)?;
+    let said = say_to(device.alloc, &mut next, &mut device.port, &parcel)?;
     device.device = next;
     Ok(said)
+}
+
+/// What a datagram from a station hands up at the moment 0, if it hands anything up.
+#[tactic(auto, using(crate::proofs::HearLaws::link_rules))]
+fn handed_up<A: Allocator + Copy>(
+    port: &mut IpPort<A>,
+    from: Mac,
+    datagram: &[u8],
+) -> Result<Option<Parcel<A>>, Fault>
+    requires { port.old ≡ builtin_port }
+    ensures up { IfOk result (λ up. Brings (station_of (builtin_port {A = A})).mac from datagram.now up) }
+    ensures memory { IfErr result (λ fault. fault ≡ Fault.Memory) }
+    ensures same { port.new ≡ builtin_port }
+{
+    match port.heard(from, datagram, 0, 0) {
+        Ok(step) => Ok(step.up),
+        Err(Fault::Memory) => Err(Fault::Memory),
+        Err(_) => Ok(None),
+    }
 }
 
 /// What a device says that hears a parcel, at the moment 0. After an `Err` it may have changed.
 fn say_to<A: Allocator + Copy>(
     alloc: A,
     device: &mut Device<A>,
+    port: &mut IpPort<A>,
     parcel: &Parcel<A>,
 ) -> Result<Items<Octets<A>, A>, Fault>
     requires order { device.old.server.moment ≤ 0 }
-    ensures says { IfOk result (λ said.
-        SaysTo parcel.now.from parcel.now.to parcel.now.npdu device.old device.new said) }
+    requires port { port.old ≡ builtin_port }
+    ensures says { IfOk result (λ said. SaysTo parcel.now device.old device.new said) }
     ensures memory { IfErr result (λ fault. fault ≡ Fault.Memory) }
+    ensures same { port.new ≡ builtin_port }
 {
     let told = device.on_parcel(parcel, 0)?;
-    datagrams(alloc, told.said.as_slice())
-}
-
-/// A parcel of what is handed up, at the moment 0.
-fn parcel_of<A: Allocator + Copy>(alloc: A, sent: Sent<'_>) -> Result<Parcel<A>, AllocError>
-    ensures { IfOk result (λ parcel. parcel ≡ record {
-      from = sent.entry.from;
-      to = sent.entry.to;
-      npdu = sent.entry.npdu.now;
-      stamp = 0;
-    }) }
-{
-    Ok(Parcel {
-        from: sent.from,
-        to: sent.to,
-        npdu: Octets::from_slice(alloc, sent.npdu)?,
-        stamp: 0,
-    })
+    datagrams(alloc, port, told.said.as_slice())
 }
 
 /// The datagrams of parcels.
 fn datagrams<A: Allocator + Copy>(
     alloc: A,
+    port: &mut IpPort<A>,
     parcels: &[Parcel<A>],
 ) -> Result<Items<Octets<A>, A>, Fault>
-    ensures said { IfOk result (λ said. said ≡ flat_map datagram_of parcels.now) }
+    requires { port.old ≡ builtin_port }
+    ensures said { IfOk result (λ said. said ≡ flat_map datagrams_of parcels.now) }
     ensures memory { IfErr result (λ fault. fault ≡ Fault.Memory) }
+    ensures same { port.new ≡ builtin_port }
 {
     let mut said = Items::new(alloc);
     for parcel in parcels {
-        if parcel.npdu.len() <= usize::from(LinkKind::BacnetIp.max_npdu()) {
-            said.push(datagram_to(alloc, parcel.to, parcel.npdu.as_slice())?)?;
-        }
+        put_down(port, parcel, &mut said)?;
     }
     Ok(said)
 }
 
-/// The datagram of an NPDU to a target.
-fn datagram_to<A: Allocator + Copy>(alloc: A, to: Target, npdu: &[u8]) -> Result<Octets<A>, Fault>
-    requires { length npdu.now ≤ max_npdu LinkKind.BacnetIp }
-    ensures datagram { IfOk result (λ octets. octets ≡ datagram_to to npdu.now) }
+/// Puts the datagrams of a parcel behind others: none where it is too long.
+#[tactic(auto, using(crate::proofs::SayLaws::say_rules))]
+fn put_down<A: Allocator + Copy>(
+    port: &mut IpPort<A>,
+    parcel: &Parcel<A>,
+    said: &mut Items<Octets<A>, A>,
+) -> Result<(), Fault>
+    requires { port.old ≡ builtin_port }
+    ensures said { OnOk result (said.new ≡ said.old ++ datagrams_of parcel.now) }
     ensures memory { IfErr result (λ fault. fault ≡ Fault.Memory) }
+    ensures same { port.new ≡ builtin_port }
 {
-    let mut out = Vec::new(alloc);
-    match to {
-        Target::One(_) => Bvll::OriginalUnicastNpdu(npdu).write(&mut out)?,
-        Target::All => Bvll::OriginalBroadcastNpdu(npdu).write(&mut out)?,
+    match port.down(parcel, 0) {
+        Ok(step) => Ok(put_octets(step.out, said)?),
+        Err(Fault::TooLong) => Ok(()),
+        Err(fault) => Err(fault),
     }
-    Ok(Octets::from_vec(out))
+}
+
+/// Puts the octets of what is put out behind others.
+fn put_octets<A: Allocator + Copy>(
+    out: Items<Sent<A>, A>,
+    said: &mut Items<Octets<A>, A>,
+) -> Result<(), AllocError>
+    ensures { OnOk result (said.new ≡ said.old ++ map (λ s. s.octets) out) }
+{
+    for sent in out.into_vec() {
+        said.push(sent.octets)?;
+    }
+    Ok(())
 }

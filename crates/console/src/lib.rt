@@ -6,7 +6,7 @@
 //! to it, or its fields and tags, each on a line.
 //!
 //! - `answer`, `hex_text`: one datagram as hexadecimal digits, and what is said to it.
-//! - `hearing`, `builtin`: the built-in device, from octets to octets.
+//! - `builtin`: the built-in device, from octets to octets.
 //! - `explain`, `lines`: one datagram taken apart, line by line.
 //! - `refusal`: what ends a program before its time.
 #![tactic(auto)]
@@ -14,7 +14,6 @@
 mod answer;
 mod builtin;
 mod explain;
-mod hearing;
 mod hex_text;
 mod lines;
 mod refusal;

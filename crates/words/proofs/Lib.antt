@@ -1,4 +1,5 @@
 pub mod Groups
+pub mod HexLaws
 pub mod Lists
 pub mod Marks
 pub mod Replies

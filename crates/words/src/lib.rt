@@ -16,6 +16,7 @@
 //! and one value for each write. That what is printed is read again is tested and not proved.
 //!
 //! - `octets`: numbers and octets.
+//! - `hex_text`: octets with spaces between their pairs of digits, or without.
 //! - `parts`: words cut at a mark.
 //! - `reference`: objects, and properties or elements of them.
 //! - `value`, `request`, `reply`: what their names say, each read and printed.
@@ -23,6 +24,7 @@
 //! - `unread`: why words are not read.
 #![tactic(auto)]
 
+mod hex_text;
 mod octets;
 mod parts;
 mod reference;
@@ -32,7 +34,8 @@ mod shown;
 mod unread;
 mod value;
 
-pub use octets::{Hex, parse_number, parse_octets};
+pub use hex_text::parse_hex;
+pub use octets::{Hex, parse_number, parse_octets, parse_u16, parse_u32, parse_u64};
 pub use reference::{parse_object, parse_reference};
 pub use reply::parse_any_reply;
 pub use request::{parse_any_request, parse_request};

@@ -40,18 +40,35 @@ pub(crate) fn parse_u8(word: &str) -> Result<u8, Unread>
     parse_number(word)
 }
 
-/// A number of 16 bits.
-pub(crate) fn parse_u16(word: &str) -> Result<u16, Unread>
+/// The number of 16 bits that a word says in decimal digits.
+///
+/// # Errors
+/// `Number` for any other word.
+pub fn parse_u16(word: &str) -> Result<u16, Unread>
     ensures read { IfOk result (SaysUnsigned 16 word.now) }
     ensures refused { IfErr result (λ e. (e ≡ Unread.Number) × NoUnsigned 16 word.now) }
 {
     parse_number(word)
 }
 
-/// A number of 32 bits.
-pub(crate) fn parse_u32(word: &str) -> Result<u32, Unread>
+/// The number of 32 bits that a word says in decimal digits.
+///
+/// # Errors
+/// `Number` for any other word.
+pub fn parse_u32(word: &str) -> Result<u32, Unread>
     ensures read { IfOk result (SaysUnsigned 32 word.now) }
     ensures refused { IfErr result (λ e. (e ≡ Unread.Number) × NoUnsigned 32 word.now) }
+{
+    parse_number(word)
+}
+
+/// The number of 64 bits that a word says in decimal digits.
+///
+/// # Errors
+/// `Number` for any other word.
+pub fn parse_u64(word: &str) -> Result<u64, Unread>
+    ensures read { IfOk result (SaysUnsigned 64 word.now) }
+    ensures refused { IfErr result (λ e. (e ≡ Unread.Number) × NoUnsigned 64 word.now) }
 {
     parse_number(word)
 }

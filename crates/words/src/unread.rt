@@ -28,6 +28,10 @@ pub enum Unread {
     Reply,
     /// A request or value that octets can spell.
     Sound,
+    /// The name of a station: 1 to 32 letters and digits.
+    Name,
+    /// A step of a script, as `tick 1000`.
+    Step,
 }
 
 impl fmt::Display for Unread {
@@ -42,6 +46,8 @@ impl fmt::Display for Unread {
             Unread::Request => "not a request",
             Unread::Reply => "not a reply",
             Unread::Sound => "not within the range of its kind",
+            Unread::Name => "not a name",
+            Unread::Step => "not a step",
         })
     }
 }

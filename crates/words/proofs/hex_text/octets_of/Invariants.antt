@@ -1,7 +1,7 @@
 use Rattle.std.proofs.Common.{List, ℕ, ◌++◌, length}
-use Rattle.console.specs.HexText.{SpellsHex}
-use Rattle.console.proofs.HexLaws.{Left}
-use Rattle.console.proofs.hex_text.octets_of.Given as goal
+use Rattle.words.specs.HexText.{SpellsHex}
+use Rattle.words.proofs.HexLaws.{Left}
+use Rattle.words.proofs.hex_text.octets_of.Given as goal
 
 abbrev pub invariant-loop-octet : goal.invariant-loop-octet
 invariant-loop-octet g l = ((os : List ℕ) → SpellsHex l.rest os → SpellsHex l.text (l.octets.items ++ os)) × Left l.text l.octets.items l.rest

@@ -1,7 +1,7 @@
 use Rattle.std.proofs.Common.{arith}
 use Rattle.std.proofs.lemmas.Grind.{common_steps}
-use Rattle.console.proofs.HexLaws.{last_pair, one_less, spelled_by_one}
-use Rattle.console.proofs.hex_text.octets_of.Goals as goal
+use Rattle.words.proofs.HexLaws.{last_pair, one_less, spelled_by_one}
+use Rattle.words.proofs.hex_text.octets_of.Goals as goal
 
 pub returns-then-is_empty-clause-only : goal.returns-then-is_empty-clause-only
 returns-then-is_empty-clause-only g c =

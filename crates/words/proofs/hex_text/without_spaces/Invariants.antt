@@ -1,6 +1,6 @@
 use Rattle.std.proofs.Common.{length}
-use Rattle.console.specs.HexText.{HasSpacesBefore}
-use Rattle.console.proofs.hex_text.without_spaces.Given as goal
+use Rattle.words.specs.HexText.{HasSpacesBefore}
+use Rattle.words.proofs.hex_text.without_spaces.Given as goal
 
 abbrev pub invariant-loop-rest : goal.invariant-loop-rest
 invariant-loop-rest l = HasSpacesBefore l.text l.rest

@@ -7,7 +7,7 @@ use Rattle.std.specs.List.{AllPass}
 use Rattle.hex.specs.Hex.{decode_of, decode_sized, is_hex_digit}
 use Rattle.hex.specs.declared.error.FromHexError.{FromHexError}
 use Rattle.hex.proofs.HexLemmas.{decode_of-ok, decode_of-same, decode_sized-twice}
-use Rattle.console.specs.HexText.{IsPair, TakesPair, TakesNoPair, HasSpacesBefore, BeginsWithoutSpace, SpellsHex, OnlyHex, NoHex}
+use Rattle.words.specs.HexText.{IsPair, TakesPair, TakesNoPair, HasSpacesBefore, BeginsWithoutSpace, SpellsHex, OnlyHex, NoHex}
 
 one_more : (spaces : ℕ) (after : List ℕ) → replicate spaces 32 ++ (32 ∷ after) ≡ replicate (suc spaces) 32 ++ after
 one_more zero after = refl

@@ -1,0 +1,4 @@
+pub mod Lines
+pub mod NoSteps
+pub mod Reading
+pub mod Steps
