@@ -66,7 +66,8 @@ impl<A: Allocator + Copy> Site<A> {
 
     /// The stations, in the order of the site: managers, routers, devices, clients.
     pub fn stations(&self) -> &[Station<A>]
-        ensures { result.now ≡ self.now.stations }
+        ensures stations { result.now ≡ self.now.stations }
+        ensures sound { IsSound self.now }
     {
         self.parts.stations.as_slice()
     }

@@ -1,0 +1,2 @@
+pub mod SaidLaws
+pub mod KeyLaws

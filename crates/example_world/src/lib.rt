@@ -1,0 +1,49 @@
+//! A caller of `simulator`: a site is run over a list of events, and left to itself for a while.
+#![tactic(auto)]
+
+ghost use Rattle.std.specs.Prelude.{IfOk, OnOk};
+ghost use Rattle.std.specs.List.{AllByRecursion};
+ghost use Rattle.carry_world.specs.Laws.{IsLegal};
+ghost use Rattle.hosts.specs.Opening.{object_site};
+ghost use Rattle.hosts.specs.Stations.{devices_of};
+ghost use Rattle.simulator.specs.Refusals.{Runs};
+ghost use Rattle.simulator.specs.Step.{IsSoundEvent};
+ghost use Rattle.simulator.specs.World.{fresh_world};
+
+use simulator::{Event, Flow, World};
+use site::Site;
+use std::alloc::Allocator;
+use tags::Fault;
+
+/// The world of a site once these events happened, one after another.
+///
+/// # Errors
+/// `BadSite` where the site isn't one subnet; or `Memory`.
+pub fn once_run<A: Allocator + Copy>(
+    alloc: A,
+    site: Site<A>,
+    events: &[Event<A>],
+) -> Result<World<A>, Fault>
+    requires sound { AllByRecursion IsSoundEvent events.now }
+    ensures runs { IfOk result (λ world. Runs events.now (fresh_world site) world) }
+{
+    let mut world = World::new(alloc, site)?;
+    world.run(events);
+    Ok(world)
+}
+
+/// Lets so many milliseconds pass, in which all is delivered and each station wakes, and answers how many entries the
+/// history has then, which is legal.
+///
+/// # Errors
+/// `NoSuch` where they aren't 1 to 60000; or `Memory`.
+pub fn entries_after<A: Allocator + Copy>(world: &mut World<A>, n: u64) -> Result<usize, Fault>
+    ensures legal { OnOk result
+        (IsLegal (object_site world.new.site) world.new.history (devices_of world.new.stations)) }
+{
+    let mut flow = Flow::new(n)?;
+    while let Some(event) = world.next_of(&mut flow)? {
+        let _ = world.step(&event);
+    }
+    Ok(world.history().len())
+}

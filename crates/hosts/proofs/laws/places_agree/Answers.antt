@@ -1,0 +1,5 @@
+use Rattle.hosts.proofs.HostLaws.{places_agree}
+use Rattle.hosts.proofs.laws.places_agree.Goals as goal
+
+pub returns : goal.returns
+returns g c = places_agree

@@ -1,0 +1,52 @@
+-- What is promised of the stations that a site opens with.
+use Rattle.std.specs.Prelude.{◌≡◌, List, length, map}
+use Rattle.std.specs.List.{AllByRecursion}
+use Rattle.headline.specs.Protocol.{IsSite}
+use Rattle.headline_bacnet.specs.Protocol.{bacnet}
+use Rattle.headline_bacnet.specs.Refined.{ObjectSite}
+use Rattle.headline_client.specs.Safe as client_side
+use Rattle.headline_device.specs.Devices as device_side
+use Rattle.headline_device.specs.Devices.{HasNumbers}
+use Rattle.headline_site.specs.Fair.{IsNewClient, IsNewDevice}
+use Rattle.remembered.specs.Records.{AreDistinct}
+use Rattle.site.specs.Sound.{IsSound}
+use Rattle.site_parts.specs.declared.parts.Parts.{Parts}
+use Rattle.site_station.specs.Entity as entity
+use Rattle.site_views.specs.Views.{addresses}
+use Rattle.hosts.specs.Hosts.{IsHost, IsOfSite}
+use Rattle.hosts.specs.Opening.{object_site, opening_stations}
+use Rattle.hosts.specs.Stations.{WorldStation, clients_of, devices_of}
+use Rattle.hosts.specs.Subnets.{IsOneSubnet}
+
+-- the devices of a sound site are a site of the promise (12.11)
+abbrev pub DevicesAreSite : Type 0 → Type 0
+DevicesAreSite A = (p : Parts A) → IsSound p → IsSite (bacnet A) (object_site p)
+
+-- all that a fresh world asks of its stations: its clients have asked nothing, its devices have their opening objects
+-- and numbers that fit, and no two clients and no two devices are at one station
+pub record AreFresh {A : Type 0} (s : ObjectSite A) (ss : List (WorldStation A)) : Type 0 where
+  pub clients : AllByRecursion IsNewClient (clients_of ss)
+  pub devices : AllByRecursion (IsNewDevice s) (devices_of ss)
+  pub clients_apart : AreDistinct (map client_side.station_of (clients_of ss))
+  pub devices_apart : AreDistinct (map device_side.station_of (devices_of ss))
+  pub numbers : AllByRecursion HasNumbers (devices_of ss)
+
+-- so are those that a sound site of one subnet opens with
+abbrev pub StationsAreFresh : Type 0 → Type 0
+StationsAreFresh A = (p : Parts A) → IsSound p → IsOneSubnet p → AreFresh (object_site p) (opening_stations p)
+
+-- each of them stands as it must at the first moment, and is one of its site
+abbrev pub StationsStand : Type 0 → Type 0
+StationsStand A = (p : Parts A) → IsOneSubnet p → AllByRecursion (IsHost 0) (opening_stations p)
+
+abbrev pub StationsAreOfSite : Type 0 → Type 0
+StationsAreOfSite A = (p : Parts A) → IsSound p → IsOneSubnet p →
+    AllByRecursion (λ s. IsOfSite (object_site p) s.entity) (opening_stations p)
+
+-- each part of a site opens as one station, at its address: their places agree
+pub record ArePlaced {A : Type 0} (p : Parts A) (ss : List (WorldStation A)) : Type 0 where
+  pub as_many : length ss ≡ length p.stations
+  pub addresses : map (λ s. entity.station_of s.entity) ss ≡ addresses p.stations
+
+abbrev pub PlacesAgree : Type 0 → Type 0
+PlacesAgree A = (p : Parts A) → IsOneSubnet p → ArePlaced p (opening_stations p)

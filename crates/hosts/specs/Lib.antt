@@ -1,0 +1,5 @@
+pub mod Stations
+pub mod Hosts
+pub mod Subnets
+pub mod Opening
+pub mod Laws

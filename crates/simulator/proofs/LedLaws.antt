@@ -1,0 +1,88 @@
+-- What came about from a fresh world by its events: what the promise says of it.
+use Rattle.std.proofs.Common.{◌≡◌, ◌⊎◌, inl, inr, refl, sym, ap, subst, ℕ, List, [], ◌∷◌, ◌++◌, Result, Ok, Err, IfErr, OnErr, OnOk}
+use Rattle.std.specs.List.{AllByRecursion}
+use Rattle.carry.specs.Things.{AreCarried}
+use Rattle.carry_world.proofs.Promised.{all_hear, all_said, executed_is_issued, is_legal, outcomes_are_of_issues, steps_lead_on, whole_is_issued}
+use Rattle.carry_world.specs.Laws.{AllHearSaid, ExecutedIsIssued, IsFresh, IsLegal, OutcomesAreOfIssues, WholeIsIssued}
+use Rattle.carry_world.specs.PlainSteps.{StepsTo}
+use Rattle.headline.specs.Protocol.{IsSite}
+use Rattle.headline_bacnet.specs.Protocol.{bacnet}
+use Rattle.site_parts.specs.declared.parts.Parts.{Parts}
+use Rattle.simulator.proofs.LeadLaws.{steps_lead}
+use Rattle.simulator.specs.Laws.{IsLed, Stands}
+use Rattle.hosts.specs.Opening.{object_site}
+use Rattle.simulator.specs.Refusals.{Comes, IsRefused, IsRefusedSo, Runs, Then}
+use Rattle.simulator.specs.Step.{IsSoundEvent, Steps}
+use Rattle.hosts.specs.Stations.{devices_of}
+use Rattle.tags.specs.declared.fault.Fault.{Fault}
+use Rattle.simulator.specs.World.{WorldState, plain}
+use Rattle.simulator.specs.declared.event.Event.{Event}
+use Rattle.simulator.specs.declared.event.Event.TheVariants as event
+
+-- no event changes the site
+pub same_site : {A : Type 0} (e : Event A) (w v : WorldState A) → Steps e w v → v.site ≡ w.site
+same_site (event.Issue client instance request) w v d = d.acts.site
+same_site (event.WhoIs client limits) w v d = d.acts.site
+same_site (event.Tick n) w v d = ap (λ (u : WorldState _). u.site) d.is
+same_site (event.Wake station) w v d = d.acts.site
+same_site (event.Deliver number) w v d = d.acts.site
+same_site (event.Restart station) w v d = d.acts.site
+same_site (event.Hear network station octets) w v d = absurd d
+same_site (event.Register station) w v d = absurd d
+
+-- what an event leaves came about so
+pub led_on : {A : Type 0} (e : Event A) (w v : WorldState A) → Stands w → IsSoundEvent e → Steps e w v → IsLed w →
+    IsLed v
+led_on {A} e w v stands sound steps led =
+    let same = sym (same_site e w v steps) in record {
+      is_site = subst (λ (p : Parts A). IsSite (bacnet A) (object_site p)) same led.is_site;
+      fresh = led.fresh;
+      begun = subst (λ (p : Parts A). IsFresh (object_site p) led.fresh) same led.begun;
+      leads = subst (λ (p : Parts A). StepsTo (object_site p) led.fresh (plain v)) same
+          (steps_lead_on (object_site w.site) led.fresh (plain w) (plain v) led.leads (steps_lead e w v stands sound steps));
+    }
+
+module _ {A : Type 0} (w : WorldState A) (led : IsLed w) where
+  pub legal_of : IsLegal (object_site w.site) w.history (devices_of w.stations)
+  legal_of = is_legal (object_site w.site) led.fresh (plain w) led.is_site led.begun led.leads
+
+  pub carried_of : AreCarried w.said (plain w).things
+  carried_of = all_said (object_site w.site) led.fresh (plain w) led.is_site led.begun led.leads
+
+  pub heard_of : AllHearSaid (plain w)
+  heard_of = all_hear (object_site w.site) led.fresh (plain w) led.is_site led.begun led.leads
+
+  pub executed_of : ExecutedIsIssued (plain w)
+  executed_of = executed_is_issued (object_site w.site) led.fresh (plain w) led.is_site led.begun led.leads
+
+  pub outcomes_of : OutcomesAreOfIssues (plain w)
+  outcomes_of = outcomes_are_of_issues (object_site w.site) led.fresh (plain w) led.is_site led.begun led.leads
+
+  pub whole_of : WholeIsIssued (plain w)
+  whole_of = whole_is_issued (object_site w.site) led.fresh (plain w) led.is_site led.begun led.leads
+
+-- one event more
+pub runs_more : {A : Type 0} (es : List (Event A)) (e : Event A) (w u v : WorldState A) → Runs es w u → Comes e u v →
+    Runs (es ++ e ∷ []) w v
+runs_more {A} [] e w u v same one = record {
+  middle = v;
+  first = subst (λ (x : WorldState A). Comes e x v) same one;
+  rest = refl;
+}
+runs_more (f ∷ es) e w u v runs one = record {
+  middle = runs.middle;
+  first = runs.first;
+  rest = runs_more es e runs.middle u v runs.rest one;
+}
+
+-- what comes of an event: it is accepted, or refused so
+pub comes_of : {A R : Type 0} (e : Event A) (w v : WorldState A) (r : Result R Fault) → OnOk r (Steps e w v) →
+    IfErr r (λ fault. IsRefused e w fault) → OnErr r (v ≡ w) → Comes e w v
+comes_of e w v (Ok x) steps cause same = inl steps
+comes_of e w v (Err fault) steps cause same = inr (record { fault = fault; refused = cause; same = same })
+
+pub ruleset step_rules = (led_on, same_site, heard_of, executed_of, outcomes_of)
+
+pub ruleset legal_rules = (legal_of)
+
+pub ruleset carried_rules = (carried_of)

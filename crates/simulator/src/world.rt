@@ -1,0 +1,171 @@
+//! The world: what came about from a site's opening by events.
+
+ghost use Rattle.std.specs.Prelude.{◌≡◌, ◌⊎◌, IfOk, IfErr, IfNone, IfSome, OnOk, OnErr};
+ghost use Rattle.std.specs.List.{AllByRecursion};
+ghost use Rattle.carry.specs.Things.{AreCarried};
+ghost use Rattle.carry_world.specs.Laws.{AllHearSaid, ExecutedIsIssued, IsLegal, OutcomesAreOfIssues, WholeIsIssued};
+ghost use Rattle.hosts.specs.Subnets.{IsMore, IsOneSubnet};
+ghost use Rattle.simulator.specs.Finding.{HasNoTable, HasTable};
+ghost use Rattle.simulator.specs.Flows.{IsLess, left_of};
+ghost use Rattle.chronicle.specs.Kept.{all_said};
+ghost use Rattle.hosts.specs.Opening.{object_site};
+ghost use Rattle.simulator.specs.Refusals.{IsRefused, Runs};
+ghost use Rattle.simulator.specs.Step.{IsSoundEvent, IsSoundIfAny, Steps};
+ghost use Rattle.hosts.specs.Stations.{devices_of};
+ghost use Rattle.simulator.specs.World.{fresh_world, plain};
+
+use crate::event::Event;
+use crate::flow::Flow;
+use crate::internetwork::Internetwork;
+use chronicle::{SaidMessage, WorldEntry};
+use hosts::stations_of;
+use objects::Table;
+use site::Site;
+use std::alloc::Allocator;
+use std::marker::Model;
+use tags::Fault;
+use traffic::Item;
+
+/// A site with its stations, all that is on its way between them, and what happened: it came about from the site's
+/// opening by events alone.
+#[derive(Drop)]
+pub struct World<A: Allocator + Copy> {
+    internetwork: Internetwork<A>,
+}
+
+impl<A: Allocator + Copy> Model for World<A> {
+    ghost use Rattle.simulator.specs.Laws.{IsLed};
+    ghost use Rattle.simulator.specs.World.{WorldState};
+
+    ghost Value = { WorldState A };
+
+    ghost view = { λ w. w.internetwork };
+
+    ghost invariant = { λ w. IsLed w.internetwork };
+}
+
+impl<A: Allocator + Copy> World<A> {
+    /// The world of a site as it opens: the moment is 0, each device has the objects that the site gives it, no client
+    /// has asked anything, and nothing is on its way. So far it runs sites of one subnet: one network of BACnet/IP,
+    /// with devices and clients alone (J.1.2).
+    ///
+    /// # Errors
+    /// `BadSite` for any other site; or `Memory`.
+    #[tactic(auto, using(crate::proofs::FreshLaws::fresh_rules))]
+    pub fn new(alloc: A, site: Site<A>) -> Result<Self, Fault>
+        ensures fresh { IfOk result (λ world. world ≡ fresh_world site) }
+        ensures subnet { OnOk result (IsOneSubnet site) }
+        ensures cause { IfErr result (λ fault. (fault ≡ Fault.Memory) ⊎ ((fault ≡ Fault.BadSite) × IsMore site)) }
+    {
+        let stations = stations_of(alloc, &site)?;
+        Ok(World {
+            internetwork: Internetwork::open(alloc, site, stations),
+        })
+    }
+
+    /// The site, as it was given.
+    pub fn site(&self) -> &Site<A>
+        ensures { result.now ≡ self.now.site }
+    {
+        self.internetwork.site()
+    }
+
+    /// The moment, in milliseconds: the sum of all ticks.
+    pub fn moment(&self) -> u64
+        ensures { result ≡ self.now.moment }
+    {
+        self.internetwork.now()
+    }
+
+    /// All that was put out, in order: an item has its place in it as its number. Whatever is inside of it was said.
+    #[tactic(auto, using(crate::proofs::LedLaws::carried_rules))]
+    pub fn items(&self) -> &[Item<A>]
+        ensures items { result.now ≡ self.now.items }
+        ensures carried { AreCarried self.now.said (plain self.now).things }
+    {
+        self.internetwork.items()
+    }
+
+    /// What was issued, executed, answered and ended, in order. It is legal: each answer is the reply of one execution
+    /// of that very issue at the device that it names, no issue is executed twice, and the objects of each device are
+    /// what its executions leave.
+    #[tactic(auto, using(crate::proofs::LedLaws::legal_rules))]
+    pub fn history(&self) -> &[WorldEntry<A>]
+        ensures history { result.now ≡ self.now.history }
+        ensures legal { IsLegal (object_site self.now.site) result.now (devices_of self.now.stations) }
+    {
+        self.internetwork.history()
+    }
+
+    /// The objects of the device of a name, or none where no device has it.
+    pub fn table(&self, name: &[u8]) -> Option<&Table<A>>
+        ensures table { IfSome result (λ table. HasTable name.now self.now table.now) }
+        ensures none { IfNone result (HasNoTable name.now self.now) }
+    {
+        self.internetwork.table(name)
+    }
+
+    /// What is inside each message that a device or a client said, in order (6.2).
+    pub fn said(&self) -> &[SaidMessage<A>]
+        ensures { all_said result.now ≡ self.now.said }
+    {
+        self.internetwork.said()
+    }
+
+    /// An event happens: the station that it is for makes its own step, no other changes, and what is on its way, what
+    /// was said and the history grow by exactly what comes of it. Its request, where it has one, must be sound.
+    ///
+    /// # Errors
+    /// `NoSuch` for a name, an item or a tick that isn't there; `Expired` for an item that is too old; what the station
+    /// refuses; or `Memory`. The world is then as it was.
+    #[tactic(auto, using(crate::proofs::LedLaws::step_rules))]
+    pub fn step(&mut self, event: &Event<A>) -> Result<(), Fault>
+        requires sound { IsSoundEvent event.now }
+        ensures steps { OnOk result (Steps event.now self.old self.new) }
+        ensures cause { IfErr result (λ fault. IsRefused event.now self.old fault) }
+        ensures unchanged { OnErr result (self.new ≡ self.old) }
+        ensures site { self.new.site ≡ self.old.site }
+        ensures heard { AllHearSaid (plain self.old) }
+        ensures executed { ExecutedIsIssued (plain self.old) }
+        ensures outcomes { OutcomesAreOfIssues (plain self.old) }
+    {
+        self.internetwork.step(event)
+    }
+
+    /// The next event of a flow, or none where it is over. It is made by `step` before the next one is asked for.
+    ///
+    /// # Errors
+    /// `Memory` alone. The flow is then as it was.
+    pub fn next_of(&self, flow: &mut Flow) -> Result<Option<Event<A>>, Fault>
+        ensures sound { IfOk result IsSoundIfAny }
+        ensures less { IfOk result (IsLess (left_of flow.old) flow.new) }
+        ensures cause { IfErr result (λ fault. fault ≡ Fault.Memory) }
+        ensures unchanged { OnErr result (flow.new ≡ flow.old) }
+    {
+        self.internetwork.next_of(flow)
+    }
+
+    /// Events happen, one after another: none is left out but those that are refused, and these change nothing.
+    /// Whatever they are, the history is legal then: the promise.
+    pub fn run(&mut self, events: &[Event<A>])
+        requires sound { AllByRecursion IsSoundEvent events.now }
+        ensures runs { Runs events.now self.old self.new }
+        ensures legal { IsLegal (object_site self.new.site) self.new.history (devices_of self.new.stations) }
+        ensures carried { AreCarried self.new.said (plain self.new).things }
+        ensures whole { WholeIsIssued (plain self.new) }
+    {
+        for event in events {
+            let _ = self.step(event);
+        }
+        self.promised();
+    }
+
+    /// What the promise says of every world, for the proofs of others: it does nothing.
+    fn promised(&self)
+        ensures legal { IsLegal (object_site self.now.site) self.now.history (devices_of self.now.stations) }
+        ensures carried { AreCarried self.now.said (plain self.now).things }
+        ensures whole { WholeIsIssued (plain self.now) }
+    {
+        let _ = &self.internetwork;
+    }
+}
