@@ -1,0 +1,4 @@
+pub mod Leaves
+pub mod Picking
+pub mod Rounds
+pub mod Hearing

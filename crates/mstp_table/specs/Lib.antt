@@ -1,0 +1,4 @@
+pub mod Node
+pub mod Table
+pub mod Laws
+pub mod Rows
