@@ -1,5 +1,5 @@
 -- A plan of a station of a world, and that it was done.
-use Rattle.std.specs.Prelude.{◌≡◌, ℕ, List, ◌++◌, map, Option, Some, option_to_list, slice_get}
+use Rattle.std.specs.Prelude.{◌≡◌, ℕ, List, ◌++◌, Option, Some, option_to_list, slice_get}
 use Rattle.carry_said.specs.Said.{HasInsides}
 use Rattle.history.specs.declared.Entry.{Entry}
 use Rattle.npdu.specs.declared.mac.Station.{Station}

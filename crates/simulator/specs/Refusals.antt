@@ -1,12 +1,10 @@
 -- Why an event is refused.
-use Rattle.std.specs.Prelude.{◌≡◌, ◌⊎◌, ◌<◌, ℕ, ◌+◌, true, false, List, [], ◌∷◌, map, Option, Some, None, slice_get}
-use Rattle.apdu.specs.declared.unconfirmed.Limits.{Limits}
+use Rattle.std.specs.Prelude.{◌≡◌, ◌⊎◌, ◌<◌, ℕ, ◌+◌, true, false, List, [], ◌∷◌, map, Some, slice_get}
 use Rattle.link_ip.specs.Hearing as ip
 use Rattle.link_ip.specs.Port as port
 use Rattle.link_ip.specs.Steps as ip_steps
 use Rattle.link_ports.specs.Ports.{IsTooLong}
 use Rattle.npdu.specs.declared.mac.Station.{Station}
-use Rattle.primitives.specs.declared.plain_data.Request.{Request}
 use Rattle.profile.specs.Times.{MAX_MOMENT_MS}
 use Rattle.site_station.specs.Entity.{IsClient, told_awake}
 use Rattle.site_station.specs.Station.{AskingIsRefused, HearingIsRefused, ITS_PORT, IssueIsRefused}
@@ -14,7 +12,7 @@ use Rattle.tags.specs.declared.fault.Fault.{Fault}
 use Rattle.tags.specs.declared.fault.Fault.TheVariants.{Expired, Memory, NoSuch, TooLong}
 use Rattle.traffic.specs.Seeking.{is_young}
 use Rattle.traffic.specs.declared.item.Item.{Item}
-use Rattle.simulator.specs.Finding.{HasNoAddressee, IsAddressee, IsNamed, IsNobody, addressee_of}
+use Rattle.simulator.specs.Finding.{IsAddressee, IsNamed, IsNobody, addressee_of}
 use Rattle.simulator.specs.Step.{Steps}
 use Rattle.hosts.specs.Stations.{WorldStation}
 use Rattle.simulator.specs.World.{WorldState}

@@ -1,16 +1,12 @@
 -- What an event leaves of a world: the station addressed makes its own step, no other changes, and items, what was said
 -- and the history grow by exactly what came of it.
-use Rattle.std.specs.Prelude.{◌≡◌, ◌≤◌, ℕ, ◌+◌, true, false, List, [], ◌∷◌, ◌++◌, length, map, Option, Some, None, option_map, option_to_list, slice_get, slice_set}
-use Rattle.std.specs.List.{flat_map}
+use Rattle.std.specs.Prelude.{◌≡◌, ◌≤◌, ℕ, ◌+◌, true, List, [], ◌∷◌, ◌++◌, length, Option, Some, None, slice_get}
+use Rattle.std.specs.Prelude.{slice_set}
 use Rattle.apdu.specs.declared.unconfirmed.Limits.{Limits}
-use Rattle.carry_world.specs.PlainWorld.{Key, executed_told, outcomes_told}
 use Rattle.history.specs.declared.Entry.TheVariants.{Issue, Restarted}
 use Rattle.inside.specs.Inside.{AreInside, Said}
-use Rattle.link_ip.specs.Port.{IpPortState}
 use Rattle.link_ip.specs.Port as port
 use Rattle.link_ip.specs.Steps as ip
-use Rattle.link_ports.specs.declared.ports.PortSent.{PortSent}
-use Rattle.npdu.specs.declared.mac.Station.{Station}
 use Rattle.primitives.specs.Sound.{IsSoundRequest}
 use Rattle.primitives.specs.declared.plain_data.Request.{Request}
 use Rattle.profile.specs.Times.{MAX_MOMENT_MS}
@@ -19,7 +15,6 @@ use Rattle.site_station.specs.Station.{StationAsks, StationHears, StationIssues,
 use Rattle.site_station.specs.Station.{StationTold, StationWakes}
 use Rattle.site_station.specs.declared.entity.Entity.{Entity}
 use Rattle.site_station.specs.declared.entity.Entity.TheVariants.{Device, Client}
-use Rattle.site_station.specs.declared.entity.EntityTold.{EntityTold}
 use Rattle.traffic.specs.Seeking.{is_young}
 use Rattle.traffic.specs.declared.item.Item.{Item}
 use Rattle.simulator.specs.Finding.{IsAddressee, IsNamed, addressee_of}

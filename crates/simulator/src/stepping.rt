@@ -214,6 +214,7 @@ impl<A: Allocator + Copy> Internetwork<A> {
         ensures unchanged { OnErr result (self.new ≡ self.old) }
         ensures stands { Stands self.old }
     {
+        // so that what is known of the stations is known of this one
         let _ = self.now();
         match event {
             Event::Issue {
