@@ -11,7 +11,7 @@ use Rattle.npdu.specs.declared.mac.Mac.{Mac}
 use Rattle.npdu.specs.declared.mac.Station.{Station}
 use Rattle.npdu.specs.declared.parcel.Parcel.{Parcel}
 use Rattle.link_ports.proofs.PortSteps.{mapped_at, mapped_set}
-use Rattle.link_ports.specs.Ports.{DownsAll, DownsOne, HearsAt, Steps, WakesFrom, over_port}
+use Rattle.link_ports.specs.Ports.{DownsAll, DownsOne, HearsAt, RegistersAt, Steps, WakesFrom, over_port}
 use Rattle.link_ports.specs.declared.ports.PortSent.{PortSent}
 
 some_same : {X : Type 0} (x y : X) → Some x ≡ Some y → x ≡ y
@@ -135,7 +135,8 @@ module _ {A L : Type 0} (carries : Carrier A) (station : L → Station) (moment 
   abbrev pub SaidIsGood : List Station → ℕ → Parcel A → Type 0
   SaidIsGood places port p = (x : Station) → slice_get places port ≡ Some x → Good x p
 
-  one_keeps : (places : List Station) (now port : ℕ) (q : Parcel A) (ls new : List L)
+  -- where all that waits and the one parcel that is said is good, so is all that goes out, and what waits then
+  pub one_keeps : (places : List Station) (now port : ℕ) (q : Parcel A) (ls new : List L)
       (out out_new : List (PortSent A)) → Keeps now places ls out → SaidIsGood places port q →
       DownsOne downs now port q ls out new out_new → Keeps now places new out_new
   one_keeps places now port q ls new out out_new k said (inl steps) =
@@ -189,6 +190,20 @@ module _ {A L : Type 0} (carries : Carrier A) (station : L → Station) (moment 
       (λ s there p c. good p ((does.puts.each s there).only p c))
   heard_keeps places now port from octets stamp ls new out out_new up k (inr misses) =
       same_keeps now places ls new out out_new k (misses.0.same) (misses.0.silent)
+
+  -- where all that waits is good, so is all that goes out where a port registers, and what waits then
+  pub registers_keep : (registers : ℕ → L → LinkStep A → L → Type 0)
+      (law : (now : ℕ) (old : L) (step : LinkStep A) (new : L) → registers now old step new →
+      CarriesOn carries station moment waiting now old step new) (places : List Station) (now port : ℕ)
+      (ls new : List L) (out out_new : List (PortSent A)) → Keeps now places ls out →
+      RegistersAt registers now port ls out new out_new → Keeps now places new out_new
+  registers_keep registers law places now port ls new out out_new k (inl steps) =
+      let does = law now steps.link steps.step steps.left steps.made in
+      let good = k.waits steps.link (has port steps.there) in
+      step_keeps now (registers now) places port ls new out out_new k steps does.place does.at
+      (λ p there. good p (does.kept.each p there)) (λ s there p c. good p ((does.puts.each s there).only p c))
+  registers_keep registers law places now port ls new out out_new k (inr misses) =
+      same_keeps now places ls new out out_new k misses.same misses.silent
 
   -- what comes up of octets that are heard is what they carry, for the port that heard them
   pub record ComesUp (places : List Station) (port : ℕ) (from : Mac) (octets : List ℕ) (stamp : ℕ) (p : Parcel A) :

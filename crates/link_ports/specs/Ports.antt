@@ -77,6 +77,12 @@ HearsAt hears now port from octets stamp old out up new out_new =
     Steps (λ l s m. hears now from octets stamp l s m × (up ≡ s.up)) port old out new out_new
     ⊎ (Misses port old out new out_new × (up ≡ None))
 
+-- a port registers, where its link is one of a foreign device (J.5.2)
+abbrev pub RegistersAt : {A L : Type 0} → (ℕ → L → LinkStep A → L → Type 0) → ℕ → (port : ℕ) → List L →
+    List (PortSent A) → List L → List (PortSent A) → Type 0
+RegistersAt registers now port old out new out_new =
+    Steps (registers now) port old out new out_new ⊎ Misses port old out new out_new
+
 -- the ports from a number on wake in order
 abbrev pub WakesFrom : {A L : Type 0} → (ℕ → L → LinkStep A → L → Type 0) → ℕ → (first count : ℕ) → List L →
     List (PortSent A) → List L → List (PortSent A) → Type 0

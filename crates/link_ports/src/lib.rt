@@ -1,5 +1,5 @@
 //! The ports of a station, whatever links they are (ANSI/ASHRAE 135, clauses 6.1 and 6.6): what comes up over one, what
-//! goes down over one, and their wake, each in its place.
+//! goes down over one, its registration, and the wake of all, each in its place.
 //!
 //! To the layer above it promises: each call is a step of the links' own relations, one after another in port order, and
 //! what is put out stands in that order, with the number of its port. Whatever is true of each parcel on a network by
@@ -10,4 +10,6 @@
 
 mod ports;
 
-pub use ports::{PortSent, copy_of, down_all, heard_at, is_any_due, restart_all, wake_all};
+pub use ports::{
+    PortSent, copy_of, down_all, down_one, heard_at, is_any_due, register_at, restart_all, wake_all,
+};

@@ -2,8 +2,8 @@
 
 ghost use Rattle.std.specs.Prelude.{◌≡◌, ◌≤◌, ◌<◌, ◌⊎◌, ◌↔◌, ◌++◌, ◌∷◌, [], false, IfOk, IfErr, OnOk, length, map};
 ghost use Rattle.profile.specs.Times.{MAX_MOMENT_MS};
-ghost use Rattle.link_ports.specs.Ports.{AreBefore, DownsAll, DownsOne, HearsAt, Steps, WakesAll, over_port};
-ghost use Rattle.link_ports.specs.Ports.{IsTooLong, NothingIsDue};
+ghost use Rattle.link_ports.specs.Ports.{AreBefore, DownsAll, DownsOne, HearsAt, IsTooLong, NothingIsDue};
+ghost use Rattle.link_ports.specs.Ports.{RegistersAt, Steps, WakesAll, over_port};
 
 use link::{Link, Sent};
 use npdu::{Mac, Parcel};
@@ -48,9 +48,13 @@ fn put_over<A: Allocator>(
     Ok(())
 }
 
-/// Hands one parcel down over a port.
+/// Hands one parcel down over a port, at the moment `now`, in milliseconds, and appends what is put out. A port that
+/// the station doesn't have puts out nothing.
+///
+/// # Errors
+/// `TooLong` for an NPDU that the network doesn't carry, or `Memory`. The ports may then hold any state.
 #[tactic(auto, using(crate::proofs::PortSteps::port_rules))]
-fn down_one<L: Link<A> + Drop, A: Allocator + Copy>(
+pub fn down_one<L: Link<A> + Drop, A: Allocator + Copy>(
     ports: &mut Vec<L, A>,
     port: usize,
     parcel: &Parcel<A>,
@@ -128,6 +132,34 @@ pub fn heard_at<L: Link<A> + Drop, A: Allocator + Copy>(
     let step = ports[port].heard(from, octets, stamp, now)?;
     put_over(port, step.out, out)?;
     Ok(step.up)
+}
+
+/// A port registers at the moment `now`, in milliseconds, where its link is one of a foreign device, and what it puts
+/// out is appended (J.5.2). Another link says nothing, nor does a port that the station doesn't have.
+///
+/// # Errors
+/// `Memory` alone. The ports may then hold any state.
+#[tactic(auto, using(crate::proofs::PortSteps::port_rules))]
+pub fn register_at<L: Link<A> + Drop, A: Allocator + Copy>(
+    ports: &mut Vec<L, A>,
+    port: usize,
+    now: u64,
+    out: &mut Items<PortSent<A>, A>,
+) -> Result<(), Fault>
+    requires greatest { now ≤ MAX_MOMENT_MS }
+    requires order { AreBefore L.moment now ports.old.items }
+    ensures registers { OnOk result
+        (RegistersAt L.registers now port ports.old.items out.old ports.new.items out.new) }
+    ensures places { OnOk result (map L.station ports.new.items ≡ map L.station ports.old.items) }
+    ensures order { OnOk result (AreBefore L.moment now ports.new.items) }
+    ensures cause { IfErr result (λ fault. fault ≡ Fault.Memory) }
+{
+    if port >= ports.len() {
+        return Ok(());
+    }
+    let step = ports[port].register(now)?;
+    put_over(port, step.out, out)?;
+    Ok(())
 }
 
 /// Whether anything is due at a port where it wakes at the moment `now`, in milliseconds.

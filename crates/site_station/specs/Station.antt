@@ -1,5 +1,5 @@
 -- What a station does on each input: its entity, and what is put out over its ports (6.1).
-use Rattle.std.specs.Prelude.{◌≡◌, ◌⊎◌, ℕ, Bool, List, [], map, Option, Some, None}
+use Rattle.std.specs.Prelude.{◌≡◌, ◌≢◌, ◌⊎◌, ℕ, Bool, List, [], map, Option, Some, None}
 use Rattle.apdu.specs.declared.unconfirmed.Limits.{Limits}
 use Rattle.link.specs.declared.step.LinkStep.{LinkStep}
 use Rattle.npdu.specs.declared.mac.Mac.{Mac}
@@ -9,7 +9,7 @@ use Rattle.object_model.specs.Objects.{PlainTable}
 use Rattle.primitives.specs.declared.plain_data.Request.{Request}
 use Rattle.site_station.specs.Entity.{EntityAsks, EntityHears, EntityIssues, EntityRestarts, IsDevice, RefusesParcel, awake, issue_refusal, silence, told_awake}
 use Rattle.site_station.specs.Entity as entity
-use Rattle.link_ports.specs.Ports.{DownsAll, HearsAt, IsTooLong, NothingIsDue, WakesAll}
+use Rattle.link_ports.specs.Ports.{DownsAll, HearsAt, IsTooLong, NothingIsDue, RegistersAt, WakesAll}
 use Rattle.site_station.specs.declared.entity.Entity.{Entity}
 use Rattle.site_station.specs.declared.entity.EntityTold.{EntityTold}
 use Rattle.link_ports.specs.declared.ports.PortSent.{PortSent}
@@ -93,6 +93,19 @@ module _ {A L : Type 0} where
   pub record StationAsks (downs : ℕ → Parcel A → L → LinkStep A → L → Type 0) (now : ℕ) (limits : Option Limits)
       (old : StationState A L) (t : StationTold A) (new : StationState A L) : Type 0 where
     pub says : SaysDown downs (λ told left. EntityAsks now limits old.entity told left) now old.ports [] t new
+
+  -- a foreign station registers: its port says so, and its entity says nothing (J.5.2)
+  pub record StationRegisters (registers : ℕ → L → LinkStep A → L → Type 0) (now : ℕ) (old : StationState A L)
+      (t : StationTold A) (new : StationState A L) : Type 0 where
+    pub silent : t.told ≡ silence
+    pub same : new.entity ≡ old.entity
+    pub ports : RegistersAt registers now ITS_PORT old.ports [] new.ports t.out
+    pub says : t.out ≢ []
+
+  -- a station is no foreign one: its port says nothing where it registers (J.5.2)
+  pub record IsNotForeign (registers : ℕ → L → LinkStep A → L → Type 0) (now : ℕ) (s : StationState A L) : Type 0 where
+    pub left : List L
+    pub silent : RegistersAt registers now ITS_PORT s.ports [] left []
 
   -- a device restarts with these objects, and its ports do (12)
   pub record StationRestarts (restarts : ℕ → L → L) (now : ℕ) (opening : PlainTable A) (old : StationState A L)

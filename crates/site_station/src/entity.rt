@@ -15,7 +15,7 @@ use npdu::Parcel;
 use objects::Table;
 use primitives::Request;
 use server_answers::Executed;
-use std::alloc::Allocator;
+use std::alloc::{AllocError, Allocator};
 use tags::{Fault, Items};
 
 /// What a station is.
@@ -96,6 +96,19 @@ fn says<A: Allocator + Copy>(alloc: A, said: Items<Parcel<A>, A>) -> EntityTold<
 }
 
 impl<A: Allocator + Copy> Entity<A> {
+    /// An equal entity, in the same memory.
+    ///
+    /// # Errors
+    /// Want of memory.
+    pub fn copy(&self) -> Result<Self, AllocError>
+        ensures { IfOk result (λ copy. copy ≡ self.now) }
+    {
+        match self {
+            Entity::Device(device) => Ok(Entity::Device(device.copy()?)),
+            Entity::Client(client) => Ok(Entity::Client(client.copy()?)),
+        }
+    }
+
     /// The moment of the last call that it didn't refuse, in milliseconds.
     pub fn moment(&self) -> u64
         ensures { result ≡ spec.moment_of self.now }

@@ -2,7 +2,7 @@
 //!
 //! To the layer above it promises: each input is planned before anything changes, and what was planned is then done
 //! whole or not at all; what comes of it is what the entity does with what its port hands up, and what the ports put
-//! out of what it says, by their own relations. No device and no client is copied.
+//! out of what it says, by their own relations. No input copies a device or a client.
 //!
 //! - `entity`: the kinds of application entities, and what each would do.
 //! - `station`: the station, its inputs and their commit.

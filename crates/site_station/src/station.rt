@@ -7,18 +7,20 @@ ghost use Rattle.site_station.specs.Entity as spec;
 ghost use Rattle.site_station.specs.Entity.{told_awake};
 ghost use Rattle.link_ports.specs.Ports.{AreBefore, DownsAll, IsTooLong};
 ghost use Rattle.site_station.specs.Station as words;
-ghost use Rattle.site_station.specs.Station.{AskingIsRefused, HearingIsRefused, IssueIsRefused};
-ghost use Rattle.site_station.specs.Station.{IsPlanned, StationAsks, StationHears, StationIssues, StationRestarts};
-ghost use Rattle.site_station.specs.Station.{StationWakes, left_by, told_by};
+ghost use Rattle.site_station.specs.Station.{AskingIsRefused, HearingIsRefused, IsNotForeign, IssueIsRefused};
+ghost use Rattle.site_station.specs.Station.{IsPlanned, StationAsks, StationHears, StationIssues, StationRegisters};
+ghost use Rattle.site_station.specs.Station.{StationRestarts, StationWakes, left_by, told_by};
 
 use crate::entity::{Entity, EntityPlan, EntityTold};
 use apdu::Limits;
 use link::Link;
-use link_ports::{PortSent, copy_of, down_all, heard_at, is_any_due, restart_all, wake_all};
+use link_ports::{
+    PortSent, copy_of, down_all, heard_at, is_any_due, register_at, restart_all, wake_all,
+};
 use npdu::{Mac, Parcel};
 use objects::Table;
 use primitives::Request;
-use std::alloc::Allocator;
+use std::alloc::{AllocError, Allocator};
 use std::marker::Model;
 use tags::{Fault, Items};
 
@@ -61,6 +63,20 @@ impl<L: Link<A> + Drop, A: Allocator + Copy> SiteStation<L, A> {
             ports,
             entity,
         }
+    }
+
+    /// An equal station, in the same memory.
+    ///
+    /// # Errors
+    /// Want of memory.
+    pub fn copy(&self) -> Result<Self, AllocError>
+        ensures { IfOk result (λ copy. copy ≡ self.now) }
+    {
+        Ok(SiteStation {
+            alloc: self.alloc,
+            ports: copy_of(self.alloc, self.ports.as_slice())?,
+            entity: self.entity.copy()?,
+        })
     }
 
     /// Its ports, in order.
@@ -223,6 +239,33 @@ impl<L: Link<A> + Drop, A: Allocator + Copy> SiteStation<L, A> {
         Ok(StationPlan {
             out,
             entity,
+            ports: Some(ports),
+        })
+    }
+
+    /// What it does where it registers as a foreign device at the moment `now`, in milliseconds: `commit` does it
+    /// (J.5.2).
+    ///
+    /// # Errors
+    /// `NoSuch` where it is no foreign station: its port says nothing; or `Memory`.
+    pub fn plan_registers(&self, now: u64) -> Result<StationPlan<L, A>, Fault>
+        requires greatest { now ≤ MAX_MOMENT_MS }
+        requires order { AreBefore L.moment now self.now.ports }
+        ensures registers { IfOk result (λ plan. StationRegisters L.registers now self.now
+            (told_by plan) (left_by now plan self.now)) }
+        ensures planned { IfOk result (IsPlanned now self.now) }
+        ensures cause { IfErr result (λ fault. (fault ≡ Fault.Memory) ⊎
+            ((fault ≡ Fault.NoSuch) × IsNotForeign L.registers now self.now)) }
+    {
+        let mut ports = copy_of(self.alloc, self.ports.as_slice())?;
+        let mut out = Items::new(self.alloc);
+        register_at(&mut ports, ITS_PORT, now, &mut out)?;
+        if out.is_empty() {
+            return Err(Fault::NoSuch);
+        }
+        Ok(StationPlan {
+            out,
+            entity: EntityPlan::Says(Items::new(self.alloc)),
             ports: Some(ports),
         })
     }

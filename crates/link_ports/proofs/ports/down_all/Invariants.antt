@@ -1,4 +1,4 @@
-use Rattle.std.proofs.Common.{◌≡◌, ◌++◌, drop, List, map}
+use Rattle.std.proofs.Common.{◌≡◌, drop, List, map}
 use Rattle.history.specs.Lists.{Has}
 use Rattle.npdu.specs.declared.parcel.Parcel.{Parcel}
 use Rattle.link_ports.specs.Ports.{AreBefore, DownsAll}

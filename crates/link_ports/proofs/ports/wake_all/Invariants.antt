@@ -1,4 +1,4 @@
-use Rattle.std.proofs.Common.{◌≡◌, ◌-◌, List, length}
+use Rattle.std.proofs.Common.{◌-◌, List, length}
 use Rattle.link_ports.specs.Ports.{AreBefore, WakesAll, WakesFrom}
 use Rattle.link_ports.specs.declared.ports.PortSent.{PortSent}
 use Rattle.link_ports.proofs.ports.wake_all.Given as goal

@@ -1,0 +1,4 @@
+pub mod Addresses
+pub mod RouterPasses
+pub mod IpRouters
+pub mod IpManagers

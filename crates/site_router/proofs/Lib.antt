@@ -1,0 +1,3 @@
+pub mod DownLaws
+pub mod Planning
+pub mod RouterKeeping

@@ -1,0 +1,3 @@
+pub mod Downs
+pub mod Station
+pub mod Refusals
