@@ -6,5 +6,6 @@ pub mod Fronts
 pub mod HearingLaws
 pub mod Leading
 pub mod Judging
+pub mod Reading
 pub mod Taking
 pub mod Cuts

@@ -1,8 +1,8 @@
 -- What a piece of a stream leads to, and what a deframer gives of a stream that is cut into pieces.
-use Rattle.std.specs.Prelude.{ℕ, Option, Some, None, List, [], ◌∷◌, ◌++◌}
+use Rattle.std.specs.Prelude.{◌≡◌, ℕ, Option, Some, None, List, [], ◌∷◌, ◌++◌}
 use Rattle.std.specs.Option.{option_to_list}
 use Rattle.mstp_frame.specs.declared.frame.Frame.{Frame}
-use Rattle.mstp_frame.specs.Frame.{PlainFrame}
+use Rattle.mstp_frame.specs.Frame.{PlainFrame, Spells, frame_of}
 use Rattle.mstp_frame.specs.FrameType.{IsNamed}
 use Rattle.mstp_frame.specs.Heard.{Hears, Heard}
 
@@ -15,6 +15,11 @@ pub record LeadsTo (octets : List ℕ) (frame : Option PlainFrame) (left : List 
 abbrev pub HasNamedType : Option Frame → Type 0
 HasNamedType None = Unit {0}
 HasNamedType (Some f) = IsNamed f.frame_type
+
+-- the octets are those of the frame, all of them; there are none where there is none
+abbrev pub IsWhole : Option Frame → List ℕ → Type 0
+IsWhole None octets = octets ≡ []
+IsWhole (Some f) octets = Spells octets (frame_of f)
 
 -- what a deframer is given
 pub data Input : Type 0 where

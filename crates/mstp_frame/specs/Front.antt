@@ -1,5 +1,5 @@
 -- What octets from 55 FF on are, and what a deframer's buffer holds.
-use Rattle.std.specs.Prelude.{◌≡◌, ℕ, ◌-◌, ◌<◌, ◌≤◌, true, false, Option, Some, None, if◌then◌else◌, List, [], ◌∷◌, ◌++◌, length, take, drop, slice_index, ◌⊎◌}
+use Rattle.std.specs.Prelude.{◌≡◌, ℕ, ◌-◌, ◌<◌, ◌≤◌, Bool, true, false, Option, Some, None, if◌then◌else◌, List, [], ◌∷◌, ◌++◌, length, take, drop, slice_index, ◌⊎◌}
 use Rattle.mstp_frame.specs.declared.front.Front.{Front}
 use Rattle.mstp_frame.specs.declared.front.Front.TheVariants.{Unfinished, Lost, Whole}
 use Rattle.mstp_frame.specs.declared.buffer.Buffer.{Buffer}
@@ -26,6 +26,11 @@ IsJudged octets Unfinished = IsCut octets
 IsJudged octets Lost = IsFront octets × NoFrame octets
 IsJudged octets Whole = IsFront octets × Spells octets (frame_at octets)
 
+-- whether octets, all of them, spell a frame
+abbrev pub IsRead : List ℕ → Bool → Type 0
+IsRead octets true = Spells octets (frame_at octets)
+IsRead octets false = NoFrame octets
+
 -- with so many octets, what octets from 55 FF on are is judged: when the header is whole, and when all is
 abbrev pub IsGoal : List ℕ → ℕ → Type 0
 IsGoal octets n = ((n ≡ 8) × (length octets < 8)) ⊎ ((n ≡ span octets) × (8 ≤ length octets))
@@ -42,12 +47,16 @@ kept_in b = if b.is_whole then [] else octets_in b
 abbrev pub frame_in : Buffer → Option PlainFrame
 frame_in b = if b.is_whole then Some (frame_at (octets_in b)) else None
 
+-- the octets of that frame
+abbrev pub whole_in : Buffer → List ℕ
+whole_in b = if b.is_whole then octets_in b else []
+
 -- it keeps octets of which nothing can be said yet, or lends a frame
 pub record IsReady (b : Buffer) : Type 0 where
   pub fits : b.len ≤ 511
   pub len : length (octets_in b) ≡ b.len
   pub kept : b.is_whole ≡ false → IsCut (octets_in b)
-  pub lent : b.is_whole ≡ true → 8 ≤ b.len
+  pub lent : b.is_whole ≡ true → Spells (octets_in b) (frame_at (octets_in b))
 
 -- from one buffer to another by so many octets of a piece, one at least
 pub record Takes (old : Buffer) (piece : List ℕ) (new : Buffer) (used : ℕ) : Type 0 where

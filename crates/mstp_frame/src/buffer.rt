@@ -3,7 +3,7 @@
 ghost use Rattle.std.specs.Prelude.{◌≡◌, ◌<◌, ◌≤◌, ◌+◌, ◌++◌, ◌∷◌, [], None, Some, true, false, ℕ, List, length, drop, slice_index, option_map};
 ghost use Rattle.mstp_frame.specs.Frame.{frame_of};
 ghost use Rattle.mstp_frame.specs.Feeding.{HasNamedType, LeadsTo};
-ghost use Rattle.mstp_frame.specs.Front.{frame_in, kept_in, octets_in, IsJudged, IsReady, Takes};
+ghost use Rattle.mstp_frame.specs.Front.{frame_in, kept_in, octets_in, whole_in, IsJudged, IsReady, Takes};
 
 use crate::frame::{Frame, PREAMBLE};
 use crate::front::{Front, frame_from, goal, judge};
@@ -66,6 +66,18 @@ impl Buffer {
             Some(frame_from(&self.octets[..self.len]))
         } else {
             None
+        }
+    }
+
+    /// The octets of that frame.
+    pub(crate) fn whole(&self) -> &[u8]
+        requires { IsReady self.now }
+        ensures { result.now ≡ whole_in self.now }
+    {
+        if self.is_whole {
+            &self.octets[..self.len]
+        } else {
+            &[]
         }
     }
 

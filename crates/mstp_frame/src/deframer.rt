@@ -18,6 +18,8 @@ pub struct Fed<'a> {
     pub used: usize,
     /// A frame, until the next call.
     pub frame: Option<Frame<'a>>,
+    /// The octets of that frame, all of them, until the next call; none where there is no frame.
+    pub octets: &'a [u8],
 }
 
 impl Model for Deframer {
@@ -37,7 +39,7 @@ impl Deframer {
     ghost use Rattle.std.specs.Io.BufRead.{Rests};
     ghost use Rattle.mstp_frame.specs.Frame.{frame_of};
     ghost use Rattle.mstp_frame.specs.Heard.{Hears};
-    ghost use Rattle.mstp_frame.specs.Feeding.{HasNamedType, LeadsTo};
+    ghost use Rattle.mstp_frame.specs.Feeding.{HasNamedType, IsWhole, LeadsTo};
     ghost use Rattle.mstp_frame.specs.contracts.deframer.Deframer.{the_row};
 
     /// A deframer that keeps nothing.
@@ -68,11 +70,14 @@ impl Deframer {
         ensures used { result.used ≤ length piece.now }
         ensures all { IfNone result.frame (result.used ≡ length piece.now) }
         ensures named { HasNamedType result.frame }
+        ensures whole { IsWhole result.frame result.octets.now }
     {
         let used = self.buffer.take_all(piece);
+        let buffer = &self.buffer;
         Fed {
             used,
-            frame: self.buffer.frame(),
+            frame: buffer.frame(),
+            octets: buffer.whole(),
         }
     }
 

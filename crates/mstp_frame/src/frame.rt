@@ -1,4 +1,4 @@
-//! Frames, written.
+//! Frames, read and written.
 
 ghost use Rattle.std.specs.Prelude.{◌≡◌, ◌≤◌, ◌++◌, ◌∷◌, length, OnOk, OnErr, IfErr};
 ghost use Rattle.byteorder.specs.Endian.{big_bytes};
@@ -8,6 +8,7 @@ ghost use Rattle.mstp_frame.specs.Frame.{canonical, checked, frame_of, header, I
 
 use crate::check::{data_check, header_check};
 use crate::frame_type::FrameType;
+use crate::front::{frame_from, is_frame};
 use std::alloc::{AllocError, Allocator};
 use tags::{Fault, all_or_none};
 
@@ -26,6 +27,27 @@ pub struct Frame<'a> {
     /// The MAC of the node that says it.
     pub source: u8,
     pub data: &'a [u8],
+}
+
+impl<'a> Frame<'a> {
+    ghost use Rattle.std.specs.Prelude.{IfSome, IfNone};
+    ghost use Rattle.mstp_frame.specs.Feeding.{HasNamedType};
+    ghost use Rattle.mstp_frame.specs.Frame.{frame_of, Spells};
+    ghost use Rattle.mstp_frame.specs.Heard.{NoFrame};
+
+    /// The frame that octets spell, all of them (9.3), and none where they spell none. It takes no memory.
+    #[tactic(auto, using(crate::proofs::Reading::eight_spelled))]
+    pub fn read(octets: &'a [u8]) -> Option<Frame<'a>>
+        ensures read { IfSome result (λ f. Spells octets.now (frame_of f)) }
+        ensures named { HasNamedType result }
+        ensures none { IfNone result (NoFrame octets.now) }
+    {
+        if is_frame(octets) {
+            Some(frame_from(octets))
+        } else {
+            None
+        }
+    }
 }
 
 /// Appends the frame's one spelling (9.3). After an `Err` the buffer is as it was.

@@ -1,13 +1,13 @@
 //! What octets from 55 FF on are: a frame, octets that spell none, or neither yet.
 
-ghost use Rattle.std.specs.Prelude.{◌≡◌, ◌<◌, ◌≤◌, ◌∷◌, [], length, take, ◌⊎◌};
+ghost use Rattle.std.specs.Prelude.{◌≡◌, ◌<◌, ◌≤◌, ◌∷◌, ◌↔◌, [], IsTrue, length, take, ◌⊎◌};
 ghost use Rattle.mstp_frame.specs.Frame.{frame_of};
 ghost use Rattle.mstp_frame.specs.FrameType.{IsNamed};
 ghost use Rattle.mstp_frame.specs.Heard.{size_at, span, IsCut};
-ghost use Rattle.mstp_frame.specs.Front.{frame_at, IsGoal, IsJudged};
+ghost use Rattle.mstp_frame.specs.Front.{frame_at, IsGoal, IsJudged, IsRead};
 
 use crate::check::{data_check, header_check};
-use crate::frame::{Frame, MAX_DATA};
+use crate::frame::{Frame, MAX_DATA, PREAMBLE};
 use crate::frame_type::FrameType;
 use byteorder::{BigEndian, ByteOrder};
 
@@ -101,6 +101,46 @@ fn judge_data(octets: &[u8]) -> Front
         Front::Whole
     } else {
         Front::Lost
+    }
+}
+
+/// Whether 55 FF begins the octets.
+fn begins(octets: &[u8]) -> bool
+    ensures { IsTrue result ↔ (take 2 octets.now ≡ 0x55 ∷ 0xFF ∷ []) }
+{
+    match octets {
+        [first, second, ..] => *first == PREAMBLE[0] && *second == PREAMBLE[1],
+        _ => false,
+    }
+}
+
+/// Whether the octets, all of them, spell a frame.
+#[tactic(auto, using(crate::proofs::Reading::reads))]
+pub(crate) fn is_frame(octets: &[u8]) -> bool
+    ensures { IsRead octets.now result }
+{
+    if octets.len() < HEADER_OCTETS || !begins(octets) {
+        return false;
+    }
+    let (header, behind) = octets.split_at(HEADER_OCTETS);
+    match judge_header(header) {
+        Front::Lost => false,
+        Front::Whole => behind.is_empty(),
+        Front::Unfinished => octets.len() == OCTETS_BESIDE_DATA + size_of(octets)
+            && has_data(octets),
+    }
+}
+
+/// Whether a header, data and their check octets, of the length that the header says, spell a frame.
+fn has_data(octets: &[u8]) -> bool
+    requires begins { take 2 octets.now ≡ 0x55 ∷ 0xFF ∷ [] }
+    requires long { 8 < length octets.now }
+    requires whole { length octets.now ≡ span octets.now }
+    ensures { IsRead octets.now result }
+{
+    match judge_data(octets) {
+        Front::Whole => true,
+        Front::Lost | Front::Unfinished => false,
     }
 }
 

@@ -2,6 +2,7 @@
 use Rattle.std.proofs.Common.{◌≡◌, ◌⊎◌, ⊎_elim, inl, inr, refl, sym, ap, subst, ℕ, Bool, true, false, if◌then◌else◌, List, [], ◌∷◌, Some}
 use Rattle.history.proofs.Lists.{has}
 use Rattle.history.specs.Lists.{Has}
+use Rattle.mstp_frame.specs.FrameType.{IsNamed}
 use Rattle.mstp_frame.specs.declared.frame_type.FrameType.{FrameType}
 use Rattle.mstp_frame.specs.declared.frame_type.FrameType.TheVariants.{PollForMaster as Poll, Token}
 use Rattle.profile.specs.Ages.{is_heard_in_time}
@@ -39,6 +40,7 @@ pub record Accounts {A : Type 0} (may : Bool) (now ts moment : ℕ) (queue : Lis
 pass_is_control : (now ts : ℕ) (o : PutOut) → PassesOrPolls now ts o → IsControl now ts o
 pass_is_control now ts o p = record {
   kind = ⊎_elim (λ (e : o.frame.frame_type ≡ Token). ap is_data e) (λ (e : o.frame.frame_type ≡ Poll). ap is_data e) p.kind;
+  named = ⊎_elim (λ (e : o.frame.frame_type ≡ Token). subst IsNamed (sym e) tt) (λ (e : o.frame.frame_type ≡ Poll). subst IsNamed (sym e) tt) p.kind;
   source = p.source;
   stamp = p.stamp;
 }
@@ -64,10 +66,10 @@ module _ {A : Type 0} where
   pub quiet_keeps : (P : PutOut → Type 0) (up : Bool) (t : NodeState A) → Keeps P t.ts t.moment t.queue (record { up = up; left = t; frames = [] })
   quiet_keeps P up t = record { says = tt; queue_is = refl; ts_is = refl; moment_is = refl }
 
-  pub says_keeps : (kind : FrameType) (destination : ℕ) (contents : List ℕ) (t : NodeState A) (now : ℕ) → is_data kind ≡ false →
+  pub says_keeps : (kind : FrameType) (destination : ℕ) (contents : List ℕ) (t : NodeState A) (now : ℕ) → is_data kind ≡ false → IsNamed kind →
       Keeps (IsControl now t.ts) t.ts t.moment t.queue (says kind destination contents t now)
-  says_keeps kind destination contents t now e = record {
-    says = record { kind = e; source = refl; stamp = refl };
+  says_keeps kind destination contents t now e named = record {
+    says = record { kind = e; named = named; source = refl; stamp = refl };
     queue_is = refl;
     ts_is = refl;
     moment_is = refl;

@@ -3,6 +3,7 @@ use Rattle.std.proofs.Common.{◌≡◌, ◌⊎◌, ⊎_elim, inl, inr, refl, su
 use Rattle.std.specs.Prelude.{Option, nat_le, nat_lt}
 use Rattle.history.proofs.Lists.{has, has_cons, has_front, has_next, has_split, none_has}
 use Rattle.history.specs.Lists.{Has}
+use Rattle.mstp_frame.specs.FrameType.{IsNamed}
 use Rattle.mstp_frame.specs.declared.frame_type.FrameType.{FrameType}
 use Rattle.mstp_frame.specs.declared.frame_type.FrameType.TheVariants.{Token, PollForMaster as Poll, ReplyToPollForMaster, TestRequest, TestResponse, BacnetDataExpectingReply, BacnetDataNotExpectingReply, ReplyPostponed}
 use Rattle.profile.specs.Ages.{is_heard_in_time}
@@ -59,9 +60,10 @@ module _ {A : Type 0} where
   quiet_accounts : (may up : Bool) (now : ℕ) (t : NodeState A) → Accounts may now t.ts t.moment t.queue (record { up = up; left = t; frames = [] })
   quiet_accounts may up now t = control_accounts may now t.ts t.moment t.queue _ (quiet_keeps (IsControl now t.ts) up t)
 
-  says_accounts : (may : Bool) (kind : FrameType) (destination : ℕ) (contents : List ℕ) (t : NodeState A) (now : ℕ) → is_data kind ≡ false →
+  says_accounts : (may : Bool) (kind : FrameType) (destination : ℕ) (contents : List ℕ) (t : NodeState A) (now : ℕ) → is_data kind ≡ false → IsNamed kind →
       Accounts may now t.ts t.moment t.queue (says kind destination contents t now)
-  says_accounts may kind destination contents t now e = control_accounts may now t.ts t.moment t.queue _ (says_keeps kind destination contents t now e)
+  says_accounts may kind destination contents t now e named =
+      control_accounts may now t.ts t.moment t.queue _ (says_keeps kind destination contents t now e named)
 
   token_accounts : (may : Bool) (t : NodeState A) (now : ℕ) → Accounts may now t.ts t.moment t.queue (gives_token t now)
   token_accounts may t now = pass_accounts may now t.ts t.moment t.queue _ (token_keeps t now)
@@ -81,8 +83,8 @@ module _ {A : Type 0} where
       Accounts (is_token kind to) now s.ts s.moment s.queue (idle_hears s f kind to now)
   unfolding idle_hears
   idle_accounts s f Token ToUs now = use_accounts s now
-  idle_accounts s f Poll ToUs now = says_accounts false ReplyToPollForMaster f.source [] s now refl
-  idle_accounts s f TestRequest ToUs now = says_accounts false TestResponse f.source f.contents s now refl
+  idle_accounts s f Poll ToUs now = says_accounts false ReplyToPollForMaster f.source [] s now refl tt
+  idle_accounts s f TestRequest ToUs now = says_accounts false TestResponse f.source f.contents s now refl tt
   idle_accounts s f BacnetDataNotExpectingReply ToUs now = quiet_accounts false true now s
   idle_accounts s f BacnetDataNotExpectingReply ToAll now = quiet_accounts false true now s
   idle_accounts s f BacnetDataExpectingReply ToAll now = quiet_accounts false true now s
@@ -149,7 +151,7 @@ module _ {A : Type 0} where
   answers_accounts asker s None now queue there left k =
       rest_accounts true now s.ts s.moment queue s.queue _ left (λ w h. (there w h).0)
       (either (λ (o : Outcome A). Keeps (IsControl now s.ts) s.ts s.moment s.queue o) (nat_le T_REPLY_DELAY_MS (silence s now)) _ _
-      (says_keeps ReplyPostponed asker [] (record s { state = Idle }) now refl) (quiet_keeps (IsControl now s.ts) false s))
+      (says_keeps ReplyPostponed asker [] (record s { state = Idle }) now refl tt) (quiet_keeps (IsControl now s.ts) false s))
 
   ticks_accounts : (state : State) (s : NodeState A) (now : ℕ) →
       Accounts (uses_at_tick state s) now s.ts s.moment s.queue (ticks_in state s now)

@@ -1,6 +1,7 @@
 -- What holds of every step of a master node, whatever its state (9.5).
 use Rattle.std.specs.Prelude.{◌≡◌, ◌≢◌, ◌⊎◌, ℕ, ◌==◌, ◌&&◌, ◌||◌, Bool, true, false, List, [], ◌∷◌, ◌++◌}
 use Rattle.history.specs.Lists.{Has}
+use Rattle.mstp_frame.specs.FrameType.{IsNamed}
 use Rattle.mstp_frame.specs.declared.frame_type.FrameType.{FrameType}
 use Rattle.mstp_frame.specs.declared.frame_type.FrameType.TheVariants.{Token, PollForMaster as Poll, BacnetDataExpectingReply, BacnetDataNotExpectingReply}
 use Rattle.npdu.specs.declared.parcel.Parcel.{Parcel}
@@ -59,9 +60,10 @@ pub record IsOfWaiting {A : Type 0} (now ts : ℕ) (queue : List (Waiting A)) (o
   pub young : is_heard_in_time waiting.stamp now ≡ true
   pub is : o ≡ data_of kind ts waiting
 
--- a frame of another type, from this station, said now
+-- a frame of another type, which has a name, from this station, said now
 pub record IsControl (now ts : ℕ) (o : PutOut) : Type 0 where
   pub kind : is_data o.frame.frame_type ≡ false
+  pub named : IsNamed o.frame.frame_type
   pub source : o.frame.source ≡ ts
   pub stamp : o.stamp ≡ now
 

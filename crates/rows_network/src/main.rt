@@ -1,18 +1,22 @@
 //! The program `rows_network`: what a router does with a parcel (ANSI/ASHRAE 135, clauses 6.5 and 6.6), what a port of
-//! BACnet/IP puts out and hands up (Annex J), and what is inside a message on a network (6.2), run on the rows of its
-//! `data/`.
+//! BACnet/IP (Annex J) or of a bus (9) puts out and hands up, and what is inside a message on a network (6.2), run on
+//! the rows of its `data/`.
 //!
 //! - `addresses`: addresses in words.
 //! - `named`: octets in words, with announcements of many networks.
 //! - `routing`: the rows of a router, step by step; `stepping`: a step in every way.
-//! - `ports`: the rows of a port.
+//! - `ports`: the rows of a port of BACnet/IP.
+//! - `buses`: the rows of a port on a bus, call by call.
+//! - `rings`: the rows of nodes on a bus that hear each other.
 //! - `insides`: the rows of what is inside.
 #![tactic(auto)]
 
 mod addresses;
+mod buses;
 mod insides;
 mod named;
 mod ports;
+mod rings;
 mod routing;
 mod stepping;
 
@@ -43,6 +47,8 @@ fn run_row(given: Given<'_>, name: &str, row: &Row<'_>) -> Result<Counts, Stop> 
     match name {
         "router.txt" => routing::run(given, given.memory, row.asked, wanted),
         "ports.txt" => ports::run(given, row.asked, wanted),
+        "buses.txt" => buses::run(given, row.asked, wanted),
+        "rings.txt" => rings::run(given, row.asked, wanted),
         "inside.txt" => insides::run(given, row.asked, wanted),
         _ => Err(Stop::Unread(Part::Asked)),
     }

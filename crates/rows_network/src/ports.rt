@@ -27,7 +27,7 @@ use words::parse_number;
 
 /// A call of a link.
 #[derive(Clone, Copy)]
-enum Call {
+pub(crate) enum Call {
     Down { from: Mac, to: Target },
     Heard { from: Mac },
     Tick,
@@ -38,16 +38,16 @@ enum Call {
 
 /// What a row asks for.
 #[derive(Clone, Copy)]
-enum Question {
+pub(crate) enum Question {
     Made(Call),
     Due,
 }
 
 /// When a call is made, and when what it is about was said.
 #[derive(Clone, Copy)]
-struct At {
-    now: u64,
-    stamp: u64,
+pub(crate) struct At {
+    pub(crate) now: u64,
+    pub(crate) stamp: u64,
 }
 
 /// A port in words, and what it is asked.
@@ -110,24 +110,28 @@ fn run_within<A: Allocator + Copy>(
     }
 }
 
-/// What stands before `@5/3`, and the two moments; `@5` is both.
+/// What stands before `@5/3`, and the two moments.
 fn moments(words: &str) -> Result<(&str, At), Stop> {
     let Some((place, at)) = words.split_once(" @") else {
         return Err(Stop::Unread(Part::Asked));
     };
-    let (now, stamp) = match at.split_once('/') {
+    Ok((place, at_of(at)?))
+}
+
+/// The two moments `5/3`; `5` is both.
+pub(crate) fn at_of(words: &str) -> Result<At, Stop> {
+    let (now, stamp) = match words.split_once('/') {
         Some(both) => both,
-        None => (at, at),
+        None => (words, words),
     };
-    let at = At {
+    Ok(At {
         now: parse_number(now)?,
         stamp: parse_number(stamp)?,
-    };
-    Ok((place, at))
+    })
 }
 
 /// What is asked, and the octets that it is about.
-fn question_of(step: &str) -> Result<(Question, &str), Stop> {
+pub(crate) fn question_of(step: &str) -> Result<(Question, &str), Stop> {
     let (word, rest) = two_words(step);
     let call = match word {
         "down" => {
@@ -204,7 +208,7 @@ fn foreign<A: Allocator>(words: &str) -> Result<Reach<A>, Stop> {
 ///
 /// # Errors
 /// `Memory` where the call says so.
-fn answer<A: Allocator + Copy, L: Link<A>>(
+pub(crate) fn answer<A: Allocator + Copy, L: Link<A>>(
     alloc: Global,
     other: A,
     link: &mut L,
@@ -227,7 +231,7 @@ fn answer<A: Allocator + Copy, L: Link<A>>(
 ///
 /// # Errors
 /// `Unread` where its moments are none that a call may have.
-fn make<A: Allocator + Copy, L: Link<A>>(
+pub(crate) fn make<A: Allocator + Copy, L: Link<A>>(
     other: A,
     link: &mut L,
     call: Call,
@@ -281,7 +285,13 @@ fn told<A: Allocator>(alloc: Global, step: &LinkStep<A>) -> Result<String, Stop>
 }
 
 /// Appends what is handed up.
-fn push_parcel<A: Allocator>(parcel: &Parcel<A>, out: &mut String) -> Result<(), AllocError> {
+///
+/// # Errors
+/// Want of memory.
+pub(crate) fn push_parcel<A: Allocator>(
+    parcel: &Parcel<A>,
+    out: &mut String,
+) -> Result<(), AllocError> {
     push_mac(parcel.from, out)?;
     out.push_str(" > ")?;
     push_target(parcel.to, out)?;

@@ -1,0 +1,7 @@
+pub mod HearingLaws
+pub mod Places
+pub mod YoungestLaws
+pub mod RememberLaws
+pub mod GivenLaws
+pub mod TellingLaws
+pub mod KeepingLaws

@@ -1,0 +1,8 @@
+use Rattle.std.proofs.Common.{drop}
+use Rattle.bus_traffic.proofs.TellingLaws.{AreLeft}
+use Rattle.bus_traffic.proofs.telling.next_on.Given as goal
+
+-- what is due stands among those that are left
+abbrev pub invariant-loop-recent : goal.invariant-loop-recent
+invariant-loop-recent g l =
+    AreLeft l.now l.from l.before l.bus.ears.items l.bus.recent.items (drop l.recent-index l.bus.recent.items)

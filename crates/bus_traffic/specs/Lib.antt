@@ -1,0 +1,7 @@
+pub mod Ears
+pub mod Sendings
+pub mod Hearing
+pub mod Bus
+pub mod Finding
+pub mod Telling
+pub mod Laws

@@ -1,0 +1,234 @@
+//! A bus, and what is known of it.
+
+ghost use Rattle.std.specs.Prelude.{◌≡◌, ◌≤◌, ◌<◌, ◌+◌, ◌++◌, ◌∷◌, [], Some, length, slice_get};
+ghost use Rattle.std.specs.Vec.{vec_capacity, vec_len};
+ghost use Rattle.bus_traffic.specs.Sendings as spec;
+ghost use Rattle.bus_traffic.specs.Sendings.{delivered, followed, learned, marked};
+
+use crate::ear::Ear;
+use crate::hearing::{Hearing, hear};
+use crate::judging::is_frame;
+use crate::sending::{Known, Put, Recent, Sending};
+use mstp_frame::Deframer;
+use profile::is_heard_in_time;
+use std::alloc::{AllocError, Allocator};
+
+/// A bus of MS/TP: its ears, what is known of all frames that were put out there, and those that may still be heard.
+#[derive(Drop)]
+pub struct Bus<A: Allocator> {
+    /// The number of the network.
+    pub net: u16,
+    /// An ear for each station on it.
+    pub ears: Vec<Ear, A>,
+    /// What was ever put out: each frame once.
+    pub known: Vec<Known<A>, A>,
+    /// What may still be heard, in the order in which it was put out.
+    pub recent: Vec<Recent<A>, A>,
+}
+
+/// Puts a value behind others, where there is room.
+fn push_reserved<T: Drop, A: Allocator>(list: &mut Vec<T, A>, value: T)
+    requires { vec_len list.old < vec_capacity list.old }
+    ensures items { list.new.items ≡ list.old.items ++ value ∷ [] }
+    ensures len { vec_len list.new ≡ vec_len list.old + 1 }
+    ensures room { vec_capacity list.old ≤ vec_capacity list.new }
+{
+    list.push(value).unwrap();
+}
+
+/// Knows of a stamp that may be younger.
+fn age<A: Allocator>(known: &mut Known<A>, stamp: u64)
+    ensures { known.new ≡ spec.aged stamp known.old }
+{
+    if known.stamp < stamp {
+        known.stamp = stamp;
+    }
+}
+
+/// Knows of a frame that is put out, where there is room.
+#[tactic(auto, using(crate::proofs::Places::place_rules))]
+fn learn<A: Allocator>(known: &mut Vec<Known<A>, A>, new: Known<A>)
+    requires { vec_len known.old < vec_capacity known.old }
+    ensures known { known.new.items ≡ learned new known.old.items }
+    ensures len { vec_len known.new ≤ vec_len known.old + 1 }
+    ensures room { vec_capacity known.old ≤ vec_capacity known.new }
+{
+    for place in 0..known.len() {
+        if is_frame(&known[place].octets, new.octets.as_slice()) {
+            age(&mut known[place], new.stamp);
+            return;
+        }
+    }
+    push_reserved(known, new);
+}
+
+/// Forgets what is too old to be heard at the moment `now`, in milliseconds.
+fn keep_young<A: Allocator>(recent: &mut Vec<Recent<A>, A>, now: u64)
+    ensures young { recent.new.items ≡ spec.young now recent.old.items }
+    ensures len { vec_len recent.new ≤ vec_len recent.old }
+    ensures room { vec_capacity recent.old ≤ vec_capacity recent.new }
+{
+    recent.retain(|recent| is_heard_in_time(recent.sending.stamp, now));
+}
+
+/// A frame that was put out, delivered nowhere yet.
+fn unheard<A: Allocator>(sending: Sending<A>) -> Recent<A>
+    ensures { result ≡ spec.unheard sending }
+{
+    Recent {
+        sending,
+        heard: [false; 256],
+    }
+}
+
+/// Puts a frame behind those that may still be heard, where there is room.
+fn follow<A: Allocator>(recent: &mut Vec<Recent<A>, A>, sending: Sending<A>, now: u64)
+    requires { vec_len recent.old < vec_capacity recent.old }
+    ensures recent { recent.new.items ≡ followed now sending recent.old.items }
+    ensures len { vec_len recent.new ≤ vec_len recent.old + 1 }
+    ensures room { vec_capacity recent.old ≤ vec_capacity recent.new }
+{
+    keep_young(recent, now);
+    push_reserved(recent, unheard(sending));
+}
+
+/// The ear at a place.
+fn ear_of(ears: &[Ear], place: usize) -> &Ear
+    requires { place < length ears.now }
+    ensures { slice_get ears.now place ≡ Some result.now }
+{
+    &ears[place]
+}
+
+/// Whether a frame may still be heard at the moment `now`, in milliseconds, and wasn't delivered yet at an address,
+/// which isn't its sender's.
+pub(crate) fn waits_at<A: Allocator>(recent: &Recent<A>, address: u8, now: u64) -> bool
+    ensures { result ≡ spec.waits_at now address recent.now }
+{
+    is_heard_in_time(recent.sending.stamp, now)
+        && address != recent.sending.sender
+        && !recent.heard[address as usize]
+}
+
+/// Whether a frame has just these octets and waits to be delivered at an address, which isn't its sender's, at the
+/// moment `now`, in milliseconds.
+fn is_due_at<A: Allocator>(recent: &Recent<A>, address: u8, octets: &[u8], now: u64) -> bool
+    ensures { result ≡ spec.is_due_at now address octets.now recent.now }
+{
+    is_frame(&recent.sending.octets, octets) && waits_at(recent, address, now)
+}
+
+/// A frame is delivered at an address.
+fn mark<A: Allocator>(recent: &mut Recent<A>, address: u8)
+    ensures { recent.new ≡ marked address recent.old }
+{
+    recent.heard[address as usize] = true;
+}
+
+/// Just these octets are delivered at an address at the moment `now`, in milliseconds.
+#[tactic(auto, using(crate::proofs::Places::place_rules))]
+fn deliver<A: Allocator>(recent: &mut [Recent<A>], address: u8, octets: &[u8], now: u64)
+    ensures { recent.new ≡ delivered now address octets.now recent.old }
+{
+    for place in 0..recent.len() {
+        if is_due_at(&recent[place], address, octets, now) {
+            mark(&mut recent[place], address);
+            return;
+        }
+    }
+}
+
+impl<A: Allocator + Copy> Bus<A> {
+    ghost use Rattle.std.specs.Prelude.{◌≡◌, ◌<◌, ◌+◌, ℕ, Some, IfOk, OnOk, OnErr, length, slice_get};
+    ghost use Rattle.bus_traffic.specs.declared.ear.Ear.{Ear};
+    ghost use Rattle.bus_traffic.specs.Bus.{HasRoom, IsHearing, bus_anew, bus_of, heard_on, joined, put_out, restarted};
+
+    /// A bus without ears, on which nothing was put out.
+    pub fn new(alloc: A, net: u16) -> Self
+        ensures { bus_of result ≡ bus_anew net }
+    {
+        Bus {
+            net,
+            ears: Vec::new(alloc),
+            known: Vec::new(alloc),
+            recent: Vec::new(alloc),
+        }
+    }
+
+    /// A station comes to the bus at the moment `now`, in milliseconds: there is an ear for it behind the others.
+    ///
+    /// # Errors
+    /// Want of memory. The bus is then as it was.
+    pub fn join(&mut self, address: u8, now: u64) -> Result<(), AllocError>
+        ensures joined { OnOk result (bus_of self.new ≡ joined now address (bus_of self.old)) }
+        ensures unchanged { OnErr result (bus_of self.new ≡ bus_of self.old) }
+    {
+        self.ears.push(Ear::new(address, now))?;
+        Ok(())
+    }
+
+    /// Takes room for so many frames. What is known stays as it is.
+    ///
+    /// # Errors
+    /// Want of memory.
+    pub fn reserve(&mut self, count: usize) -> Result<(), AllocError>
+        ensures same { bus_of self.new ≡ bus_of self.old }
+        ensures room { OnOk result (HasRoom count self.new) }
+    {
+        self.known.reserve(count)?;
+        self.recent.reserve(count)
+    }
+
+    /// A frame is put out at the moment `now`, in milliseconds, where there is room for one. What is too old to be
+    /// heard is forgotten, but for the youngest stamp of equal frames. It takes no memory.
+    pub fn put_out(&mut self, put: Put<A>, now: u64)
+        requires { HasRoom 1 self.old }
+        ensures put { bus_of self.new ≡ put_out now put (bus_of self.old) }
+        ensures room { (n : ℕ) → HasRoom (n + 1) self.old → HasRoom n self.new }
+    {
+        let Put { sending, known } = put;
+        learn(&mut self.known, known);
+        follow(&mut self.recent, sending, now);
+    }
+
+    /// What an ear of the bus makes of octets that come to it at the moment `now`, in milliseconds: the frames that
+    /// they end, each judged in its turn, up to the first that is refused. The bus stays as it is.
+    ///
+    /// # Errors
+    /// Want of memory.
+    pub fn hearing(
+        &self,
+        alloc: A,
+        ear: &Ear,
+        octets: &[u8],
+        now: u64,
+    ) -> Result<Hearing<A>, AllocError>
+        ensures { IfOk result (λ hearing. IsHearing now octets.now ear.now (bus_of self.now) hearing) }
+    {
+        let deframer = ear.listening(octets, now);
+        hear(alloc, self.known.as_slice(), deframer, octets, now)
+    }
+
+    /// The ear at a place has heard octets at the moment `now`, in milliseconds, and keeps what is left of its
+    /// deframer. Where the octets are just those of a frame of another station that may still be heard and wasn't yet
+    /// delivered there, the first such is delivered. It takes no memory.
+    pub fn hear(&mut self, place: usize, octets: &[u8], deframer: Deframer, now: u64)
+        requires { place < length self.old.ears.items }
+        ensures { (ear : Ear) → slice_get self.old.ears.items place ≡ Some ear →
+            bus_of self.new ≡ heard_on now place octets.now deframer ear (bus_of self.old) }
+    {
+        let ear = ear_of(&self.ears, place).after(octets, deframer, now);
+        deliver(&mut self.recent, ear.address, octets, now);
+        self.ears[place] = ear;
+    }
+
+    /// The station whose ear is at a place restarts at the moment `now`, in milliseconds: what it heard of a frame is
+    /// gone. It takes no memory.
+    pub fn restart(&mut self, place: usize, now: u64)
+        requires { place < length self.old.ears.items }
+        ensures { (ear : Ear) → slice_get self.old.ears.items place ≡ Some ear →
+            bus_of self.new ≡ restarted now place ear (bus_of self.old) }
+    {
+        self.ears[place] = Ear::new(self.ears[place].address, now);
+    }
+}

@@ -1,0 +1,38 @@
+//! The program `rows_buses`: what is known of the frames that were put out on buses of MS/TP, what an ear there makes
+//! of octets that it hears, and which frame is told next (ANSI/ASHRAE 135, clause 9), run on the rows of its `data/`.
+//!
+//! - `steps`: the steps of a row in words.
+//! - `wires`: buses on which steps are made.
+//! - `shown`: what comes of a step, and all that is known, in words.
+//! - `stepping`: a step in every way.
+#![tactic(auto)]
+
+mod shown;
+mod stepping;
+mod steps;
+mod wires;
+
+use sheets::{Bench, Given, Report, Row};
+use std::alloc::AllocError;
+use std::io;
+
+/// What the rows of the program run on.
+struct BusRows;
+
+impl Bench for BusRows {
+    fn run(
+        given: Given<'_>,
+        _name: &str,
+        rows: &[Row<'_>],
+        report: &mut Report<'_>,
+    ) -> Result<(), AllocError> {
+        for row in rows {
+            report.add(row, stepping::run(given, given.memory, row))?;
+        }
+        Ok(())
+    }
+}
+
+fn main(rt: HostRuntime) -> io::Result<()> {
+    sheets::run_files::<BusRows>(&rt)
+}
