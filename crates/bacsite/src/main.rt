@@ -3,11 +3,12 @@
 //! What its words ask for is told and done by `command_line`.
 #![tactic(auto)]
 
+use command_line::Files;
 use console::say_refused;
 use std::alloc::Global;
 use std::io::Write;
 use std::process::ExitCode;
-use std::{env, io};
+use std::{env, fs, io};
 use tags::Fault;
 
 fn main(rt: HostRuntime) -> ExitCode {
@@ -15,7 +16,13 @@ fn main(rt: HostRuntime) -> ExitCode {
     let mut out = rt.stdout();
     let mut err = rt.stderr();
     match words_of(&rt) {
-        Ok(words) => ExitCode::from(command_line::run(alloc, words.as_slice(), &mut out, &mut err)),
+        Ok(words) => ExitCode::from(command_line::run(
+            alloc,
+            words.as_slice(),
+            &Host(&rt),
+            &mut out,
+            &mut err,
+        )),
         Err(error) if error.kind() == io::ErrorKind::OutOfMemory => {
             ExitCode::from(say_refused(Fault::Memory, &mut err))
         }
@@ -23,6 +30,19 @@ fn main(rt: HostRuntime) -> ExitCode {
             let _ = writeln!(err, "bacsite: {error}");
             ExitCode::from(2)
         }
+    }
+}
+
+/// The files of the operating system.
+#[derive(Clone, Copy)]
+struct Host<'a>(&'a HostRuntime);
+
+impl Files for Host<'_> {
+    // What the operating system holds is known to no contract.
+    ghost reads = { λ _ _ _. Unit {0} };
+
+    fn read(&self, _alloc: Global, name: &str) -> io::Result<Vec<u8>> {
+        fs::read(self.0, name)
     }
 }
 

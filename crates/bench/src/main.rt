@@ -8,6 +8,7 @@
 //! - `frames`: the check of data, and hearing a frame, over 500 octets.
 //! - `managers`: what a broadcast manager forwards.
 //! - `remembered_answers`: finding and executing, with 1, 8 and 64 remembered answers.
+//! - `sites`: judging a large site.
 #![tactic(auto)]
 
 mod clock;
@@ -15,6 +16,7 @@ mod devices;
 mod frames;
 mod managers;
 mod remembered_answers;
+mod sites;
 
 use std::{env, io};
 
@@ -27,5 +29,6 @@ fn main(rt: HostRuntime) -> io::Result<()> {
     remembered_answers::run(&rt, has_times)?;
     frames::run(&rt, has_times)?;
     managers::run(&rt, has_times)?;
-    devices::run(&rt, has_times)
+    devices::run(&rt, has_times)?;
+    sites::run(&rt, has_times)
 }

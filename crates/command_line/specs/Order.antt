@@ -1,11 +1,12 @@
 -- The command line of the program, and what its words ask for.
-use Rattle.std.specs.Prelude.{◌≡◌, ◌≢◌, List, [], Option, Some, None, codes, map, true, option_map}
+use Rattle.std.specs.Prelude.{◌≡◌, ◌≢◌, List, [], Option, Some, None, codes, map, Bool, true, false, option_map}
 use Rattle.std.specs.Prelude.{unwrap_or, string_bytes}
 use Rattle.clap.specs.Lexer.{usize_max}
-use Rattle.clap.specs.Words.{App, Rule, Row, Text, new_app, new_rule, with_rule, with_subcommand, all_of}
-use Rattle.clap.specs.declared.builder.ArgAction.TheVariants.{Append}
+use Rattle.clap.specs.Words.{App, Rule, Row, Text, new_app, new_rule, with_rule, with_subcommand, all_of, first_of, one_of}
+use Rattle.clap.specs.declared.builder.ArgAction.TheVariants.{Append, Set, SetTrue}
 use Rattle.command_line.specs.declared.order.Order.{Order}
-use Rattle.command_line.specs.declared.order.Order.TheVariants.{Answer, Explain}
+use Rattle.command_line.specs.declared.order.Order.TheVariants.{Answer, Explain, Sim}
+use Rattle.command_line.specs.declared.order.Simulation.{Simulation}
 
 -- one word or more, which spell a datagram
 abbrev pub hex_rule : Rule
@@ -26,9 +27,25 @@ bare =
     let app = new_app (codes "bacsite") in
     record app { top = record app.top { subcommand_required = true; has_version = true } }
 
--- the program: answer HEX.., explain HEX..
+-- a word that names a file
+abbrev pub file_rule : Text → Rule
+file_rule id = record (new_rule id) { action = Some Set; value_names = 1; required = true }
+
+-- a flag that is given or not
+abbrev pub trace_rule : Rule
+trace_rule = record (new_rule (codes "trace")) { long = Some (codes "trace"); action = Some SetTrue }
+
+-- the subcommand that runs a script at a site
+abbrev pub sim : App
+sim =
+    with_rule (with_rule (with_rule (new_app (codes "sim")) (file_rule (codes "site"))) (file_rule (codes "script")))
+    trace_rule
+
+-- the program: answer HEX.., explain HEX.., sim SITE SCRIPT [--trace]
 abbrev pub program : App
-program = with_subcommand (with_subcommand bare (tool (codes "answer")).top) (tool (codes "explain")).top
+program =
+    with_subcommand (with_subcommand (with_subcommand bare (tool (codes "answer")).top) (tool (codes "explain")).top)
+    sim.top
 
 -- the subcommand that the words name
 abbrev pub name_of : Option (Text × List Row) → Option Text
@@ -43,9 +60,31 @@ abbrev pub digits_of : Option (Text × List Row) → List Text
 digits_of None = []
 digits_of (Some p) = hex_of p.1
 
+-- the rows of the subcommand that is named
+abbrev pub rows_in : Option (Text × List Row) → List Row
+rows_in None = []
+rows_in (Some p) = p.1
+
+-- the word of this name behind it, which is empty where there is none
+abbrev pub word_of : Text → List Row → Text
+word_of id rows = unwrap_or (first_of id rows) []
+
+-- a flag is given, or isn't
+pub record IsFlag (word : Option Text) (flag : Bool) : Type 0 where
+  pub given : word ≡ Some (codes "true") → flag ≡ true
+  pub other : word ≡ Some (codes "false") → flag ≡ false
+  pub none : word ≡ None → flag ≡ false
+
+-- the simulation is of the files that are named, and is traced where that is asked for
+pub record IsSimulationOf (rows : List Row) (s : Simulation) : Type 0 where
+  pub site : string_bytes s.site ≡ word_of (codes "site") rows
+  pub script : string_bytes s.script ≡ word_of (codes "script") rows
+  pub trace : IsFlag (one_of (codes "trace") rows) s.is_traced
+
 -- the words name no subcommand that there is
 abbrev pub NamesNone : Option (Text × List Row) → Type 0
 NamesNone found = (name_of found ≢ Some (codes "answer")) × (name_of found ≢ Some (codes "explain"))
+    × (name_of found ≢ Some (codes "sim"))
 
 -- the order is the subcommand that the words name, with the words behind it
 abbrev pub IsOrderOf : Option (Text × List Row) → Option Order → Type 0
@@ -54,3 +93,4 @@ IsOrderOf found (Some (Answer words)) =
     (name_of found ≡ Some (codes "answer")) × (map string_bytes words.items ≡ digits_of found)
 IsOrderOf found (Some (Explain words)) =
     (name_of found ≡ Some (codes "explain")) × (map string_bytes words.items ≡ digits_of found)
+IsOrderOf found (Some (Sim s)) = (name_of found ≡ Some (codes "sim")) × IsSimulationOf (rows_in found) s

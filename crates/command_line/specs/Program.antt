@@ -1,5 +1,5 @@
 -- What is done for a command line, and its exit status.
-use Rattle.std.specs.Prelude.{◌≡◌, ◌≢◌, ◌≤◌, ◌⊎◌, ℕ, List, Option, Some, None, Result, Ok, Err, IfOk, map, string_bytes}
+use Rattle.std.specs.Prelude.{◌≡◌, ◌≢◌, ◌≤◌, ◌⊎◌, ℕ, Bool, true, false, List, Option, Some, None, Result, Ok, Err, IfOk, map, string_bytes}
 use Rattle.std.specs.Global.{Global}
 use Rattle.clap.specs.Words.{Text, FailsBy, fault_of, kind_of, subcommand_of}
 use Rattle.clap.specs.declared.error.Error.{Error}
@@ -9,7 +9,11 @@ use Rattle.console.specs.Answer.{Known, text_of, PrintsAnswer}
 use Rattle.console.specs.Builtin.{builtin_device}
 use Rattle.console.specs.Explain.{PrintsExplained}
 use Rattle.command_line.specs.declared.order.Order.{Order}
-use Rattle.command_line.specs.declared.order.Order.TheVariants.{Answer, Explain}
+use Rattle.command_line.specs.declared.order.Order.TheVariants.{Answer, Explain, Sim}
+use Rattle.command_line.specs.declared.order.Simulation.{Simulation}
+use Rattle.site_run.specs.Simulate.{Simulates}
+use Rattle.site_run.specs.declared.running.Telling.{Telling}
+use Rattle.site_run.specs.declared.running.Telling.TheVariants.{Entries, ItemsAndEntries}
 use Rattle.command_line.specs.Order.{program, IsOrderOf}
 
 -- clap was asked for help or the version
@@ -27,19 +31,33 @@ pub record IsStatusOf (kind : ErrorKind) (status : ℕ) : Type 0 where
   pub help : status ≡ 0 → IsHelp kind
   pub few : status ≤ 2
 
+-- what is told of an event, with a trace or without
+abbrev pub telling_of : Bool → Telling
+telling_of true = ItemsAndEntries
+telling_of false = Entries
+
+-- the files of a simulation were read, by what reads them, and what they describe was printed
+pub record PrintsSimulation (reads : List ℕ → List ℕ → Type 0) (s : Simulation) (old new : Known) : Type 0 where
+  pub site : List ℕ
+  pub script : List ℕ
+  pub site_read : reads (string_bytes s.site) site
+  pub script_read : reads (string_bytes s.script) script
+  pub simulates : Simulates Global (telling_of s.is_traced) site script old new
+
 -- what is done for what the words ask for: the status is the tool's, and with status 0 its text is printed
-abbrev pub IsDone : Result (Option Order) Error → ℕ → Known → Known → Type 0
-IsDone (Err e) status old new = IsStatusOf (kind_of e) status
-IsDone (Ok None) status old new = status ≡ 2
-IsDone (Ok (Some (Answer words))) status old new =
+abbrev pub IsDone : (List ℕ → List ℕ → Type 0) → Result (Option Order) Error → ℕ → Known → Known → Type 0
+IsDone reads (Err e) status old new = IsStatusOf (kind_of e) status
+IsDone reads (Ok None) status old new = status ≡ 2
+IsDone reads (Ok (Some (Sim s))) status old new = (status ≤ 1) × (status ≡ 0 → PrintsSimulation reads s old new)
+IsDone reads (Ok (Some (Answer words))) status old new =
     (status ≤ 1)
     × (status ≡ 0 → PrintsAnswer (builtin_device {A = Global}) (text_of (map string_bytes words.items)) old new)
-IsDone (Ok (Some (Explain words))) status old new =
+IsDone reads (Ok (Some (Explain words))) status old new =
     (status ≤ 1) × (status ≡ 0 → PrintsExplained (text_of (map string_bytes words.items)) old new)
 
 -- what clap answers of the words, and what is done for that
-pub record Runs (words : List Text) (status : ℕ) (old new : Known) : Type 0 where
+pub record Runs (reads : List ℕ → List ℕ → Type 0) (words : List Text) (status : ℕ) (old new : Known) : Type 0 where
   pub asked : Result (Option Order) Error
   pub order : IfOk asked (IsOrderOf (subcommand_of program words))
   pub fault : FailsBy (fault_of program words) asked
-  pub done : IsDone asked status old new
+  pub done : IsDone reads asked status old new

@@ -5,12 +5,15 @@
 //! status comes: that of the tool that is asked for, 0 for help, 2 for a fault of the command line,
 //! 1 for want of memory.
 //!
+//! - `files`: where files are read.
 //! - `order`: what the command line asks for.
 //! - `program`: what is done for it.
 #![tactic(auto)]
 
+mod files;
 mod order;
 mod program;
 
-pub use order::{Order, order_of};
+pub use files::Files;
+pub use order::{Order, Simulation, order_of};
 pub use program::run;

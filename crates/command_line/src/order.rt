@@ -3,7 +3,8 @@
 ghost use Rattle.std.specs.Prelude.{◌≡◌, true, false, IfOk, map, string_bytes};
 ghost use Rattle.clap.specs.Words.{app_of, rule_of, rows_of, found_of, with_subcommand};
 ghost use Rattle.clap.specs.Words.{subcommand_of, subcommand_rows_of, FailsBy, fault_of};
-ghost use Rattle.command_line.specs.Order.{program, bare, tool, hex_rule, hex_of, IsOrderOf};
+ghost use Rattle.command_line.specs.Order.{program, bare, tool, hex_rule, hex_of, sim, file_rule, trace_rule, word_of};
+ghost use Rattle.command_line.specs.Order.{IsOrderOf, IsSimulationOf};
 
 use clap::{Arg, ArgAction, ArgMatches, Command, Error};
 use std::alloc::{AllocError, Global};
@@ -18,6 +19,19 @@ pub enum Order {
     Answer(Vec<String>),
     /// Take the datagram apart that these words spell.
     Explain(Vec<String>),
+    /// Run a script at a site.
+    Sim(Simulation),
+}
+
+/// Which script is run at which site, and what is printed of it.
+#[derive(Drop)]
+pub struct Simulation {
+    /// The name of the site's file.
+    pub site: String,
+    /// The name of the script's file.
+    pub script: String,
+    /// Whether each datagram is printed that is put out.
+    pub is_traced: bool,
 }
 
 /// What the words ask for, the first of them being the program's name: `None` where they name
@@ -52,7 +66,31 @@ fn order_in(alloc: Global, matches: &ArgMatches<'_>) -> Result<Option<Order>, Al
     if let Some(explain) = matches.subcommand_matches("explain") {
         return Ok(Some(Order::Explain(hex_words(alloc, explain)?)));
     }
+    if let Some(sim) = matches.subcommand_matches("sim") {
+        return Ok(Some(Order::Sim(simulation_in(alloc, sim)?)));
+    }
     Ok(None)
+}
+
+/// The simulation that is asked for.
+fn simulation_in(alloc: Global, matches: &ArgMatches<'_>) -> Result<Simulation, AllocError>
+    ensures { IfOk result (IsSimulationOf (rows_of (found_of matches.now))) }
+{
+    Ok(Simulation {
+        site: word(alloc, matches, "site")?,
+        script: word(alloc, matches, "script")?,
+        is_traced: matches.get_flag("trace"),
+    })
+}
+
+/// The word of an argument, which is empty where there is none.
+fn word(alloc: Global, matches: &ArgMatches<'_>, id: &str) -> Result<String, AllocError>
+    ensures { IfOk result (λ word. string_bytes word ≡ word_of id.now (rows_of (found_of matches.now))) }
+{
+    match matches.get_str(id) {
+        Some(word) => String::from_str(alloc, word),
+        None => Ok(String::new(alloc)),
+    }
 }
 
 /// The commands of the program.
@@ -69,8 +107,54 @@ fn command<'a>(alloc: Global) -> Result<Command<'a>, AllocError>
         "explain",
         "Takes a BACnet/IP datagram apart: its headers, and its tags one by one",
     )?;
+    let sim = sim(alloc)?;
     let command = add(bare(alloc), answer)?;
-    add(command, explain)
+    let command = add(command, explain)?;
+    add(command, sim)
+}
+
+/// The command that runs a script at a site.
+fn sim<'a>(alloc: Global) -> Result<Command<'a>, AllocError>
+    ensures { IfOk result (λ c. app_of c ≡ sim) }
+{
+    Command::new(alloc, "sim")
+        .about("Runs a script at a site, and prints what comes of it")
+        .arg(file(
+            alloc,
+            "site",
+            "SITE",
+            "A TOML file of networks and stations, as docs/site-file.md says",
+        ))?
+        .arg(file(
+            alloc,
+            "script",
+            "SCRIPT",
+            "A text with a step on each line, as docs/script.md says",
+        ))?
+        .arg(trace(alloc))
+}
+
+/// The name of a file.
+fn file<'a>(alloc: Global, id: &'a str, name: &'a str, help: &'a str) -> Arg<'a>
+    ensures rule { rule_of result ≡ file_rule id.entry.now }
+    ensures own { result.global ≡ false }
+{
+    Arg::new(alloc, id)
+        .value_name(name)
+        .required(true)
+        .action(ArgAction::Set)
+        .help(help)
+}
+
+/// Whether items are printed.
+fn trace<'a>(alloc: Global) -> Arg<'a>
+    ensures rule { rule_of result ≡ trace_rule }
+    ensures own { result.global ≡ false }
+{
+    Arg::new(alloc, "trace")
+        .long("trace")
+        .action(ArgAction::SetTrue)
+        .help("Prints each datagram that is put out, with the number by which `deliver` names it")
 }
 
 /// A command with a subcommand more.

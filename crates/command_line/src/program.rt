@@ -1,42 +1,128 @@
 //! The program behind its command line.
 
-ghost use Rattle.std.specs.Prelude.{map, string_bytes};
+ghost use Rattle.std.specs.Prelude.{◌≡◌, ◌≤◌, IfOk, map, string_bytes};
+ghost use Rattle.std.specs.Global.{Global};
 ghost use Rattle.clap.specs.Words.{kind_of};
-ghost use Rattle.command_line.specs.Program.{Runs, IsDone, IsStatusOf};
+ghost use Rattle.command_line.specs.Program.{Runs, IsDone, IsStatusOf, PrintsSimulation, telling_of};
+ghost use Rattle.site_run.specs.Simulate.{Simulates};
 
-use crate::order::{Order, order_of};
+use crate::files::Files;
+use crate::order::{Order, Simulation, order_of};
 use clap::Error;
 use clap::error::ErrorKind;
 use console::{answer_line, explain_line, say_failed, say_refused};
+use site_run::{simulate, simulate_traced};
 use std::alloc::Global;
+use std::io;
 use std::io::Write;
 use tags::Fault;
 
 /// Does what the words ask for, the first of them being the program's name, and answers the exit
 /// status: 0, also for help, which is printed on `out`; 1 for what a command refuses, a failed
 /// write and want of memory; 2 for a fault of the command line, which is printed on `err`.
-pub fn run<W: Write, E: Write>(alloc: Global, words: &[String], out: &mut W, err: &mut E) -> u8
-    ensures runs { Runs (map string_bytes words.now) result (W.contents out.old) (W.contents out.new) }
-{
-    let asked = order_of(alloc, words);
-    done(alloc, &asked, out, err)
-}
-
-/// Does what is asked for, and answers the exit status.
-fn done<W: Write, E: Write>(
+pub fn run<F: Files, W: Write, E: Write>(
     alloc: Global,
-    asked: &Result<Option<Order>, Error>,
+    words: &[String],
+    files: &F,
     out: &mut W,
     err: &mut E,
 ) -> u8
-    ensures { IsDone asked.now result (W.contents out.old) (W.contents out.new) }
+    ensures runs { Runs (F.reads files.now) (map string_bytes words.now) result
+        (W.contents out.old) (W.contents out.new) }
+{
+    let asked = order_of(alloc, words);
+    done(alloc, &asked, files, out, err)
+}
+
+/// Does what is asked for, and answers the exit status.
+fn done<F: Files, W: Write, E: Write>(
+    alloc: Global,
+    asked: &Result<Option<Order>, Error>,
+    files: &F,
+    out: &mut W,
+    err: &mut E,
+) -> u8
+    ensures { IsDone (F.reads files.now) asked.now result (W.contents out.old) (W.contents out.new) }
 {
     match asked {
         Ok(Some(Order::Answer(words))) => answer_line(alloc, words.as_slice(), out, err),
         Ok(Some(Order::Explain(words))) => explain_line(alloc, words.as_slice(), out, err),
+        Ok(Some(Order::Sim(simulation))) => sim(alloc, simulation, files, out, err),
         Ok(None) => 2,
         Err(error) => show(error, out, err),
     }
+}
+
+/// Reads the files of a simulation, the site first, and runs it.
+fn sim<F: Files, W: Write, E: Write>(
+    alloc: Global,
+    simulation: &Simulation,
+    files: &F,
+    out: &mut W,
+    err: &mut E,
+) -> u8
+    ensures status { result ≤ 1 }
+    ensures simulates { result ≡ 0
+        → PrintsSimulation (F.reads files.now) simulation.now (W.contents out.old) (W.contents out.new) }
+{
+    match texts_of(alloc, simulation, files) {
+        Ok((site, script)) => {
+            run_texts(
+                alloc,
+                site.as_slice(),
+                script.as_slice(),
+                simulation.is_traced,
+                out,
+                err,
+            )
+        }
+        Err(error) => say_unread(&error, err),
+    }
+}
+
+/// The octets of the site's file and of the script's.
+fn texts_of<F: Files>(
+    alloc: Global,
+    simulation: &Simulation,
+    files: &F,
+) -> io::Result<(Vec<u8>, Vec<u8>)>
+    ensures site { IfOk result (λ texts. F.reads files.now (string_bytes simulation.now.site) texts.0.items) }
+    ensures script { IfOk result (λ texts. F.reads files.now (string_bytes simulation.now.script) texts.1.items) }
+{
+    let site = files.read(alloc, simulation.site.as_str())?;
+    let script = files.read(alloc, simulation.script.as_str())?;
+    Ok((site, script))
+}
+
+/// Runs a script at a site, with a trace or without.
+fn run_texts<W: Write, E: Write>(
+    alloc: Global,
+    site: &[u8],
+    script: &[u8],
+    is_traced: bool,
+    out: &mut W,
+    err: &mut E,
+) -> u8
+    ensures status { result ≤ 1 }
+    ensures simulates { result ≡ 0
+        → Simulates Global (telling_of is_traced) site.now script.now (W.contents out.old) (W.contents out.new) }
+{
+    if is_traced {
+        simulate_traced(alloc, alloc, site, script, out, err)
+    } else {
+        simulate(alloc, alloc, site, script, out, err)
+    }
+}
+
+/// Tells that a file can't be read, or want of memory, and answers the exit status.
+fn say_unread<E: Write>(error: &io::Error, err: &mut E) -> u8
+    ensures { result ≡ 1 }
+{
+    if error.kind() == io::ErrorKind::OutOfMemory {
+        return say_refused(Fault::Memory, err);
+    }
+    let _ = writeln!(err, "bacsite: file");
+    1
 }
 
 /// Prints why there is nothing to do, and answers the exit status.

@@ -1,5 +1,6 @@
 //! Rows of command lines: `bacsite answer 8 -> 1: ! bacsite: hex`; `..` stands for text of clap's.
 
+use crate::files::Texts;
 use crate::said::{Said, words_of};
 use sheets::{Counts, Stop, compare, differs};
 use std::alloc::Global;
@@ -12,7 +13,7 @@ pub(crate) fn run(alloc: Global, asked: &str, wanted: &str) -> Result<Counts, St
     let words = words_of(alloc, asked)?;
     let mut out = Vec::new(alloc);
     let mut err = Vec::new(alloc);
-    let status = command_line::run(alloc, words.as_slice(), &mut out, &mut err);
+    let status = command_line::run(alloc, words.as_slice(), &Texts, &mut out, &mut err);
     if out.is_empty() == err.is_empty() {
         return Err(differs(alloc, "text on both or neither of the outputs"));
     }

@@ -8,6 +8,7 @@
 //! - `executor`: what an executor replies and leaves.
 //! - `tool`: what `answer` and `explain` print; `said` has it in words.
 //! - `lines`: command lines, what they print, and their exit status.
+//! - `files`: files that command lines name.
 //! - `headers`: what datagrams carry.
 //! - `in_turn`: what a device says to datagrams in turn.
 //! - `writers`: the exit status where a writer fails.
@@ -18,6 +19,7 @@
 
 mod bodies;
 mod executor;
+mod files;
 mod headers;
 mod in_turn;
 mod kinds;

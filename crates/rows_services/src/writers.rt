@@ -1,6 +1,7 @@
 //! Rows of writers that fail: `explain 96 WORDS -> 0`, the exit status of a tool, or of a command line
 //! (`line`), where standard output takes so many octets and standard error none. With any less it is 1.
 
+use crate::files::Texts;
 use crate::said::words_of;
 use console::{answer_line, explain_line};
 use sheets::{Counts, Part, Stop, differs, number, run_text, two_words};
@@ -55,7 +56,7 @@ fn status(alloc: Global, tool: &str, words: &[String], room: usize) -> Result<u8
     match tool {
         "answer" => Ok(answer_line(alloc, words, &mut out, &mut err)),
         "explain" => Ok(explain_line(alloc, words, &mut out, &mut err)),
-        "line" => Ok(command_line::run(alloc, words, &mut out, &mut err)),
+        "line" => Ok(command_line::run(alloc, words, &Texts, &mut out, &mut err)),
         _ => Err(Stop::Unread(Part::Asked)),
     }
 }

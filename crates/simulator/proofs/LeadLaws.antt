@@ -81,7 +81,7 @@ module _ {A : Type 0} (w v : WorldState A) (stands : Stands w) where
 
   -- an item is handed to its addressee
   module _ (s0 : ObjectSite A) (number : ℕ) (d : Delivers number w v) where
-    host : IsHost w.moment d.s
+    pub host : IsHost w.moment d.s
     host = host_of d.place d.s d.acts.there
 
     abbrev x : Station
@@ -99,10 +99,10 @@ module _ {A : Type 0} (w v : WorldState A) (stands : Stands w) where
         carries_on (λ y p. Has d.told.told.said p) (x ∷ []) w.moment d.port d.item.from d.item.octets d.item.stamp d.s
         d.told d.next (quiet d.told.told.said d.s host) (λ p there y e. there) d.hears
 
-    same : map (λ i. thing_of i) (delivered number d.item w.items) ≡ map (λ i. thing_of i) w.items
+    pub same : map (λ i. thing_of i) (delivered number d.item w.items) ≡ map (λ i. thing_of i) w.items
     same = marked_same w.items number d.item d.there
 
-    comes_up : (p : Parcel A) → HearsAt Hears w.moment d.port d.item.from d.item.octets d.item.stamp d.s.ports [] (Some p)
+    pub comes_up : (p : Parcel A) → HearsAt Hears w.moment d.port d.item.from d.item.octets d.item.stamp d.s.ports [] (Some p)
         d.hears.middle d.hears.middle_out → plain_world.Delivers (plain w) x.net x.mac p
     comes_up p heard =
         let places : map (λ l. ip.station_of l) d.s.ports ≡ x ∷ [] =

@@ -10,3 +10,4 @@ pub mod EventLaws
 pub mod LedLaws
 pub mod FreshLaws
 pub mod FlowLaws
+pub mod HeardLaws

@@ -5,3 +5,4 @@ pub mod Doing
 pub mod Flows
 pub mod Refusals
 pub mod Laws
+pub mod Heard

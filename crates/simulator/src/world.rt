@@ -3,7 +3,8 @@
 ghost use Rattle.std.specs.Prelude.{◌≡◌, ◌⊎◌, IfOk, IfErr, IfNone, IfSome, OnOk, OnErr};
 ghost use Rattle.std.specs.List.{AllByRecursion};
 ghost use Rattle.carry.specs.Things.{AreCarried};
-ghost use Rattle.carry_world.specs.Laws.{AllHearSaid, ExecutedIsIssued, IsLegal, OutcomesAreOfIssues, WholeIsIssued};
+ghost use Rattle.carry_world.specs.Laws.{IsLegal, WholeIsIssued};
+ghost use Rattle.simulator.specs.Heard.{ExecutedWasIssued, HeardWasSaid, OutcomesHaveIssues};
 ghost use Rattle.hosts.specs.Subnets.{IsMore, IsOneSubnet};
 ghost use Rattle.simulator.specs.Finding.{HasNoTable, HasTable};
 ghost use Rattle.simulator.specs.Flows.{IsLess, left_of};
@@ -125,9 +126,9 @@ impl<A: Allocator + Copy> World<A> {
         ensures cause { IfErr result (λ fault. IsRefused event.now self.old fault) }
         ensures unchanged { OnErr result (self.new ≡ self.old) }
         ensures site { self.new.site ≡ self.old.site }
-        ensures heard { AllHearSaid (plain self.old) }
-        ensures executed { ExecutedIsIssued (plain self.old) }
-        ensures outcomes { OutcomesAreOfIssues (plain self.old) }
+        ensures heard { HeardWasSaid event.now self.old self.new }
+        ensures executed { ExecutedWasIssued event.now self.old self.new }
+        ensures outcomes { OutcomesHaveIssues event.now self.old self.new }
     {
         self.internetwork.step(event)
     }

@@ -1,8 +1,10 @@
 //! Numbers, and octets as pairs of hexadecimal digits.
 
-ghost use Rattle.std.specs.Prelude.{◌≡◌, ◌⊎◌, Ok, IfOk, IfErr};
+ghost use Rattle.std.specs.Prelude.{◌≡◌, ◌⊎◌, Ok, Some, IfOk, IfErr, flat_map};
+ghost use Rattle.std.specs.Fmt.{WritesOnOk};
 ghost use Rattle.hex.specs.Hex.{decode_of};
 ghost use Rattle.words.specs.Digits.{IsNumber, NoNumber, SaysOctets, NoOctets, NoPairs};
+ghost use Rattle.words.specs.Printed.{octets_text, pair_of};
 ghost use Rattle.words.specs.Says.{SaysSigned, SaysUnsigned};
 ghost use Rattle.words.specs.Unsaid.{NoSigned, NoUnsigned};
 
@@ -113,13 +115,23 @@ fn decoded<A: Allocator + Copy>(alloc: A, word: &str) -> Result<Octets<A>, Unrea
 pub struct Hex<'a>(pub &'a [u8]);
 
 impl<'a> fmt::Display for Hex<'a> {
+    ghost output = { λ h. Some (octets_text h.0.now) };
+
+    #[tactic(auto, unfolding(crate::specs::Printed::octets_text))]
     fn fmt<W: fmt::Write>(&self, f: &mut fmt::Formatter<W>) -> fmt::Result {
         if self.0.is_empty() {
             return f.write_str("-");
         }
-        for octet in self.0 {
-            write!(f, "{octet:02X}")?;
-        }
-        Ok(())
+        fmt_pairs(self.0, f)
     }
+}
+
+/// Prints octets as two upper-case digits each.
+fn fmt_pairs<W: fmt::Write>(octets: &[u8], f: &mut fmt::Formatter<W>) -> fmt::Result
+    ensures { WritesOnOk W.write_str_gives f.old result (flat_map pair_of octets.now) f.new }
+{
+    for octet in octets {
+        write!(f, "{octet:02X}")?;
+    }
+    Ok(())
 }

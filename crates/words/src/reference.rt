@@ -1,6 +1,7 @@
 //! Objects, as `5:1`, and properties or elements of them, as `85` or `87/17`.
 
-ghost use Rattle.std.specs.Prelude.{◌≡◌, ◌⊎◌, IfOk, IfErr};
+ghost use Rattle.std.specs.Prelude.{◌≡◌, ◌⊎◌, Some, IfOk, IfErr};
+ghost use Rattle.words.specs.Printed.{object_text, reference_text};
 ghost use Rattle.words.specs.Says.{Has, HasNo, SaysObject, SaysReference, colon};
 ghost use Rattle.words.specs.Unsaid.{NoObject, NoReference};
 
@@ -32,6 +33,9 @@ pub fn parse_object(word: &str) -> Result<ObjectId, Unread>
 }
 
 impl<'a> fmt::Display for Words<'a, ObjectId> {
+    ghost output = { λ w. Some (object_text w.0.now) };
+
+    #[tactic(auto, unfolding(crate::specs::Printed::object_text))]
     fn fmt<W: fmt::Write>(&self, f: &mut fmt::Formatter<W>) -> fmt::Result {
         let ObjectId {
             object_type,
@@ -63,6 +67,9 @@ pub fn parse_reference(word: &str) -> Result<PropertyReference, Unread>
 }
 
 impl<'a> fmt::Display for Words<'a, PropertyReference> {
+    ghost output = { λ w. Some (reference_text w.0.now) };
+
+    #[tactic(auto, unfolding(crate::specs::Printed::reference_text, crate::specs::Printed::property_text))]
     fn fmt<W: fmt::Write>(&self, f: &mut fmt::Formatter<W>) -> fmt::Result {
         let property = self.0.property;
         match self.0.index {

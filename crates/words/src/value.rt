@@ -1,8 +1,10 @@
 //! Values: `null`, `bool true`, `unsigned 7`, `signed -7`, `enum 1`, `object 5:1`, `text 6F6E`,
 //! `text/4 0041`, `bits 4 F0`, `other 10 7C0C1601`, `built 0901`; several are parted by `, `.
 
-ghost use Rattle.std.specs.Prelude.{◌≡◌, ◌⊎◌, IfOk, IfErr, option_map};
+ghost use Rattle.std.specs.Prelude.{◌≡◌, ◌⊎◌, ◌++◌, Some, IfOk, IfErr, codes, flat_map, option_map};
+ghost use Rattle.std.specs.Fmt.{WritesOnOk};
 ghost use Rattle.tags.specs.Value.{IsSound};
+ghost use Rattle.words.specs.Printed.{text_text, value_text, values_text};
 ghost use Rattle.words.specs.Says.{SaysBool, SaysNumbered, SaysSet, SaysValue};
 ghost use Rattle.words.specs.Requests.{SaysGiven, SaysValues};
 ghost use Rattle.words.specs.NoRequests.{NoGiven, NoValues};
@@ -142,10 +144,14 @@ fn numbered<A: Allocator + Copy>(alloc: A, words: &str) -> Result<(u8, Octets<A>
 }
 
 impl<'a, A: Allocator> fmt::Display for Words<'a, Value<A>> {
+    ghost output = { λ w. Some (value_text w.0.now) };
+
+    #[tactic(auto, unfolding(crate::specs::Printed::value_text, crate::specs::Printed::numbered_text))]
     fn fmt<W: fmt::Write>(&self, f: &mut fmt::Formatter<W>) -> fmt::Result {
         match self.0 {
             Value::Null => f.write_str("null"),
-            Value::Bool(value) => write!(f, "bool {value}"),
+            Value::Bool(true) => f.write_str("bool true"),
+            Value::Bool(false) => f.write_str("bool false"),
             Value::Unsigned(number) => write!(f, "unsigned {number}"),
             Value::Signed(number) => write!(f, "signed {number}"),
             Value::Enum(number) => write!(f, "enum {number}"),
@@ -161,20 +167,40 @@ impl<'a, A: Allocator> fmt::Display for Words<'a, Value<A>> {
 }
 
 /// Prints a text, with its set where that is not 0.
-fn fmt_text<W: fmt::Write>(set: u8, octets: &[u8], f: &mut fmt::Formatter<W>) -> fmt::Result {
-    match set {
-        0 => write!(f, "text {}", Hex(octets)),
-        _ => write!(f, "text/{set} {}", Hex(octets)),
+#[tactic(auto, unfolding(crate::specs::Printed::text_text, crate::specs::Printed::numbered_text))]
+fn fmt_text<W: fmt::Write>(set: u8, octets: &[u8], f: &mut fmt::Formatter<W>) -> fmt::Result
+    ensures { WritesOnOk W.write_str_gives f.old result (text_text set octets.now) f.new }
+{
+    if set == 0 {
+        return write!(f, "text {}", Hex(octets));
     }
+    write!(f, "text/{set} {}", Hex(octets))
 }
 
 impl<'a, A: Allocator> fmt::Display for Words<'a, Values<A>> {
+    ghost output = { λ w. Some (values_text w.0.now) };
+
+    #[tactic(auto, unfolding(crate::specs::Printed::values_text))]
     fn fmt<W: fmt::Write>(&self, f: &mut fmt::Formatter<W>) -> fmt::Result {
-        let mut before = "";
-        for value in self.0.as_slice() {
-            write!(f, "{before}{}", Words(value))?;
-            before = ", ";
+        match self.0.as_slice() {
+            [] => Ok(()),
+            [first, rest @ ..] => {
+                write!(f, "{}", Words(first))?;
+                fmt_more(rest, f)
+            }
         }
-        Ok(())
     }
+}
+
+/// Prints values, each behind a comma and a space.
+fn fmt_more<A: Allocator, W: fmt::Write>(
+    values: &[Value<A>],
+    f: &mut fmt::Formatter<W>,
+) -> fmt::Result
+    ensures { WritesOnOk W.write_str_gives f.old result (flat_map (λ v. codes ", " ++ value_text v) values.now) f.new }
+{
+    for value in values {
+        write!(f, ", {}", Words(value))?;
+    }
+    Ok(())
 }

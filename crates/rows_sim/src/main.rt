@@ -1,0 +1,54 @@
+//! The program `rows_sim`: rows of text on what is printed of a script at a site: histories, refusals, items and exit
+//! statuses (ANSI/ASHRAE 135, clauses 5.4, 6, 12, 15, 16.10, 20.1 and J). It reads each file of its folder `data`, runs
+//! each row, and prints a line for each row that differs and one with the counts of each file.
+//!
+//! - `examples`: sites and scripts as files, with what is printed of them.
+//! - `blocks`: sites, scripts and texts that rows describe.
+//! - `repeated`: words that stand for many.
+//! - `runs`: what is printed of a script, also where an allocation is refused.
+#![tactic(auto)]
+
+mod blocks;
+mod examples;
+mod repeated;
+mod runs;
+
+use sheets::{Bench, Counts, Given, Part, Report, Row, Stop, two_words};
+use std::alloc::AllocError;
+use std::io;
+
+/// What the rows of the program run on.
+struct Sim;
+
+impl Bench for Sim {
+    fn run(
+        given: Given<'_>,
+        _name: &str,
+        rows: &[Row<'_>],
+        report: &mut Report<'_>,
+    ) -> Result<(), AllocError> {
+        for row in rows {
+            report.add(row, run_row(given, rows, row))?;
+        }
+        Ok(())
+    }
+}
+
+/// Runs a row. Rows that describe a site, a script or a text are read where it is asked for.
+fn run_row(given: Given<'_>, rows: &[Row<'_>], row: &Row<'_>) -> Result<Counts, Stop> {
+    let Some(wanted) = row.wanted else {
+        return Ok(Counts::none());
+    };
+    let (word, words) = two_words(row.asked);
+    match word {
+        "sim" => runs::run_plain(given, rows, words, wanted),
+        "trace" => runs::run_traced(given, rows, words, wanted),
+        "item" => runs::run_item(given, rows, words, wanted),
+        _ => Err(Stop::Unread(Part::Asked)),
+    }
+}
+
+fn main(rt: HostRuntime) -> io::Result<()> {
+    sheets::run_files::<Sim>(&rt)?;
+    examples::run_examples(&rt)
+}

@@ -1,0 +1,12 @@
+use Rattle.std.specs.List.{AllByRecursion}
+use Rattle.script.specs.Steps.{IsSoundStep}
+use Rattle.simulator.specs.World.{WorldState}
+use Rattle.site_run.specs.Running.{Known, PrintsSteps}
+use Rattle.site_run.proofs.running.take_steps.Given as goal
+
+-- what the rest leads to, all lead to
+abbrev pub invariant-loop-step : goal.invariant-loop-step
+invariant-loop-step g l =
+    AllByRecursion IsSoundStep l.step-iterator.rest.items
+    × ((v : WorldState _) (new : Known) → PrintsSteps l.telling l.step-iterator.rest.items l.world v (g.W.Write.contents l.out) new →
+    PrintsSteps l.telling l.fn.steps l.fn.world v (g.W.Write.contents l.fn.out) new)

@@ -1,0 +1,5 @@
+pub mod Counting
+pub mod Naming
+pub mod Printed
+pub mod Running
+pub mod Simulate

@@ -1,0 +1,44 @@
+-- What is printed of a script at a site, as their texts describe them.
+use Rattle.std.specs.Prelude.{◌≡◌, ℕ, List}
+use Rattle.std.specs.Io.KnownBytes.{Appends}
+use Rattle.std.specs.List.{AllByRecursion}
+use Rattle.carry_world.specs.Laws.{IsLegal}
+use Rattle.script.specs.Lines.{SaysSteps}
+use Rattle.script.specs.Steps.{IsSoundStep}
+use Rattle.script.specs.declared.step.Step.{Step}
+use Rattle.hosts.specs.Opening.{object_site}
+use Rattle.hosts.specs.Stations.{devices_of}
+use Rattle.simulator.specs.World.{WorldState, fresh_world}
+use Rattle.site.specs.Sound.{IsSound}
+use Rattle.site_parts.specs.declared.parts.Parts.{Parts}
+use Rattle.site_text.specs.Document.{IsDocument}
+use Rattle.site_run.specs.Counting.{counts_of}
+use Rattle.site_run.specs.Printed.{end_text, line}
+use Rattle.site_run.specs.Running.{Known, PrintsSteps}
+use Rattle.site_run.specs.declared.running.Telling.{Telling}
+
+-- a world opens at the site that a document describes, and these are the steps of a script
+pub record IsOpened {A : Type 0} (site script : List ℕ) (fresh : WorldState A) (steps : List (Step A)) : Type 0 where
+  pub document : IsDocument site
+  pub parts : Parts A
+  pub sound : IsSound parts
+  pub opens : fresh ≡ fresh_world parts
+  pub said : SaysSteps script steps
+  pub fit : AllByRecursion IsSoundStep steps
+
+-- steps were taken in a world, one after another, each is printed, and at last what there was of all; the history that
+-- was printed is legal (5.4)
+pub record PrintsRun {A : Type 0} (t : Telling) (steps : List (Step A)) (fresh : WorldState A) (old new : Known) :
+    Type 0 where
+  pub left : WorldState A
+  pub at_end : Known
+  pub taken : PrintsSteps t steps fresh left old at_end
+  pub end_printed : Appends at_end new (line (end_text (counts_of left.history) left.moment))
+  pub legal : IsLegal (object_site left.site) left.history (devices_of left.stations)
+
+-- the texts are those of a sound site and of a script, and its steps were taken there
+pub record Simulates (A : Type 0) (t : Telling) (site script : List ℕ) (old new : Known) : Type 0 where
+  pub fresh : WorldState A
+  pub steps : List (Step A)
+  pub opened : IsOpened site script fresh steps
+  pub run : PrintsRun t steps fresh old new

@@ -1,0 +1,23 @@
+//! A script at a site, from two texts to what is printed of it (ANSI/ASHRAE 135, clause 5.4, written for a person to
+//! read): `bacsite sim` without its command line.
+//!
+//! To the layer above it promises: with status 0 the one text is a TOML document of a sound site, and each line of the
+//! other one asks for a step; what was printed tells, line by line, what comes of these steps in their order in a world
+//! of that site, each refusal at its place; and the history that it tells is legal: no issue is executed twice, and each
+//! answer is the reply of its one execution.
+//!
+//! - `naming`: the names of stations.
+//! - `printed`: the lines that are printed.
+//! - `counting`: what the last line counts.
+//! - `running`: the steps of a script, one after another.
+//! - `simulating`: the two texts, and the exit status.
+#![tactic(auto)]
+
+mod counting;
+mod naming;
+mod printed;
+mod running;
+mod simulating;
+
+pub use running::Telling;
+pub use simulating::{simulate, simulate_traced};

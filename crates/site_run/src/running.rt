@@ -1,0 +1,288 @@
+//! The steps of a script in a world, one after another, and what is printed of each.
+
+ghost use Rattle.std.specs.Prelude.{◌≡◌, ◌<◌, ◌+◌, ◌^◌, OnOk, drop, length};
+ghost use Rattle.std.specs.Io.KnownBytes.{Appends};
+ghost use Rattle.std.specs.List.{AllByRecursion};
+ghost use Rattle.script.specs.Steps.{IsSoundStep};
+ghost use Rattle.script.specs.declared.step.Step.TheVariants as step;
+ghost use Rattle.simulator.specs.Step.{IsSoundEvent};
+ghost use Rattle.site_run.specs.Printed.{entries_text, entry_text, item_text, items_text, line, refused_text};
+ghost use Rattle.site_run.specs.Running.{PrintsAll, PrintsEvent, PrintsGrowth, PrintsStep, PrintsSteps, items_told};
+
+use crate::printed::{EntryLine, ItemLine, RefusedLine};
+use chronicle::WorldEntry;
+use script::Step;
+use simulator::{Event, Flow, World};
+use site_parts::Station;
+use std::alloc::Allocator;
+use std::io;
+use std::io::Write;
+use tags::{Fault, Items};
+use traffic::Item;
+
+/// What is told of an event.
+#[derive(Clone, Copy, Debug, PartialEq, Eq)]
+pub enum Telling {
+    /// The entries of the history.
+    Entries,
+    /// Before them each item that was put out.
+    ItemsAndEntries,
+}
+
+/// Takes the steps in their order, and prints what comes of each.
+///
+/// # Errors
+/// Those of writing.
+#[tactic(auto, using(crate::proofs::RunLaws::run_rules))]
+pub(crate) fn take_steps<A: Allocator + Copy, W: Write>(
+    world: &mut World<A>,
+    steps: Items<Step<A>, A>,
+    telling: Telling,
+    out: &mut W,
+) -> io::Result<()>
+    requires sound { AllByRecursion IsSoundStep steps }
+    ensures { OnOk result (PrintsSteps telling steps world.old world.new (W.contents out.old) (W.contents out.new)) }
+{
+    for step in steps.into_vec() {
+        take_step(world, step, telling, out)?;
+    }
+    Ok(())
+}
+
+/// Takes a step: an event, or a flow of them.
+fn take_step<A: Allocator + Copy, W: Write>(
+    world: &mut World<A>,
+    step: Step<A>,
+    telling: Telling,
+    out: &mut W,
+) -> io::Result<()>
+    requires sound { IsSoundStep step }
+    ensures { OnOk result (PrintsStep telling step world.old world.new (W.contents out.old) (W.contents out.new)) }
+{
+    match step {
+        Step::Issue {
+            client,
+            instance,
+            request,
+        } => {
+            let event = Event::Issue {
+                client,
+                instance,
+                request,
+            };
+            make(world, &event, telling, out)
+        }
+        Step::WhoIs { client, limits } => make(
+            world,
+            &Event::WhoIs { client, limits },
+            telling,
+            out,
+        ),
+        Step::Tick(n) => make(world, &Event::Tick(n), telling, out),
+        Step::Wake(station) => make(world, &Event::Wake(station), telling, out),
+        Step::Deliver(number) => make(world, &Event::Deliver(number), telling, out),
+        Step::Hear {
+            network,
+            station,
+            octets,
+        } => {
+            let event = Event::Hear {
+                network,
+                station,
+                octets,
+            };
+            make(world, &event, telling, out)
+        }
+        Step::Register(station) => make(world, &Event::Register(station), telling, out),
+        Step::Restart(station) => make(world, &Event::Restart(station), telling, out),
+        Step::Flow(n) => flow(world, n, telling, out),
+    }
+}
+
+/// Makes the events of a flow, each of which may be refused.
+fn flow<A: Allocator + Copy, W: Write>(
+    world: &mut World<A>,
+    n: u64,
+    telling: Telling,
+    out: &mut W,
+) -> io::Result<()>
+    ensures { OnOk result
+        (PrintsStep telling (step.Flow n) world.old world.new (W.contents out.old) (W.contents out.new)) }
+{
+    match Flow::new(n) {
+        Ok(flow) => make_all(world, flow, telling, out),
+        Err(fault) => print_refusal(fault, world.moment(), out),
+    }
+}
+
+/// Makes the events of a flow, one after another, up to its end, or until there is no memory for the next one.
+#[tactic(auto, using(crate::proofs::RunLaws::run_rules))]
+fn make_all<A: Allocator + Copy, W: Write>(
+    world: &mut World<A>,
+    flow: Flow,
+    telling: Telling,
+    out: &mut W,
+) -> io::Result<()>
+    ensures { OnOk result
+        (PrintsAll telling world.old world.new (W.contents out.old) (W.contents out.new)) }
+{
+    let mut flow = flow;
+    let mut next = world.next_of(&mut flow);
+    while let Ok(Some(event)) = next {
+        make(world, &event, telling, out)?;
+        next = world.next_of(&mut flow);
+    }
+    match next {
+        Ok(_) => Ok(()),
+        Err(fault) => print_refusal(fault, world.moment(), out),
+    }
+}
+
+/// Makes an event, and prints what comes of it.
+fn make<A: Allocator + Copy, W: Write>(
+    world: &mut World<A>,
+    event: &Event<A>,
+    telling: Telling,
+    out: &mut W,
+) -> io::Result<()>
+    requires sound { IsSoundEvent event.now }
+    ensures { OnOk result
+        (PrintsEvent telling event.now world.old world.new (W.contents out.old) (W.contents out.new)) }
+{
+    let items = world.items().len();
+    let entries = world.history().len();
+    match world.step(event) {
+        Ok(()) => print_growth(world, items, entries, telling, out),
+        Err(fault) => print_refusal(fault, world.moment(), out),
+    }
+}
+
+/// Prints that an event was refused.
+fn print_refusal<W: Write>(fault: Fault, moment: u64, out: &mut W) -> io::Result<()>
+    ensures { OnOk result (Appends (W.contents out.old) (W.contents out.new) (line (refused_text fault moment))) }
+{
+    writeln!(out, "{}", RefusedLine { fault, moment })
+}
+
+/// Prints what a world grew by behind so many items and entries.
+#[tactic(auto, using(crate::proofs::RunLaws::run_rules))]
+fn print_growth<A: Allocator + Copy, W: Write>(
+    world: &World<A>,
+    items: usize,
+    entries: usize,
+    telling: Telling,
+    out: &mut W,
+) -> io::Result<()>
+    ensures { OnOk result (PrintsGrowth telling items entries world.now (W.contents out.old) (W.contents out.new)) }
+{
+    let stations = world.site().stations();
+    print_told(
+        stations,
+        items,
+        behind(world.items(), items),
+        world.moment(),
+        telling,
+        out,
+    )?;
+    print_entries(stations, behind(world.history(), entries), out)
+}
+
+/// What stands behind so many of a list.
+fn behind<T>(all: &[T], count: usize) -> &[T]
+    ensures { result.now ≡ drop count all.now }
+{
+    match all.get(count..) {
+        Some(rest) => rest,
+        None => &[],
+    }
+}
+
+/// Prints items, where they are told.
+#[tactic(auto, using(crate::proofs::RunLaws::run_rules))]
+fn print_told<A: Allocator, W: Write>(
+    stations: &[Station<A>],
+    number: usize,
+    items: &[Item<A>],
+    moment: u64,
+    telling: Telling,
+    out: &mut W,
+) -> io::Result<()>
+    requires { number + length items.now < 2 ^ 64 }
+    ensures { OnOk result (Appends (W.contents out.old) (W.contents out.new)
+        (items_told telling stations.now number items.now moment)) }
+{
+    match telling {
+        Telling::Entries => Ok(()),
+        Telling::ItemsAndEntries => print_items(stations, number, items, moment, out),
+    }
+}
+
+/// Prints items, the first of which has this number.
+#[tactic(auto, using(crate::proofs::RunLaws::run_rules))]
+fn print_items<A: Allocator, W: Write>(
+    stations: &[Station<A>],
+    number: usize,
+    items: &[Item<A>],
+    moment: u64,
+    out: &mut W,
+) -> io::Result<()>
+    requires { number + length items.now < 2 ^ 64 }
+    ensures { OnOk result (Appends (W.contents out.old) (W.contents out.new)
+        (items_text stations.now number items.now moment)) }
+{
+    let mut number = number;
+    for item in items {
+        print_item(stations, number, item, moment, out)?;
+        number += 1;
+    }
+    Ok(())
+}
+
+/// Prints an item with its number.
+fn print_item<A: Allocator, W: Write>(
+    stations: &[Station<A>],
+    number: usize,
+    item: &Item<A>,
+    moment: u64,
+    out: &mut W,
+) -> io::Result<()>
+    ensures { OnOk result (Appends (W.contents out.old) (W.contents out.new)
+        (line (item_text stations.now number item.now moment))) }
+{
+    let text = ItemLine {
+        number,
+        item,
+        stations,
+        moment,
+    };
+    writeln!(out, "{text}")
+}
+
+/// Prints entries of the history.
+#[tactic(auto, using(crate::proofs::RunLaws::run_rules))]
+fn print_entries<A: Allocator, W: Write>(
+    stations: &[Station<A>],
+    entries: &[WorldEntry<A>],
+    out: &mut W,
+) -> io::Result<()>
+    ensures { OnOk result (Appends (W.contents out.old) (W.contents out.new)
+        (entries_text stations.now entries.now)) }
+{
+    for entry in entries {
+        print_entry(stations, entry, out)?;
+    }
+    Ok(())
+}
+
+/// Prints an entry of the history.
+fn print_entry<A: Allocator, W: Write>(
+    stations: &[Station<A>],
+    entry: &WorldEntry<A>,
+    out: &mut W,
+) -> io::Result<()>
+    ensures { OnOk result (Appends (W.contents out.old) (W.contents out.new)
+        (line (entry_text stations.now entry.now))) }
+{
+    let text = EntryLine { entry, stations };
+    writeln!(out, "{text}")
+}

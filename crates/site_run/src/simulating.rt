@@ -1,0 +1,190 @@
+//! A site and a script, from their texts to what is printed, and the exit status.
+
+ghost use Rattle.std.specs.Prelude.{◌≡◌, ◌≤◌, IfOk, OnOk};
+ghost use Rattle.std.specs.Io.KnownBytes.{Appends};
+ghost use Rattle.std.specs.List.{AllByRecursion};
+ghost use Rattle.carry_world.specs.Laws.{IsLegal};
+ghost use Rattle.script.specs.Steps.{IsSoundStep};
+ghost use Rattle.hosts.specs.Opening.{object_site};
+ghost use Rattle.hosts.specs.Stations.{devices_of};
+ghost use Rattle.site_run.specs.Counting.{counts_of};
+ghost use Rattle.site_run.specs.Printed.{end_text, line};
+ghost use Rattle.site_run.specs.Simulate.{IsOpened, PrintsRun, Simulates};
+
+use crate::counting::counted;
+use crate::printed::EndLine;
+use crate::running::{Telling, take_steps};
+use console::{say_failed, say_refused};
+use script::{BadScript, Step, script_of};
+use simulator::World;
+use site_text::site_of;
+use std::alloc::{Allocator, Global};
+use std::io;
+use std::io::Write;
+use tags::{Fault, Items};
+
+/// Why nothing runs.
+#[derive(Clone, Copy, Debug, PartialEq, Eq)]
+enum Stop {
+    /// The site, or want of memory.
+    Refused(Fault),
+    /// The line of this number asks for no step.
+    Line(usize),
+}
+
+impl From<Fault> for Stop {
+    fn from(fault: Fault) -> Stop {
+        Stop::Refused(fault)
+    }
+}
+
+impl From<BadScript> for Stop {
+    fn from(bad: BadScript) -> Stop {
+        match bad {
+            BadScript::Memory => Stop::Refused(Fault::Memory),
+            BadScript::Line { number, .. } => Stop::Line(number),
+        }
+    }
+}
+
+/// Takes the steps of a script in a world of a site, as their texts describe them, and prints on `out` each entry of its
+/// history, each refusal at its place, and at last what there was of all. Answers the exit status: 0; or 1 for a text
+/// that is none, which is told on `err` and nothing runs then, for want of memory where it ends the program, and for a
+/// failed write. The document is read in memory of `reading`.
+pub fn simulate<A: Allocator + Copy, W: Write, E: Write>(
+    reading: Global,
+    alloc: A,
+    site: &[u8],
+    script: &[u8],
+    out: &mut W,
+    err: &mut E,
+) -> u8
+    ensures status { result ≤ 1 }
+    ensures simulates { result ≡ 0
+        → Simulates A Telling.Entries site.now script.now (W.contents out.old) (W.contents out.new) }
+{
+    simulation(reading, alloc, site, script, Telling::Entries, out, err)
+}
+
+/// The same; before the entries of an event each item is printed that was put out, with its number.
+pub fn simulate_traced<A: Allocator + Copy, W: Write, E: Write>(
+    reading: Global,
+    alloc: A,
+    site: &[u8],
+    script: &[u8],
+    out: &mut W,
+    err: &mut E,
+) -> u8
+    ensures status { result ≤ 1 }
+    ensures simulates { result ≡ 0
+        → Simulates A Telling.ItemsAndEntries site.now script.now (W.contents out.old) (W.contents out.new) }
+{
+    simulation(
+        reading,
+        alloc,
+        site,
+        script,
+        Telling::ItemsAndEntries,
+        out,
+        err,
+    )
+}
+
+/// The same, with what is told of an event.
+fn simulation<A: Allocator + Copy, W: Write, E: Write>(
+    reading: Global,
+    alloc: A,
+    site: &[u8],
+    script: &[u8],
+    telling: Telling,
+    out: &mut W,
+    err: &mut E,
+) -> u8
+    ensures status { result ≤ 1 }
+    ensures simulates { result ≡ 0
+        → Simulates A telling site.now script.now (W.contents out.old) (W.contents out.new) }
+{
+    match open(reading, alloc, site, script) {
+        Ok(opened) => run(opened, telling, out, err),
+        Err(stop) => say_stop(stop, err),
+    }
+}
+
+/// A world as it opens, and the steps that are to be taken in it.
+#[derive(Drop)]
+struct Opened<A: Allocator + Copy> {
+    world: World<A>,
+    steps: Items<Step<A>, A>,
+}
+
+/// The world of a site and the steps of a script, as their texts describe them. The site is judged first.
+fn open<A: Allocator + Copy>(
+    reading: Global,
+    alloc: A,
+    site: &[u8],
+    script: &[u8],
+) -> Result<Opened<A>, Stop>
+    ensures { IfOk result (λ o. IsOpened site.now script.now o.world o.steps) }
+{
+    let site = site_of(reading, alloc, site)?;
+    let world = World::new(alloc, site)?;
+    let steps = script_of(alloc, script)?;
+    Ok(Opened { world, steps })
+}
+
+/// Takes the steps, prints what comes of them, and answers the exit status.
+fn run<A: Allocator + Copy, W: Write, E: Write>(
+    opened: Opened<A>,
+    telling: Telling,
+    out: &mut W,
+    err: &mut E,
+) -> u8
+    requires sound { AllByRecursion IsSoundStep opened.steps }
+    ensures status { result ≤ 1 }
+    ensures runs { result ≡ 0
+        → PrintsRun telling opened.steps opened.world (W.contents out.old) (W.contents out.new) }
+{
+    match print_run(opened, telling, out) {
+        Ok(()) => 0,
+        Err(error) => say_failed(&error, err),
+    }
+}
+
+/// Takes the steps, and prints what comes of them.
+fn print_run<A: Allocator + Copy, W: Write>(
+    opened: Opened<A>,
+    telling: Telling,
+    out: &mut W,
+) -> io::Result<()>
+    requires sound { AllByRecursion IsSoundStep opened.steps }
+    ensures { OnOk result (PrintsRun telling opened.steps opened.world (W.contents out.old) (W.contents out.new)) }
+{
+    let Opened { world, steps } = opened;
+    let mut world = world;
+    take_steps(&mut world, steps, telling, out)?;
+    print_end(&world, out)
+}
+
+/// Prints what there was of all.
+fn print_end<A: Allocator + Copy, W: Write>(world: &World<A>, out: &mut W) -> io::Result<()>
+    ensures printed { OnOk result (Appends (W.contents out.old) (W.contents out.new)
+        (line (end_text (counts_of world.now.history) world.now.moment))) }
+    ensures legal { IsLegal (object_site world.now.site) world.now.history (devices_of world.now.stations) }
+{
+    let moment = world.moment();
+    let counts = counted(world.history());
+    writeln!(out, "{}", EndLine { counts, moment })
+}
+
+/// Tells why nothing runs, and answers the exit status.
+fn say_stop<E: Write>(stop: Stop, err: &mut E) -> u8
+    ensures { result ≡ 1 }
+{
+    match stop {
+        Stop::Refused(fault) => say_refused(fault, err),
+        Stop::Line(number) => {
+            let _ = writeln!(err, "bacsite: script line {number}");
+            1
+        }
+    }
+}
