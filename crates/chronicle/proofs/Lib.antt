@@ -1,2 +1,3 @@
 pub mod SaidLaws
 pub mod KeyLaws
+pub mod FromLaws

@@ -1,17 +1,20 @@
 //! What a chronicle grows by, where a station does what it planned.
 
-ghost use Rattle.std.specs.Prelude.{◌≡◌, [], IfOk, OnOk, length};
+ghost use Rattle.std.specs.Prelude.{◌≡◌, [], IfOk, None, OnOk, length};
 ghost use Rattle.carry_said.specs.Said.{HasInsides};
 ghost use Rattle.inside.specs.Inside.{AreInside};
 ghost use Rattle.chronicle.specs.Kept.{all_said};
-ghost use Rattle.chronicle.specs.Growing.{items_of};
+ghost use Rattle.chronicle.specs.Growing.{AreFromMacs, items_at, items_of};
+ghost use Rattle.relays.specs.Laws.{ip_places};
+ghost use Rattle.relays.specs.Relay.{out_of, without_out};
 ghost use Rattle.site_station.specs.Entity.{told_by};
 
 use crate::chronicle::{Growth, WorldEntry};
 use crate::key::Key;
-use crate::putting::items_from;
+use crate::putting::{are_from_macs, items_from, relay_items};
 use crate::saying::all_said_in;
 use link_ip::IpPort;
+use relays::{Relay, RelayPlan};
 use site_station::{EntityPlan, StationPlan};
 use std::alloc::{AllocError, Allocator};
 use tags::Items;
@@ -42,6 +45,7 @@ pub fn growth<A: Allocator + Copy>(
 ) -> Result<Growth<A>, AllocError>
     requires insides { HasInsides net (told_by plan.old.entity).said }
     ensures items { IfOk result (λ growth. growth.items.items ≡ items_of now ports.now plan.old.out) }
+    ensures from { IfOk result (λ growth. AreFromMacs growth.items.items) }
     ensures said { IfOk result (λ growth.
         AreInside net (told_by plan.old.entity).said (all_said growth.said.items)) }
     ensures key { IfOk result (λ growth. growth.key ≡ key) }
@@ -51,11 +55,40 @@ pub fn growth<A: Allocator + Copy>(
 {
     let out = std::mem::replace(&mut plan.out, Items::new(alloc));
     let items = items_from(alloc, ports, out, now)?;
+    are_from_macs(items.as_slice());
     let said = all_said_in(alloc, net, plan.entity.said())?;
     Ok(Growth {
         items,
         said,
         key,
         entry,
+    })
+}
+
+/// What it grows by where a relay does what it planned: what is put out, taken out of the plan, and nothing else.
+///
+/// # Errors
+/// Want of memory.
+pub fn relay_growth<A: Allocator + Copy>(
+    alloc: A,
+    relay: &Relay<IpPort<A>, A>,
+    plan: &mut RelayPlan<IpPort<A>, A>,
+    now: u64,
+) -> Result<Growth<A>, AllocError>
+    ensures items { IfOk result (λ growth. growth.items.items ≡ items_at now (ip_places relay.now) (out_of plan.old)) }
+    ensures from { IfOk result (λ growth. AreFromMacs growth.items.items) }
+    ensures said { IfOk result (λ growth. growth.said.items ≡ []) }
+    ensures key { IfOk result (λ growth. growth.key ≡ None) }
+    ensures entry { IfOk result (λ growth. growth.entry ≡ None) }
+    ensures rest { plan.new ≡ without_out plan.old }
+{
+    let out = plan.take_out(alloc);
+    let items = relay_items(alloc, relay, out, now)?;
+    are_from_macs(items.as_slice());
+    Ok(Growth {
+        items,
+        said: Vec::new(alloc),
+        key: None,
+        entry: None,
     })
 }

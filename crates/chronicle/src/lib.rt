@@ -12,9 +12,11 @@
 //! - `saying`: what is inside what was said.
 //! - `telling`: entries of the history.
 //! - `keeping`: lists that grow where there is room.
+//! - `copying`: copies of it.
 #![tactic(auto)]
 
 mod chronicle;
+mod copying;
 mod growing;
 mod keeping;
 mod key;
@@ -23,6 +25,6 @@ mod saying;
 mod telling;
 
 pub use chronicle::{Chronicle, Growth, WorldEntry};
-pub use growing::{growth, outcomes_in};
+pub use growing::{growth, outcomes_in, relay_growth};
 pub use key::Key;
 pub use saying::SaidMessage;

@@ -1,12 +1,16 @@
 //! What a station puts out, as items.
 
 ghost use Rattle.std.specs.Prelude.{◌≡◌, ◌++◌, IfOk, OnOk, map, option_map, option_to_list, slice_get};
+ghost use Rattle.bvll.specs.Address.{IsAddress, address_at};
 ghost use Rattle.link_ip.specs.Port as ip;
-ghost use Rattle.chronicle.specs.Growing.{item_from, items_of};
+ghost use Rattle.chronicle.specs.Growing.{AreFromMacs, item_from, items_at, items_of};
+ghost use Rattle.relays.specs.Laws.{IsMac, ip_places};
 
+use bvll::Address;
 use link_ip::IpPort;
 use link_ports::PortSent;
-use npdu::Station;
+use npdu::{Mac, Station};
+use relays::Relay;
 use std::alloc::{AllocError, Allocator};
 use tags::Items;
 use traffic::Item;
@@ -18,6 +22,32 @@ fn place_at<A: Allocator + Copy>(ports: &[IpPort<A>], port: usize) -> Option<Sta
     match ports.get(port) {
         Some(port) => Some(port.station()),
         None => None,
+    }
+}
+
+/// Six octets are an address of BACnet/IP (J.1.2): for the proofs of others, it does nothing.
+#[tactic(auto, using(crate::proofs::FromLaws::octet_rules))]
+fn is_six(octets: &[u8; 6])
+    ensures { IsMac (Mac.Six octets.now) }
+{
+    let _ = Address::from_octets(octets.as_slice()).to_octets();
+}
+
+/// A link address is one of its kind: for the proofs of others, it does nothing.
+fn is_mac(mac: Mac)
+    ensures { IsMac mac }
+{
+    if let Mac::Six(octets) = mac {
+        is_six(&octets);
+    }
+}
+
+/// Each of these items is from a link address: for the proofs of others, it does nothing.
+pub(crate) fn are_from_macs<A: Allocator>(items: &[Item<A>])
+    ensures { AreFromMacs items.now }
+{
+    for item in items {
+        is_mac(item.from);
     }
 }
 
@@ -66,6 +96,26 @@ pub(crate) fn items_from<A: Allocator + Copy>(
     let mut items = Items::new(alloc);
     for sent in out.into_vec() {
         let place = place_at(ports, sent.port);
+        put_item(&mut items, place, sent, now)?;
+    }
+    Ok(items.into_vec())
+}
+
+/// The items of what a relay puts out at the moment `now`, in milliseconds, in order.
+///
+/// # Errors
+/// Want of memory.
+pub(crate) fn relay_items<A: Allocator + Copy>(
+    alloc: A,
+    relay: &Relay<IpPort<A>, A>,
+    out: Items<PortSent<A>, A>,
+    now: u64,
+) -> Result<Vec<Item<A>, A>, AllocError>
+    ensures { IfOk result (λ items. items.items ≡ items_at now (ip_places relay.now) out) }
+{
+    let mut items = Items::new(alloc);
+    for sent in out.into_vec() {
+        let place = relay.place(sent.port);
         put_item(&mut items, place, sent, now)?;
     }
     Ok(items.into_vec())

@@ -1,75 +1,118 @@
--- A site of one subnet: each of its parts opens as one station, which stands as it must, at its address.
-use Rattle.std.proofs.Common.{◌≡◌, ◌≤◌, ◌∙◌, refl, ap, arith, ℕ, suc, List, [], ◌∷◌, ◌++◌, map, length}
-use Rattle.std.specs.List.{AllByRecursion, flat_map}
-use Rattle.bbmd_tables.specs.Tables as tables
-use Rattle.bvll.specs.declared.address.Address.{Address}
+-- Each device and each client of a site opens as one station, which stands as it must; and so do its relays.
+use Rattle.std.proofs.Common.{◌≡◌, ◌≤◌, refl, sym, arith, List, [], ◌∷◌, Option, Some, None}
+use Rattle.std.specs.Prelude.{option_map, option_to_list}
+use Rattle.std.specs.List.{AllByRecursion}
 use Rattle.client.specs.Client.{new_client}
 use Rattle.device.specs.Device.{new_device}
 use Rattle.link_ip.specs.Port as ip
-use Rattle.link_ip.specs.Port.{IpPortState, new_port}
-use Rattle.link_ip.specs.declared.port.Reach.TheVariants.{Members}
+use Rattle.link_ip.specs.Port.{IpPortState}
+use Rattle.link_ports.specs.Ports.{AreBefore}
+use Rattle.npdu.specs.declared.mac.Station as npdu
 use Rattle.profile.specs.declared.link_kind.LinkKind.TheVariants.{BacnetIp}
-use Rattle.site.specs.declared.managers.SubnetId.{SubnetId}
-use Rattle.site_parts.specs.Places.{station_of}
+use Rattle.relays.specs.Laws.{RelayStands, RouterStands}
 use Rattle.site_parts.specs.declared.parts.Station.{Station}
+use Rattle.site_parts.specs.declared.place.Foreign.{Foreign}
+use Rattle.site_parts.specs.declared.place.Link.{Link}
 use Rattle.site_parts.specs.declared.place.Link.TheVariants as link
+use Rattle.site_parts.specs.declared.place.Place.{Place}
+use Rattle.site_parts.specs.declared.place.Place.TheVariants as place
+use Rattle.site_parts.specs.declared.role.Role.{Role}
+use Rattle.site_parts.specs.declared.role.Role.TheVariants as role
+use Rattle.site_router.specs.Station.{new_station}
 use Rattle.site_station.specs.Entity as entity
 use Rattle.site_station.specs.declared.entity.Entity.{Entity}
 use Rattle.site_station.specs.declared.entity.Entity.TheVariants.{Device, Client}
-use Rattle.site_views.proofs.PartLaws.{map_flat}
-use Rattle.site_views.specs.Laws.{subnet_of}
-use Rattle.site_views.specs.Views.{addresses_of, members}
+use Rattle.site_views.specs.Views.{host}
 use Rattle.unitdata.specs.Sizes.{longest_apdu}
-use Rattle.hosts.proofs.ListLaws.{all_flat, flat_same}
-use Rattle.hosts.proofs.SubnetLaws.{of_all, of_each}
+use Rattle.hosts.proofs.ListLaws.{all_both, all_flat, all_leads}
+use Rattle.hosts.proofs.RelayFits.{ports_numbered, relays_fit}
 use Rattle.hosts.specs.Hosts.{IsHost}
-use Rattle.hosts.specs.Laws.{PlacesAgree, StationsStand}
-use Rattle.hosts.specs.Opening.{opens}
-use Rattle.hosts.specs.Stations.{WorldStation}
-use Rattle.hosts.specs.Subnets.{AreHostsOn}
+use Rattle.hosts.specs.Laws.{RelaysStand, StationsStand}
+use Rattle.hosts.specs.Opening.{foreign_port, host_at, manager_at, opens, place_port, port_at, ports_at, relay_opens}
+use Rattle.hosts.specs.Relays.{HaveNumbers, IsRelayFit}
 
--- the port of such a station
-abbrev opening_port : {A : Type 0} → (SubnetId → List Address) → (n k : ℕ) → Address → IpPortState A
-opening_port m n k a = new_port n a (Members (tables.others a (m (subnet_of n k))))
+-- what holds of each holds of all
+pub all_are : {X : Type 0} (P : X → Type 0) → ((x : X) → P x) → (xs : List X) → AllByRecursion P xs
+all_are P each [] = tt
+all_are P each (x ∷ xs) = (each x, all_are P each xs)
 
--- a station with that port stands, where its entity is there and has seen no moment
-stands_there : {A : Type 0} (m : SubnetId → List Address) (n k : ℕ) (a : Address) (e : Entity A) →
-    ip.station_of {A = A} (opening_port m n k a) ≡ entity.station_of e → entity.moment_of e ≤ 0 →
-    IsHost 0 (record { ports = opening_port m n k a ∷ []; entity = e })
-stands_there m n k a e place le = record {
-  port = opening_port m n k a;
-  one = refl;
-  place = place;
-  port_before = omega arith;
-  entity_before = le;
-}
+-- a port that has seen no moment, if there is one
+abbrev IsNew : {A : Type 0} → Option (IpPortState A) → Type 0
+IsNew None = Unit {0}
+IsNew (Some port) = port.moment ≤ 0
+
+link_new : {A : Type 0} (all : List (Station A)) (l : Link) → IsNew (port_at all l)
+link_new all (link.Ip n k a) = let none : 0 ≤ 0 = omega arith in none
+link_new all (link.Bus n m) = tt
+
+foreign_new : {A : Type 0} (f : Foreign A) (h : Option Link) → IsNew (foreign_port f h)
+foreign_new f None = tt
+foreign_new f (Some (link.Ip n k a)) = let none : 0 ≤ 0 = omega arith in none
+foreign_new f (Some (link.Bus n m)) = tt
+
+place_new : {A : Type 0} (all : List (Station A)) (p : Place A) → IsNew (place_port all p)
+place_new all (place.On l) = link_new all l
+place_new all (place.Beyond f) = foreign_new f (host f.manager all)
+
+stands_if : {A : Type 0} (there : npdu.Station → Entity A) → ((x : npdu.Station) → entity.station_of (there x) ≡ x) →
+    ((x : npdu.Station) → entity.moment_of (there x) ≤ 0) → (q : Option (IpPortState A)) → IsNew q →
+    AllByRecursion (IsHost 0) (option_to_list (option_map (host_at there) q))
+stands_if there at new None is_new = tt
+stands_if there at new (Some port) is_new = (
+  record {
+    port = port;
+    one = refl;
+    place = sym (at (ip.station_of port));
+    port_before = is_new;
+    entity_before = new (ip.station_of port);
+  },
+  tt,
+)
+
+role_stands : {A : Type 0} (all : List (Station A)) (r : Role A) → AllByRecursion (IsHost 0) (opens all r)
+role_stands all (role.Device p o) = stands_if (λ x. Device (new_device o x)) (λ x. refl) (λ x. omega arith)
+    (place_port all p) (place_new all p)
+role_stands all (role.Client p b) = stands_if (λ x. Client (new_client x b (longest_apdu BacnetIp))) (λ x. refl)
+    (λ x. omega arith) (place_port all p) (place_new all p)
+role_stands all (role.Manager l) = tt
+role_stands all (role.Router ls) = tt
 
 -- they stand as they must
 pub stations_stand : {A : Type 0} → StationsStand A
-stations_stand p one =
-    let m = λ (id : SubnetId). members id p.stations in
-    all_flat (λ s. opens m s.role) (IsHost 0) p.stations (of_all (λ r. AllByRecursion (IsHost 0) (opens m r)) one.id
-    (λ n k a o at. (stands_there m n k a (Device (new_device o (station_of (link.Ip n k a)))) refl (omega arith), tt))
-    (λ n k a b at.
-    (stands_there m n k a (Client (new_client (station_of (link.Ip n k a)) b (longest_apdu BacnetIp))) refl (omega arith), tt))
-    p.stations one.subnet.hosts)
+stations_stand p = all_flat (λ s. opens p.stations s.role) (IsHost 0) p.stations
+    (all_are (λ s. AllByRecursion (IsHost 0) (opens p.stations s.role)) (λ s. role_stands p.stations s.role) p.stations)
 
-one_more : {A : Type 0} (m : SubnetId → List Address) (id : SubnetId) (ss : List (Station A)) → AreHostsOn id ss →
-    length (flat_map (λ s. opens m s.role) ss) ≡ length ss
-one_more m id [] h = refl
-one_more m id (s ∷ ss) h =
-    of_each
-    (λ r. length (opens m r ++ flat_map (λ s. opens m s.role) ss) ≡ suc (length (flat_map (λ s. opens m s.role) ss))) id (λ n k a o at. refl) (λ n k a b at. refl) s.role h.0
-    ∙ ap (λ (n : ℕ). suc n) (one_more m id ss h.1)
+-- the ports of a router have seen no moment
+link_before : {A : Type 0} (all : List (Station A)) (l : Link) →
+    AreBefore ip.moment_of 0 (option_to_list (port_at all l))
+link_before all (link.Ip n k a) = let none : 0 ≤ 0 = omega arith in (none, tt)
+link_before all (link.Bus n m) = tt
 
--- each is at the address of its part
-pub places_agree : {A : Type 0} → PlacesAgree A
-places_agree {A} p one =
-    let m = λ (id : SubnetId). members id p.stations in
-    let place_of = λ (s : WorldStation A). entity.station_of s.entity in record {
-      as_many = one_more m one.id p.stations one.subnet.hosts;
-      addresses = map_flat place_of (λ s. opens m s.role) p.stations
-          ∙ flat_same (λ s. map place_of (opens m s.role)) (λ s. addresses_of p.stations s.role) p.stations
-          (of_all (λ r. map place_of (opens m r) ≡ addresses_of p.stations r) one.id (λ n k a o at. refl)
-          (λ n k a b at. refl) p.stations one.subnet.hosts);
-    }
+ports_before : {A : Type 0} (all : List (Station A)) (ls : List Link) → AreBefore ip.moment_of 0 (ports_at all ls)
+ports_before all [] = tt
+ports_before all (l ∷ ls) = all_both (λ (p : IpPortState _). ip.moment_of p ≤ 0) (option_to_list (port_at all l))
+    (ports_at all ls) (link_before all l) (ports_before all ls)
+
+router_stands : {A : Type 0} (all : List (Station A)) (ls : List Link) → HaveNumbers ls →
+    RouterStands 0 (new_station ip.station_of (ports_at all ls))
+router_stands all ls h = record {
+  stands = record { at_its_ports = refl; before = ports_before all ls };
+  numbered = ports_numbered all ls h;
+  before = let none : 0 ≤ 0 = omega arith in none;
+}
+
+manager_stands : {A : Type 0} (all : List (Station A)) (l : Link) → AllByRecursion (RelayStands 0) (manager_at all l)
+manager_stands all (link.Ip n k a) = let none : 0 ≤ 0 = omega arith in (none, tt)
+manager_stands all (link.Bus n m) = tt
+
+relay_stands : {A : Type 0} (all : List (Station A)) (r : Role A) → IsRelayFit all r →
+    AllByRecursion (RelayStands 0) (relay_opens all r)
+relay_stands all (role.Manager l) fit = manager_stands all l
+relay_stands all (role.Router ls) fit = (router_stands all ls fit, tt)
+relay_stands all (role.Device p o) fit = tt
+relay_stands all (role.Client p b) fit = tt
+
+pub relays_stand : {A : Type 0} → RelaysStand A
+relays_stand p s = all_flat (λ t. relay_opens p.stations t.role) (RelayStands 0) p.stations
+    (all_leads (λ t. IsRelayFit p.stations t.role) (λ t. AllByRecursion (RelayStands 0) (relay_opens p.stations t.role))
+    (λ t fit. relay_stands p.stations t.role fit) p.stations (relays_fit p s))

@@ -1,7 +1,11 @@
 pub mod ListLaws
-pub mod SubnetLaws
+pub mod BoolLaws
+pub mod BusLaws
 pub mod HostLaws
 pub mod SiteLaws
 pub mod FreshLaws
+pub mod PlaceLaws
 pub mod OpeningLaws
 pub mod MakingLaws
+pub mod RelayFits
+pub mod PortLaws

@@ -1,5 +1,5 @@
 -- What is promised of the stations that a site opens with.
-use Rattle.std.specs.Prelude.{◌≡◌, List, length, map}
+use Rattle.std.specs.Prelude.{◌≡◌, List, [], ◌∷◌, ◌++◌, map}
 use Rattle.std.specs.List.{AllByRecursion}
 use Rattle.headline.specs.Protocol.{IsSite}
 use Rattle.headline_bacnet.specs.Protocol.{bacnet}
@@ -12,11 +12,13 @@ use Rattle.remembered.specs.Records.{AreDistinct}
 use Rattle.site.specs.Sound.{IsSound}
 use Rattle.site_parts.specs.declared.parts.Parts.{Parts}
 use Rattle.site_station.specs.Entity as entity
-use Rattle.site_views.specs.Views.{addresses}
+use Rattle.site_views.specs.Views.{addresses_of}
+use Rattle.npdu.specs.declared.mac.Station as npdu
+use Rattle.relays.specs.Laws.{IpRelay, RelayStands, ip_places}
 use Rattle.hosts.specs.Hosts.{IsHost, IsOfSite}
-use Rattle.hosts.specs.Opening.{object_site, opening_stations}
+use Rattle.hosts.specs.Buses.{IsOnIp}
+use Rattle.hosts.specs.Opening.{object_site, opening_relays, opening_stations}
 use Rattle.hosts.specs.Stations.{WorldStation, clients_of, devices_of}
-use Rattle.hosts.specs.Subnets.{IsOneSubnet}
 
 -- the devices of a sound site are a site of the promise (12.11)
 abbrev pub DevicesAreSite : Type 0 → Type 0
@@ -31,22 +33,27 @@ pub record AreFresh {A : Type 0} (s : ObjectSite A) (ss : List (WorldStation A))
   pub devices_apart : AreDistinct (map device_side.station_of (devices_of ss))
   pub numbers : AllByRecursion HasNumbers (devices_of ss)
 
--- so are those that a sound site of one subnet opens with
+-- so are those that a sound site opens with
 abbrev pub StationsAreFresh : Type 0 → Type 0
-StationsAreFresh A = (p : Parts A) → IsSound p → IsOneSubnet p → AreFresh (object_site p) (opening_stations p)
+StationsAreFresh A = (p : Parts A) → IsSound p → AreFresh (object_site p) (opening_stations p)
 
--- each of them stands as it must at the first moment, and is one of its site
+-- each of them stands as it must at the first moment, and is one of its site; and each relay stands as it must
 abbrev pub StationsStand : Type 0 → Type 0
-StationsStand A = (p : Parts A) → IsOneSubnet p → AllByRecursion (IsHost 0) (opening_stations p)
+StationsStand A = (p : Parts A) → AllByRecursion (IsHost 0) (opening_stations p)
 
 abbrev pub StationsAreOfSite : Type 0 → Type 0
-StationsAreOfSite A = (p : Parts A) → IsSound p → IsOneSubnet p →
+StationsAreOfSite A = (p : Parts A) → IsSound p →
     AllByRecursion (λ s. IsOfSite (object_site p) s.entity) (opening_stations p)
 
--- each part of a site opens as one station, at its address: their places agree
-pub record ArePlaced {A : Type 0} (p : Parts A) (ss : List (WorldStation A)) : Type 0 where
-  pub as_many : length ss ≡ length p.stations
-  pub addresses : map (λ s. entity.station_of s.entity) ss ≡ addresses p.stations
+abbrev pub RelaysStand : Type 0 → Type 0
+RelaysStand A = (p : Parts A) → IsSound p → AllByRecursion (RelayStands 0) (opening_relays p)
 
+-- where each relay is, and then where each device and each client is
+abbrev pub places : {A : Type 0} → List (IpRelay A) → List (WorldStation A) → List (List npdu.Station)
+places rs ss = map ip_places rs ++ map (λ s. entity.station_of s.entity ∷ []) ss
+
+-- each part of a site without a bus opens as one relay or one station, at its addresses, in the order of the site: their
+-- places agree
 abbrev pub PlacesAgree : Type 0 → Type 0
-PlacesAgree A = (p : Parts A) → IsOneSubnet p → ArePlaced p (opening_stations p)
+PlacesAgree A = (p : Parts A) → IsSound p → IsOnIp p →
+    places (opening_relays p) (opening_stations p) ≡ map (λ s. addresses_of p.stations s.role) p.stations

@@ -1,5 +1,7 @@
 pub mod Stations
 pub mod Hosts
-pub mod Subnets
+pub mod Buses
 pub mod Opening
+pub mod Relays
 pub mod Laws
+pub mod Finding

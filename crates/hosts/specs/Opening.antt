@@ -1,31 +1,36 @@
 -- How a world opens: the devices of its site, with their objects, and its stations.
-use Rattle.std.specs.Prelude.{List, [], ◌∷◌, map, Option, Some, None}
+use Rattle.std.specs.Prelude.{List, [], ◌∷◌, map, Option, Some, None, option_map, option_to_list}
 use Rattle.std.specs.List.{flat_map}
+use Rattle.bbmd_manager.specs.State.{new_manager}
 use Rattle.bbmd_tables.specs.Tables.{others}
-use Rattle.bvll.specs.declared.address.Address.{Address}
 use Rattle.client.specs.Client.{new_client}
 use Rattle.device.specs.Device.{new_device}
 use Rattle.headline_bacnet.specs.Refined.{ObjectSite}
 use Rattle.headline_site.specs.Placed.{Placed, site_of}
 use Rattle.hosts.specs.Stations.{WorldStation}
-use Rattle.link_ip.specs.Port.{new_port}
-use Rattle.link_ip.specs.declared.port.Reach.TheVariants.{Members}
+use Rattle.link_ip.specs.Port.{IpPortState, new_port}
+use Rattle.link_ip.specs.Port as ip
+use Rattle.link_ip.specs.declared.port.Reach.TheVariants as reach
 use Rattle.npdu.specs.declared.mac.Station as npdu
 use Rattle.object_model.specs.declared.site.SiteObjects.{SiteObjects}
-use Rattle.site.specs.declared.managers.SubnetId.{SubnetId}
-use Rattle.site_parts.specs.Places.{kind_of, station_of}
+use Rattle.profile.specs.declared.link_kind.LinkKind.TheVariants.{BacnetIp}
+use Rattle.relays.specs.Laws.{IpRelay}
+use Rattle.relays.specs.declared.relay.Relay.TheVariants as relay
 use Rattle.site_parts.specs.Roles.{objects_in}
 use Rattle.site_parts.specs.declared.parts.Parts.{Parts}
 use Rattle.site_parts.specs.declared.parts.Station.{Station}
+use Rattle.site_parts.specs.declared.place.Foreign.{Foreign}
 use Rattle.site_parts.specs.declared.place.Link.{Link}
 use Rattle.site_parts.specs.declared.place.Link.TheVariants as link
+use Rattle.site_parts.specs.declared.place.Place.{Place}
 use Rattle.site_parts.specs.declared.place.Place.TheVariants as place
 use Rattle.site_parts.specs.declared.role.Role.{Role}
 use Rattle.site_parts.specs.declared.role.Role.TheVariants as role
+use Rattle.site_router.specs.Station.{new_station}
 use Rattle.site_station.specs.declared.entity.Entity.{Entity}
 use Rattle.site_station.specs.declared.entity.Entity.TheVariants.{Device, Client}
 use Rattle.site_views.specs.Laws.{devices, subnet_of}
-use Rattle.site_views.specs.Views.{at_address, members}
+use Rattle.site_views.specs.Views.{at_address, host, managers, members}
 use Rattle.unitdata.specs.Sizes.{longest_apdu}
 
 -- the devices of a site, each with its objects, at a station (12)
@@ -36,30 +41,63 @@ placed p = map (λ d. record { station = d.station; objects = d.objects }) (devi
 abbrev pub object_site : {A : Type 0} → Parts A → ObjectSite A
 object_site p = site_of (placed p)
 
--- the station at a link, where that is on a subnet with these members: it reaches all of them but itself, in their
--- order (J.4.5)
-abbrev pub station_at : {A : Type 0} → (SubnetId → List Address) → Link → Entity A → List (WorldStation A)
-station_at members_of (link.Ip network subnet address) entity = record {
-  ports = new_port network address (Members (others address (members_of (subnet_of network subnet)))) ∷ [];
-  entity = entity;
-} ∷ []
-station_at members_of (link.Bus network mac) entity = []
+-- the port at a link, where that is on a subnet: it reaches all members but itself, in their order (J.4.5)
+abbrev pub port_at : {A : Type 0} → List (Station A) → Link → Option (IpPortState A)
+port_at all (link.Ip network subnet address) =
+    Some (new_port network address (reach.Members (others address (members (subnet_of network subnet) all))))
+port_at all (link.Bus network mac) = None
 
--- a device has the objects that the site gives it (12), a client has asked nothing (5.4.4); managers, routers and
--- foreign stations are none yet
-abbrev pub opens : {A : Type 0} → (SubnetId → List Address) → Role A → List (WorldStation A)
-opens members_of (role.Device (place.On l) objects) =
-    station_at members_of l (Device (new_device objects (station_of l)))
-opens members_of (role.Client (place.On l) segmented) =
-    station_at members_of l (Client (new_client (station_of l) segmented (longest_apdu (kind_of l))))
-opens members_of (role.Device (place.Beyond f) objects) = []
-opens members_of (role.Client (place.Beyond f) segmented) = []
-opens members_of (role.Manager l) = []
-opens members_of (role.Router ports) = []
+-- the port of a foreign device on the network of its manager, by which it reaches all of that (J.5)
+abbrev pub foreign_port : {A : Type 0} → Foreign A → Option Link → Option (IpPortState A)
+foreign_port f None = None
+foreign_port f (Some (link.Ip network subnet address)) =
+    Some (new_port network f.address (reach.Foreign address f.seconds_to_live))
+foreign_port f (Some (link.Bus network mac)) = None
 
--- the stations of a site as they open, in its order
+-- the port of a device or a client
+abbrev pub place_port : {A : Type 0} → List (Station A) → Place A → Option (IpPortState A)
+place_port all (place.On l) = port_at all l
+place_port all (place.Beyond f) = foreign_port f (host f.manager all)
+
+-- a station with one port, and its entity there
+abbrev pub host_at : {A : Type 0} → (npdu.Station → Entity A) → IpPortState A → WorldStation A
+host_at entity port = record { ports = port ∷ []; entity = entity (ip.station_of port) }
+
+-- a device has its objects (12), a client has asked nothing (5.4.4); any other station is a relay
+abbrev pub opens : {A : Type 0} → List (Station A) → Role A → List (WorldStation A)
+opens all (role.Device p objects) =
+    option_to_list (option_map (host_at (λ x. Device (new_device objects x))) (place_port all p))
+opens all (role.Client p segmented) =
+    option_to_list (option_map (host_at (λ x. Client (new_client x segmented (longest_apdu BacnetIp)))) (place_port all p))
+opens all (role.Manager l) = []
+opens all (role.Router ports) = []
+
+-- the devices and clients of a site as they open, in its order
 abbrev pub opening_stations : {A : Type 0} → Parts A → List (WorldStation A)
-opening_stations p = flat_map (λ s. opens (λ id. members id p.stations) s.role) p.stations
+opening_stations p = flat_map (λ s. opens p.stations s.role) p.stations
+
+-- a manager as it opens, on BACnet/IP: with the members of its subnet and the managers of its network (J.4.3)
+abbrev pub manager_at : {A : Type 0} → List (Station A) → Link → List (IpRelay A)
+manager_at all (link.Ip network subnet address) = relay.Manager (record {
+  net = network;
+  manager = new_manager address (members (subnet_of network subnet) all) (managers network all);
+}) ∷ []
+manager_at all (link.Bus network mac) = []
+
+-- the ports of a router
+abbrev pub ports_at : {A : Type 0} → List (Station A) → List Link → List (IpPortState A)
+ports_at all ls = flat_map (λ l. option_to_list (port_at all l)) ls
+
+-- a manager or a router as it opens: it knows no foreign device, and no route (6.6.2, J.4.3)
+abbrev pub relay_opens : {A : Type 0} → List (Station A) → Role A → List (IpRelay A)
+relay_opens all (role.Manager l) = manager_at all l
+relay_opens all (role.Router ls) = relay.Router (new_station ip.station_of (ports_at all ls)) ∷ []
+relay_opens all (role.Device p objects) = []
+relay_opens all (role.Client p segmented) = []
+
+-- the managers and routers of a site as they open, in its order
+abbrev pub opening_relays : {A : Type 0} → Parts A → List (IpRelay A)
+opening_relays p = flat_map (λ s. relay_opens p.stations s.role) p.stations
 
 -- the objects of the device that a station is, if there is one (12)
 abbrev pub objects_of : {A : Type 0} → Option (Station A) → Option (SiteObjects A)

@@ -1,6 +1,7 @@
 //! What holds of the stations that a site opens with, for the proofs of the layers above.
 
-ghost use Rattle.hosts.specs.Laws.{DevicesAreSite, PlacesAgree, StationsAreFresh, StationsAreOfSite, StationsStand};
+ghost use Rattle.hosts.specs.Laws.{DevicesAreSite, PlacesAgree, RelaysStand, StationsAreFresh, StationsAreOfSite};
+ghost use Rattle.hosts.specs.Laws.{StationsStand};
 
 use std::alloc::Allocator;
 
@@ -9,7 +10,7 @@ pub fn devices_are_site<A: Allocator>()
     ensures { DevicesAreSite A }
 {}
 
-/// The stations that a sound site of one subnet opens with are all that a fresh world asks of them.
+/// The devices and clients that a sound site opens with are all that a fresh world asks of them.
 pub fn stations_are_fresh<A: Allocator>()
     ensures { StationsAreFresh A }
 {}
@@ -21,7 +22,12 @@ pub fn stations_stand<A: Allocator>()
     ensures of_site { StationsAreOfSite A }
 {}
 
-/// Each part of a site of one subnet opens as one station, at its address: their places agree.
+/// The relays of a sound site are on networks with numbers, where their ports are, and have seen no moment but the first.
+pub fn relays_stand<A: Allocator>()
+    ensures { RelaysStand A }
+{}
+
+/// Each part of a sound site without a bus opens as one relay or one station, at its addresses: their places agree.
 pub fn places_agree<A: Allocator>()
     ensures { PlacesAgree A }
 {}

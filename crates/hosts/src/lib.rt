@@ -1,21 +1,30 @@
-//! The stations that a site makes: what a world begins with (ANSI/ASHRAE 135, clauses 5.4, 6.1, 12 and J).
+//! The stations that a site makes: what a world begins with (ANSI/ASHRAE 135, clauses 5.4, 6.1, 6.6, 12 and J).
 //!
-//! To the layer above it promises: a site that is one subnet of BACnet/IP opens with one station for each of its parts,
-//! in its order, each with one port that reaches the other members of the subnet, and no other site is taken; the
-//! devices are a site of the promise, and these stations are all that a fresh world asks of its clients and devices;
-//! and a device restarts with the objects that it opened with.
+//! To the layer above it promises: a site without a bus opens with one relay for each manager and router and one station
+//! for each device and client, in its order, each at its addresses, with ports that reach the other members of the subnet
+//! or the manager of a foreign device, and no other site is taken; the devices are a site of the promise, and these
+//! stations are all that a fresh world asks of its clients and devices; and a device restarts with the objects that it
+//! opened with.
 //!
-//! - `subnets`: whether a site is one subnet.
-//! - `stations`: its stations, as they open.
+//! - `buses`: whether a station is on a bus.
+//! - `ports`: their ports, as they open.
+//! - `stations`: devices and clients, as they open.
+//! - `routing`: managers and routers, as they open.
 //! - `opening`: the objects that a device opens with, at its start and at each restart.
+//! - `finding`: which of them has a name, or is at an address.
 //! - `laws`: what holds of these stations, for the proofs of the layers above.
 #![tactic(auto)]
 
+mod buses;
+mod finding;
 mod laws;
 mod opening;
+mod ports;
+mod routing;
 mod stations;
-mod subnets;
 
-pub use laws::{devices_are_site, places_agree, stations_are_fresh, stations_stand};
+pub use finding::{HostFound, host_at, part_named, station_at};
+pub use laws::{devices_are_site, places_agree, relays_stand, stations_are_fresh, stations_stand};
 pub use opening::opening_of;
+pub use routing::{WorldRelay, relays_of};
 pub use stations::{WorldStation, stations_of};

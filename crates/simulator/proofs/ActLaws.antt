@@ -19,13 +19,13 @@ use Rattle.site_station.specs.Station.{StationTold}
 use Rattle.site_station.specs.declared.entity.Entity.{Entity}
 use Rattle.site_station.specs.declared.entity.Entity.TheVariants.{Device, Client}
 use Rattle.traffic.specs.declared.item.Item.{Item}
-use Rattle.simulator.proofs.Hosts.{OnlyThese, puts_out_these}
+use Rattle.internetwork.proofs.Hosts.{OnlyThese, puts_out_these}
 use Rattle.simulator.proofs.Parts.{IsPart, part_at, part_none}
 use Rattle.hosts.specs.Hosts.{IsHost}
 use Rattle.chronicle.specs.Growing.{items_of}
-use Rattle.simulator.specs.Step.{Acts, delivered}
+use Rattle.internetwork.specs.Step.{Acts, delivered}
 use Rattle.hosts.specs.Stations.{WorldStation, client_of, clients_of, device_of, devices_of}
-use Rattle.simulator.specs.World.{WorldState, plain, thing_of}
+use Rattle.internetwork.specs.World.{WorldState, plain, thing_of}
 
 set_same : {X Y : Type 0} (f : X → Y) (xs : List X) (n : ℕ) (x z : X) → slice_get xs n ≡ Some x → f z ≡ f x →
     map f (slice_set xs n z) ≡ map f xs

@@ -25,11 +25,12 @@ use Rattle.simulator.proofs.ActLaws.{client_acts, device_acts}
 use Rattle.simulator.proofs.LeadLaws.{comes_up, host, same}
 use Rattle.simulator.proofs.LedLaws.{executed_of, heard_of, outcomes_of}
 use Rattle.simulator.specs.Heard.{AreOfIssues, ExecutedWasIssued, HeardWasSaid, OutcomesHaveIssues, WasIssued, WasSaid}
-use Rattle.simulator.specs.Laws.{IsLed, Stands}
-use Rattle.simulator.specs.Step.{Delivers, delivered}
-use Rattle.simulator.specs.World.{WorldState, plain}
-use Rattle.simulator.specs.declared.event.Event.{Event}
-use Rattle.simulator.specs.declared.event.Event.TheVariants as event
+use Rattle.internetwork.specs.Laws.{Stands}
+use Rattle.simulator.specs.Laws.{IsLed}
+use Rattle.internetwork.specs.Step.{Delivers, delivered}
+use Rattle.internetwork.specs.World.{WorldState, plain}
+use Rattle.internetwork.specs.declared.event.Event.{Event}
+use Rattle.internetwork.specs.declared.event.Event.TheVariants as event
 
 module _ {A : Type 0} (w v : WorldState A) (stands : Stands w) (led : IsLed w) (number : ℕ) (d : Delivers number w v) where
   abbrev x : Station

@@ -18,11 +18,12 @@ use Rattle.history.specs.Lists.{Has}
 use Rattle.history.specs.declared.Entry.TheVariants as history
 use Rattle.inside.specs.Inside.{AreInside, Reaches, Said}
 use Rattle.link.specs.Carrying.{HandsUp}
-use Rattle.link_ip.specs.CarryLaws.{carries_down, carries_on, carries_up, keeps_stamp}
+use Rattle.link_ip.specs.CarryLaws.{carries_down, carries_on, carries_registering, carries_up, keeps_stamp}
 use Rattle.link_ip.specs.Port as ip
 use Rattle.link_ip.specs.Port.{IpPortState}
 use Rattle.link_ip.specs.Steps.{Downs, Hears, Idles, is_due}
-use Rattle.link_ports.proofs.Keeping.{ComesUp, heard_comes_up}
+use Rattle.link_ip.specs.Steps as ip_steps
+use Rattle.link_ports.proofs.Keeping.{ComesUp, heard_comes_up, registers_keep}
 use Rattle.link_ports.specs.Ports.{HearsAt}
 use Rattle.link_ports.specs.declared.ports.PortSent.{PortSent}
 use Rattle.npdu.proofs.Stations.{one_station}
@@ -35,24 +36,27 @@ use Rattle.profile.specs.Times.{LIFE_MS}
 use Rattle.site_station.proofs.StationKeeping.{hears_keep, says_keep, station_wakes_keep}
 use Rattle.site_station.specs.Entity as entity
 use Rattle.site_station.specs.Entity.{EntityAsks, EntityHears, EntityIssues, EntityRestarts, IssuesIt, OfClient, OfDevice, awake, by_client, by_device, silence, told_awake}
-use Rattle.site_station.specs.Station.{AnswersIf, SaysDown, StationTold}
+use Rattle.site_station.specs.Station.{AnswersIf, ITS_PORT, SaysDown, StationTold}
 use Rattle.site_station.specs.declared.entity.Entity.{Entity}
 use Rattle.site_station.specs.declared.entity.Entity.TheVariants.{Device, Client}
 use Rattle.site_station.specs.declared.entity.EntityTold.{EntityTold}
 use Rattle.traffic.specs.declared.item.Item.{Item}
 use Rattle.simulator.proofs.ActLaws.{acts_passes, acts_puts, client_acts, device_acts, marked_same, nobody_acts}
-use Rattle.simulator.proofs.Hosts.{OnlyThese, nothing_yet}
+use Rattle.internetwork.proofs.Hosts.{OnlyThese, nothing_yet}
 use Rattle.simulator.proofs.Parts.{one_passes}
-use Rattle.simulator.specs.Finding.{addressee_of, is_at, place_of}
+use Rattle.hosts.specs.Finding.{is_at}
+use Rattle.relays.specs.Finding.{place_of}
+use Rattle.simulator.proofs.PassLeads.{relay_hears_leads, relay_wakes_leads}
+use Rattle.internetwork.specs.Finding.{addressee_of}
 use Rattle.hosts.specs.Hosts.{IsHost}
-use Rattle.simulator.specs.Laws.{Stands}
+use Rattle.internetwork.specs.Laws.{Stands}
 use Rattle.hosts.specs.Opening.{object_site}
 use Rattle.chronicle.specs.Growing.{items_of, told_in}
-use Rattle.simulator.specs.Step.{Acts, Asks, Delivers, IsSoundEvent, Issues, Restarts, Steps, Ticks, Wakes, delivered, restarted}
+use Rattle.internetwork.specs.Step.{Acts, Asks, Delivers, IsSoundEvent, Issues, Registers, Restarts, Steps, Ticks, Wakes, delivered, restarted}
 use Rattle.hosts.specs.Stations.{WorldStation, clients_of, devices_of}
-use Rattle.simulator.specs.World.{WorldState, plain, thing_of}
-use Rattle.simulator.specs.declared.event.Event.{Event}
-use Rattle.simulator.specs.declared.event.Event.TheVariants as event
+use Rattle.internetwork.specs.World.{WorldState, plain, thing_of}
+use Rattle.internetwork.specs.declared.event.Event.{Event}
+use Rattle.internetwork.specs.declared.event.Event.TheVariants as event
 
 some_same : {X : Type 0} (x y : X) → Some x ≡ Some y → x ≡ y
 some_same x y e = cc
@@ -71,7 +75,7 @@ none_said {A} net ps fresh e inside = by_list fresh (subst (λ (qs : List (Parce
 
 module _ {A : Type 0} (w v : WorldState A) (stands : Stands w) where
   host_of : (place : ℕ) (s : WorldStation A) → slice_get w.stations place ≡ Some s → IsHost w.moment s
-  host_of place s e = all_has (IsHost w.moment) w.stations s stands.hosts (has place e)
+  host_of place s e = all_has (IsHost w.moment) w.stations s stands.stations.hosts (has place e)
 
   -- before it does something, a station puts out nothing
   quiet : (said : List (Parcel A)) (s : WorldStation A) → IsHost w.moment s →
@@ -390,6 +394,33 @@ module _ {A : Type 0} (w v : WorldState A) (stands : Stands w) where
     restarts_lead : PlainStep (object_site w.site) (plain w) (plain v)
     restarts_lead = restarts_by d.s.entity refl d.restarts.entity
 
+  -- a foreign station registers
+  module _ (s0 : ObjectSite A) (name : List ℕ) (d : Registers name w v) where
+    registering : IsHost w.moment d.s
+    registering = host_of d.place d.s d.acts.there
+
+    registers_only : OnlyThese d.told.told.said w.moment (entity.station_of d.s.entity) d.next.ports d.told.out
+    registers_only = registers_keep IsDatagramOf ip.station_of ip.moment_of ip.waiting_in Downs Hears Idles carries_down
+        carries_up carries_on (λ y p. Has d.told.told.said p) ip_steps.Registers carries_registering
+        (entity.station_of d.s.entity ∷ []) w.moment ITS_PORT d.s.ports d.next.ports [] d.told.out
+        (quiet d.told.told.said d.s registering) d.registers.ports
+
+    registers_lead : PlainStep s0 (plain w) (plain v)
+    registers_lead =
+        let silent : d.told.told.said ≡ [] = ap (λ (t : EntityTold A). t.said) d.registers.silent in
+        let nobody = nobody_acts w v d.place d.s d.next d.told w.items d.acts registering refl d.registers.same in
+        something_passes (record {
+          moment = d.acts.moment;
+          clients = nobody.0;
+          devices = nobody.1;
+          keys = d.keys;
+          history = d.history;
+          said = d.acts.said ∙ ap (λ (ss : List Said). w.said ++ ss)
+              (none_said (entity.station_of d.s.entity).net d.told.told.said d.acts.fresh silent d.acts.insides)
+              ∙ append-nil w.said;
+          grows = acts_passes w v d.place d.s d.next d.told w.items d.acts registering refl silent registers_only;
+        })
+
   -- time passes
   ticks_lead : (s0 : ObjectSite A) (n : ℕ) → Ticks n w v → PlainStep s0 (plain w) (plain v)
   ticks_lead s0 n d = subst (λ (u : WorldState A). PlainStep s0 (plain w) (plain u)) (sym d.is) (time_passes (record {
@@ -409,11 +440,13 @@ event_leads (event.Issue client instance request) w v stands sound d =
     issues_lead w v stands (object_site w.site) client instance request sound d
 event_leads (event.WhoIs client limits) w v stands sound d = asks_lead w v stands (object_site w.site) client limits d
 event_leads (event.Tick n) w v stands sound d = ticks_lead w v stands (object_site w.site) n d
-event_leads (event.Wake station) w v stands sound d = wakes_lead w v stands (object_site w.site) station d
-event_leads (event.Deliver number) w v stands sound d = delivers_lead w v stands (object_site w.site) number d
+event_leads (event.Wake station) w v stands sound (inl d) = wakes_lead w v stands (object_site w.site) station d
+event_leads (event.Wake station) w v stands sound (inr d) = relay_wakes_leads w v stands (object_site w.site) station d
+event_leads (event.Deliver number) w v stands sound (inl d) = delivers_lead w v stands (object_site w.site) number d
+event_leads (event.Deliver number) w v stands sound (inr d) = relay_hears_leads w v stands (object_site w.site) number d
 event_leads (event.Restart station) w v stands sound d = restarts_lead w v stands station d
 event_leads (event.Hear network station octets) w v stands sound d = absurd d
-event_leads (event.Register station) w v stands sound d = absurd d
+event_leads (event.Register station) w v stands sound d = registers_lead w v stands (object_site w.site) station d
 
 pub steps_lead : {A : Type 0} (e : Event A) (w v : WorldState A) → Stands w → IsSoundEvent e → Steps e w v →
     StepsTo (object_site w.site) (plain w) (plain v)

@@ -9,26 +9,29 @@ use Rattle.headline.specs.Protocol.{IsSite}
 use Rattle.headline_bacnet.specs.Protocol.{bacnet}
 use Rattle.site_parts.specs.declared.parts.Parts.{Parts}
 use Rattle.simulator.proofs.LeadLaws.{steps_lead}
-use Rattle.simulator.specs.Laws.{IsLed, Stands}
+use Rattle.internetwork.specs.Laws.{Stands}
+use Rattle.simulator.specs.Laws.{IsLed}
 use Rattle.hosts.specs.Opening.{object_site}
-use Rattle.simulator.specs.Refusals.{Comes, IsRefused, IsRefusedSo, Runs, Then}
-use Rattle.simulator.specs.Step.{IsSoundEvent, Steps}
+use Rattle.internetwork.specs.Refusals.{Comes, IsRefused, IsRefusedSo, Runs, Then}
+use Rattle.internetwork.specs.Step.{IsSoundEvent, Steps}
 use Rattle.hosts.specs.Stations.{devices_of}
 use Rattle.tags.specs.declared.fault.Fault.{Fault}
-use Rattle.simulator.specs.World.{WorldState, plain}
-use Rattle.simulator.specs.declared.event.Event.{Event}
-use Rattle.simulator.specs.declared.event.Event.TheVariants as event
+use Rattle.internetwork.specs.World.{WorldState, plain}
+use Rattle.internetwork.specs.declared.event.Event.{Event}
+use Rattle.internetwork.specs.declared.event.Event.TheVariants as event
 
 -- no event changes the site
 pub same_site : {A : Type 0} (e : Event A) (w v : WorldState A) → Steps e w v → v.site ≡ w.site
 same_site (event.Issue client instance request) w v d = d.acts.site
 same_site (event.WhoIs client limits) w v d = d.acts.site
 same_site (event.Tick n) w v d = ap (λ (u : WorldState _). u.site) d.is
-same_site (event.Wake station) w v d = d.acts.site
-same_site (event.Deliver number) w v d = d.acts.site
+same_site (event.Wake station) w v (inl d) = d.acts.site
+same_site (event.Wake station) w v (inr d) = ap (λ (u : WorldState _). u.site) d.acts.is
+same_site (event.Deliver number) w v (inl d) = d.acts.site
+same_site (event.Deliver number) w v (inr d) = ap (λ (u : WorldState _). u.site) d.acts.is
 same_site (event.Restart station) w v d = d.acts.site
 same_site (event.Hear network station octets) w v d = absurd d
-same_site (event.Register station) w v d = absurd d
+same_site (event.Register station) w v d = d.acts.site
 
 -- what an event leaves came about so
 pub led_on : {A : Type 0} (e : Event A) (w v : WorldState A) → Stands w → IsSoundEvent e → Steps e w v → IsLed w →

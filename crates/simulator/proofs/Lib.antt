@@ -1,13 +1,7 @@
 pub mod Parts
-pub mod Hosts
 pub mod ActLaws
+pub mod PassLeads
 pub mod LeadLaws
-pub mod FindLaws
-pub mod Standing
-pub mod ActingLaws
-pub mod PlanLaws
-pub mod EventLaws
 pub mod LedLaws
 pub mod FreshLaws
-pub mod FlowLaws
 pub mod HeardLaws

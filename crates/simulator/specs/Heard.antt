@@ -10,10 +10,10 @@ use Rattle.server_answers.specs.declared.plan.Executed.{Executed}
 use Rattle.site_station.specs.Entity.{station_of}
 use Rattle.site_station.specs.declared.entity.Entity.TheVariants.{Device, Client}
 use Rattle.unitdata.specs.Hearing.{Brings, Heard, says}
-use Rattle.simulator.specs.Step.{Delivers}
-use Rattle.simulator.specs.World.{WorldState, plain}
-use Rattle.simulator.specs.declared.event.Event.{Event}
-use Rattle.simulator.specs.declared.event.Event.TheVariants as event
+use Rattle.internetwork.specs.Step.{Delivers}
+use Rattle.internetwork.specs.World.{WorldState, plain}
+use Rattle.internetwork.specs.declared.event.Event.{Event}
+use Rattle.internetwork.specs.declared.event.Event.TheVariants as event
 
 -- what a delivery brings its addressee was said, octet for octet, by the station that is named as its source, for a
 -- destination that covers the addressee, at most LIFE_MS ago (6.2, 6.3)

@@ -5,21 +5,18 @@ ghost use Rattle.std.specs.List.{AllByRecursion};
 ghost use Rattle.carry.specs.Things.{AreCarried};
 ghost use Rattle.carry_world.specs.Laws.{IsLegal, WholeIsIssued};
 ghost use Rattle.simulator.specs.Heard.{ExecutedWasIssued, HeardWasSaid, OutcomesHaveIssues};
-ghost use Rattle.hosts.specs.Subnets.{IsMore, IsOneSubnet};
-ghost use Rattle.simulator.specs.Finding.{HasNoTable, HasTable};
-ghost use Rattle.simulator.specs.Flows.{IsLess, left_of};
+ghost use Rattle.hosts.specs.Buses.{HasBus, IsOnIp};
+ghost use Rattle.internetwork.specs.Finding.{HasNoTable, HasTable};
+ghost use Rattle.internetwork.specs.Flows.{IsLess, left_of};
 ghost use Rattle.chronicle.specs.Kept.{all_said};
 ghost use Rattle.hosts.specs.Opening.{object_site};
-ghost use Rattle.simulator.specs.Refusals.{IsRefused, Runs};
-ghost use Rattle.simulator.specs.Step.{IsSoundEvent, IsSoundIfAny, Steps};
+ghost use Rattle.internetwork.specs.Refusals.{IsRefused, Runs};
+ghost use Rattle.internetwork.specs.Step.{IsSoundEvent, IsSoundIfAny, Steps};
 ghost use Rattle.hosts.specs.Stations.{devices_of};
-ghost use Rattle.simulator.specs.World.{fresh_world, plain};
+ghost use Rattle.internetwork.specs.World.{fresh_world, plain};
 
-use crate::event::Event;
-use crate::flow::Flow;
-use crate::internetwork::Internetwork;
 use chronicle::{SaidMessage, WorldEntry};
-use hosts::stations_of;
+use internetwork::{Event, Flow, Internetwork};
 use objects::Table;
 use site::Site;
 use std::alloc::Allocator;
@@ -35,8 +32,8 @@ pub struct World<A: Allocator + Copy> {
 }
 
 impl<A: Allocator + Copy> Model for World<A> {
+    ghost use Rattle.internetwork.specs.World.{WorldState};
     ghost use Rattle.simulator.specs.Laws.{IsLed};
-    ghost use Rattle.simulator.specs.World.{WorldState};
 
     ghost Value = { WorldState A };
 
@@ -46,22 +43,23 @@ impl<A: Allocator + Copy> Model for World<A> {
 }
 
 impl<A: Allocator + Copy> World<A> {
+    ghost use Rattle.simulator.specs.Laws.{IsLed};
+
     /// The world of a site as it opens: the moment is 0, each device has the objects that the site gives it, no client
-    /// has asked anything, and nothing is on its way. So far it runs sites of one subnet: one network of BACnet/IP,
-    /// with devices and clients alone (J.1.2).
+    /// has asked anything, no router and no manager has heard anything, and nothing is on its way. So far it runs sites
+    /// without a station on a bus: any number of networks of BACnet/IP, with routers, broadcast managers and foreign
+    /// stations (6.6, J).
     ///
     /// # Errors
     /// `BadSite` for any other site; or `Memory`.
     #[tactic(auto, using(crate::proofs::FreshLaws::fresh_rules))]
     pub fn new(alloc: A, site: Site<A>) -> Result<Self, Fault>
         ensures fresh { IfOk result (λ world. world ≡ fresh_world site) }
-        ensures subnet { OnOk result (IsOneSubnet site) }
-        ensures cause { IfErr result (λ fault. (fault ≡ Fault.Memory) ⊎ ((fault ≡ Fault.BadSite) × IsMore site)) }
+        ensures on_ip { OnOk result (IsOnIp site) }
+        ensures cause { IfErr result (λ fault. (fault ≡ Fault.Memory) ⊎ ((fault ≡ Fault.BadSite) × HasBus site)) }
     {
-        let stations = stations_of(alloc, &site)?;
-        Ok(World {
-            internetwork: Internetwork::open(alloc, site, stations),
-        })
+        let internetwork = Internetwork::new(alloc, site)?;
+        Ok(World { internetwork })
     }
 
     /// The site, as it was given.
@@ -75,7 +73,7 @@ impl<A: Allocator + Copy> World<A> {
     pub fn moment(&self) -> u64
         ensures { result ≡ self.now.moment }
     {
-        self.internetwork.now()
+        self.internetwork.moment()
     }
 
     /// All that was put out, in order: an item has its place in it as its number. Whatever is inside of it was said.
@@ -159,6 +157,14 @@ impl<A: Allocator + Copy> World<A> {
             let _ = self.step(event);
         }
         self.promised();
+    }
+
+    /// The same without the promise, for whoever lets happen what no event does.
+    pub fn into_internetwork(self) -> Internetwork<A>
+        ensures same { result ≡ self }
+        ensures led { IsLed result }
+    {
+        self.internetwork
     }
 
     /// What the promise says of every world, for the proofs of others: it does nothing.

@@ -7,8 +7,8 @@ use Rattle.history.specs.declared.Entry.{Entry}
 use Rattle.primitives.specs.declared.plain_data.Reply.{Reply}
 use Rattle.primitives.specs.declared.plain_data.Request.{Request}
 use Rattle.script.specs.declared.step.Step.{Step}
-use Rattle.simulator.specs.World.{WorldState}
-use Rattle.simulator.specs.declared.event.Event.{Event}
+use Rattle.internetwork.specs.World.{WorldState}
+use Rattle.internetwork.specs.declared.event.Event.{Event}
 use Rattle.site_parts.specs.declared.parts.Station.{Station}
 use Rattle.site_run.specs.Printed.{entries_text, entry_text, item_text, items_text, line, refused_text}
 use Rattle.site_run.specs.Running.{Known, PrintsAll, PrintsEvent, PrintsEvents, PrintsGrowth, PrintsSound, PrintsStep, PrintsSteps, items_told}

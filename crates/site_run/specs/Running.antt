@@ -4,13 +4,13 @@ use Rattle.std.specs.Io.KnownBytes.{Appends}
 use Rattle.std.specs.List.{AllByRecursion}
 use Rattle.script.specs.declared.step.Step.{Step}
 use Rattle.script.specs.declared.step.Step.TheVariants as step
-use Rattle.simulator.specs.Flows.{left_of}
-use Rattle.simulator.specs.Refusals.{IsRefused}
-use Rattle.simulator.specs.Step.{IsSoundEvent, Steps}
-use Rattle.simulator.specs.World.{WorldState}
-use Rattle.simulator.specs.declared.event.Event.{Event}
-use Rattle.simulator.specs.declared.event.Event.TheVariants as event
-use Rattle.simulator.specs.declared.flow.Flow.{Flow}
+use Rattle.internetwork.specs.Flows.{left_of}
+use Rattle.internetwork.specs.Refusals.{IsRefused}
+use Rattle.internetwork.specs.Step.{IsSoundEvent, Steps}
+use Rattle.internetwork.specs.World.{WorldState}
+use Rattle.internetwork.specs.declared.event.Event.{Event}
+use Rattle.internetwork.specs.declared.event.Event.TheVariants as event
+use Rattle.internetwork.specs.declared.flow.Flow.{Flow}
 use Rattle.site_parts.specs.declared.parts.Station.{Station}
 use Rattle.traffic.specs.declared.item.Item.{Item}
 use Rattle.site_run.specs.Printed.{entries_text, items_text, line, refused_text}

@@ -8,7 +8,7 @@ use Rattle.script.specs.Steps.{IsSoundStep}
 use Rattle.script.specs.declared.step.Step.{Step}
 use Rattle.hosts.specs.Opening.{object_site}
 use Rattle.hosts.specs.Stations.{devices_of}
-use Rattle.simulator.specs.World.{WorldState, fresh_world}
+use Rattle.internetwork.specs.World.{WorldState, fresh_world}
 use Rattle.site.specs.Sound.{IsSound}
 use Rattle.site_parts.specs.declared.parts.Parts.{Parts}
 use Rattle.site_text.specs.Document.{IsDocument}

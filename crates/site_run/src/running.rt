@@ -5,7 +5,7 @@ ghost use Rattle.std.specs.Io.KnownBytes.{Appends};
 ghost use Rattle.std.specs.List.{AllByRecursion};
 ghost use Rattle.script.specs.Steps.{IsSoundStep};
 ghost use Rattle.script.specs.declared.step.Step.TheVariants as step;
-ghost use Rattle.simulator.specs.Step.{IsSoundEvent};
+ghost use Rattle.internetwork.specs.Step.{IsSoundEvent};
 ghost use Rattle.site_run.specs.Printed.{entries_text, entry_text, item_text, items_text, line, refused_text};
 ghost use Rattle.site_run.specs.Running.{PrintsAll, PrintsEvent, PrintsGrowth, PrintsStep, PrintsSteps, items_told};
 

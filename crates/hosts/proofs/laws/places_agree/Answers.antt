@@ -1,4 +1,4 @@
-use Rattle.hosts.proofs.HostLaws.{places_agree}
+use Rattle.hosts.proofs.PlaceLaws.{places_agree}
 use Rattle.hosts.proofs.laws.places_agree.Goals as goal
 
 pub returns : goal.returns

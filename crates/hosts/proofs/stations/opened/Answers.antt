@@ -11,12 +11,12 @@ put_opening-requires g c = record {
 }
 
 pub loop-left-preserved : goal.loop-left-preserved
-loop-left-preserved g c = one_further (λ s. opens (λ id. c.args.members.now) s.role) (λ s. IsDeviceIn s.name s.role)
-    c.loop-left.all.items c.put_opening.new.out.items
-    (flat_map (λ s. opens (λ id. c.args.members.now) s.role) c.args.stations.now) _ c.loop-left.left.now
-    c.first-item.result c.first-item.is c.in-len1-up.len_at_least c.in_ok-put_opening.ensures.put c.loop-left.invariant
+loop-left-preserved g c = one_further (λ s. opens c.args.all.now s.role) (λ s. IsDeviceIn s.name s.role)
+    c.loop-left.out.items c.put_opening.new.out.items (flat_map (λ s. opens c.args.all.now s.role) c.args.stations.now) _
+    c.loop-left.left.now c.first-item.result c.first-item.is c.in-len1-up.len_at_least c.in_ok-put_opening.ensures.put
+    c.loop-left.invariant
 
 pub returns-clause-stations : goal.returns-clause-stations
-returns-clause-stations g c = all_done (λ s. opens (λ id. c.args.members.now) s.role) c.loop-left.all.items
-    (flat_map (λ s. opens (λ id. c.args.members.now) s.role) c.args.stations.now) c.loop-left.left.now
-    c.in_default.len_below c.loop-left.invariant.0
+returns-clause-stations g c = all_done (λ s. opens c.args.all.now s.role) c.loop-left.out.items
+    (flat_map (λ s. opens c.args.all.now s.role) c.args.stations.now) c.loop-left.left.now c.in_default.len_below
+    c.loop-left.invariant.0

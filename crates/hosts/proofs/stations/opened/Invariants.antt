@@ -9,5 +9,5 @@ decreases-loop-left g l = length l.left
 
 abbrev pub invariant-loop-left : goal.invariant-loop-left
 invariant-loop-left g l =
-    (l.all.items ++ flat_map (λ s. opens (λ id. l.members) s.role) l.left
-    ≡ flat_map (λ s. opens (λ id. l.members) s.role) l.stations) × AreDevices l.left
+    (l.out.items ++ flat_map (λ s. opens l.all s.role) l.left ≡ flat_map (λ s. opens l.all s.role) l.stations)
+    × AreDevices l.left

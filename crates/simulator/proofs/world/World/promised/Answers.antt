@@ -1,7 +1,7 @@
 use Rattle.std.proofs.Common.{subst}
 use Rattle.simulator.proofs.LedLaws.{carried_of, legal_of, whole_of}
 use Rattle.simulator.specs.Laws.{IsLed}
-use Rattle.simulator.specs.World.{WorldState}
+use Rattle.internetwork.specs.World.{WorldState}
 use Rattle.simulator.proofs.world.World.promised.Goals as goal
 
 pub returns-clause-legal : goal.returns-clause-legal

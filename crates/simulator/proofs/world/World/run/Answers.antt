@@ -1,8 +1,8 @@
 use Rattle.std.proofs.Common.{arith, ◌≡◌, ◌+◌, ◌++◌, ◌∷◌, [], refl, subst, take, List}
 use Rattle.std.proofs.lemmas.Grind.{common_steps}
 use Rattle.simulator.proofs.LedLaws.{comes_of, runs_more}
-use Rattle.simulator.specs.Refusals.{Runs}
-use Rattle.simulator.specs.declared.event.Event.{Event}
+use Rattle.internetwork.specs.Refusals.{Runs}
+use Rattle.internetwork.specs.declared.event.Event.{Event}
 use Rattle.simulator.proofs.world.World.run.Goals as goal
 
 -- one more

@@ -1,5 +1,5 @@
 use Rattle.std.proofs.Common.{take}
-use Rattle.simulator.specs.Refusals.{Runs}
+use Rattle.internetwork.specs.Refusals.{Runs}
 use Rattle.simulator.proofs.world.World.run.Given as goal
 
 -- so far

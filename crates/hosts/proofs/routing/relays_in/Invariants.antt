@@ -1,0 +1,13 @@
+use Rattle.std.proofs.Common.{◌≡◌, ◌++◌, length}
+use Rattle.std.specs.List.{flat_map}
+use Rattle.hosts.specs.Opening.{relay_opens}
+use Rattle.hosts.specs.Relays.{AreRelaysFit}
+use Rattle.hosts.proofs.routing.relays_in.Given as goal
+
+abbrev pub decreases-loop-left : goal.decreases-loop-left
+decreases-loop-left g l = length l.left
+
+abbrev pub invariant-loop-left : goal.invariant-loop-left
+invariant-loop-left g l =
+    (l.out.items ++ flat_map (λ s. relay_opens l.all s.role) l.left
+    ≡ flat_map (λ s. relay_opens l.all s.role) l.stations) × AreRelaysFit l.all l.left

@@ -1,0 +1,198 @@
+-- What a station did is what it planned, and all grew by what came of it.
+use Rattle.std.proofs.Common.{◌≡◌, ◌∙◌, refl, sym, ap, subst, ℕ, zero, suc, arith, ◌<◌, List, [], ◌∷◌, ◌++◌, length, Option, Some, None, Result, Ok, Err, OnOk, OnErr}
+use Rattle.std.proofs.lemmas.List.{map-append}
+use Rattle.std.specs.Prelude.{option_to_list, slice_get, slice_set}
+use Rattle.carry_world.specs.PlainWorld as plain_world
+use Rattle.history.specs.declared.Entry.{Entry}
+use Rattle.hosts.specs.Hosts.{IsHost}
+use Rattle.hosts.specs.Stations.{WorldStation}
+use Rattle.inside.specs.Inside.{AreInside, Said}
+use Rattle.link_ip.specs.Port.{IpPortState}
+use Rattle.npdu.specs.declared.mac.Station.{Station}
+use Rattle.primitives.specs.declared.plain_data.Reply.{Reply}
+use Rattle.primitives.specs.declared.plain_data.Request.{Request}
+use Rattle.site_parts.specs.declared.parts.Parts.{Parts}
+use Rattle.site_station.specs.Entity as entity
+use Rattle.site_station.specs.Station.{left_by, told_by}
+use Rattle.site_station.specs.declared.entity.EntityTold.{EntityTold}
+use Rattle.site_station.specs.declared.station.StationPlan.{StationPlan}
+use Rattle.traffic.specs.declared.item.Item.{Item}
+use Rattle.chronicle.specs.Chronicle.{IsGrown, IsSame, IsTold}
+use Rattle.internetwork.proofs.Standing.{steady_set}
+use Rattle.internetwork.specs.Doing.{AtPlace, IsDone, MayBeDone, Tells}
+use Rattle.relays.specs.Laws.{IpRelay, RelayStands}
+use Rattle.internetwork.specs.Laws.{ArePassing, AreSteady}
+use Rattle.chronicle.specs.Kept.{all_keys, all_said, key_of, said_of}
+use Rattle.chronicle.specs.Growing.{AreFromMacs, items_of, told_in}
+use Rattle.chronicle.specs.Growing.{WorldHistory}
+use Rattle.internetwork.specs.World.{WorldState}
+use Rattle.chronicle.specs.declared.chronicle.Chronicle.{Chronicle}
+use Rattle.chronicle.specs.declared.chronicle.Growth.{Growth}
+use Rattle.chronicle.specs.declared.key.Key as kept
+use Rattle.chronicle.specs.declared.saying.SaidMessage.{SaidMessage}
+
+all_said_both : {A : Type 0} (xs ys : List (SaidMessage A)) → all_said (xs ++ ys) ≡ all_said xs ++ all_said ys
+all_said_both xs ys = map-append (λ m. said_of m) xs ys
+
+all_keys_both : (xs ys : List kept.Key) → all_keys (xs ++ ys) ≡ all_keys xs ++ all_keys ys
+all_keys_both xs ys = map-append (λ k. key_of k) xs ys
+
+module _ {A : Type 0} (now : ℕ) (plan : StationPlan (IpPortState A) A) (key : Option kept.Key)
+    (entry : Option (Entry Station (Request A) (Reply A))) (s : WorldStation A) where
+  -- room was taken, all grew, and it was told
+  pub tells_so : (c0 c1 c2 c3 : Chronicle A) (g : Growth A) (x : Station) (told : EntityTold A) →
+      x ≡ entity.station_of s.entity → IsSame c0 c1 → IsGrown g c1 c2 → IsTold x now told c2 c3 →
+      g.items.items ≡ items_of now s.ports (told_by plan).out → AreFromMacs g.items.items →
+      AreInside x.net (told_by plan).told.said (all_said g.said.items) → g.key ≡ key → g.entry ≡ entry →
+      told ≡ (told_by plan).told → Tells now plan key entry s c0 c3
+  tells_so c0 c1 c2 c3 g x told at same grown tells items from insides of_key of_entry is =
+      let kept_keys : c2.keys.items ≡ c0.keys.items ++ option_to_list key =
+      grown.keys ∙ ap (λ (ks : List kept.Key). ks ++ option_to_list g.key) same.keys
+      ∙ ap (λ (k : Option kept.Key). c0.keys.items ++ option_to_list k) of_key in
+      let kept_history : c2.history.items ≡ c0.history.items ++ option_to_list entry =
+      grown.history ∙ ap (λ (h : WorldHistory A). h ++ option_to_list g.entry) same.history
+      ∙ ap (λ (e : Option (Entry Station (Request A) (Reply A))). c0.history.items ++ option_to_list e) of_entry in
+      record {
+        fresh = all_said g.said.items;
+        insides = subst (λ (y : Station). AreInside y.net (told_by plan).told.said (all_said g.said.items)) at insides;
+        said = ap (λ (ms : List (SaidMessage A)). all_said ms)
+            (tells.said ∙ grown.said ∙ ap (λ (ms : List (SaidMessage A)). ms ++ g.said.items) same.said)
+            ∙ all_said_both c0.said.items g.said.items;
+        items = tells.items ∙ grown.items ∙ ap (λ (is : List (Item A)). is ++ g.items.items) same.items
+            ∙ ap (λ (is : List (Item A)). c0.items.items ++ is) items;
+        from = subst (λ (is : List (Item A)). AreFromMacs is) items from;
+        keys = ap (λ (ks : List kept.Key). all_keys ks) (tells.keys ∙ kept_keys)
+            ∙ all_keys_both c0.keys.items (option_to_list key);
+        history = tells.history
+            ∙ ap (λ (y : Station). told_in y now (all_keys c2.keys.items) told c2.history.items) at
+            ∙ ap (λ (ks : List kept.Key).
+            told_in (entity.station_of s.entity) now (all_keys ks) told c2.history.items) (sym tells.keys)
+            ∙ ap (λ (t : EntityTold A).
+            told_in (entity.station_of s.entity) now (all_keys c3.keys.items) t c2.history.items) is
+            ∙ ap (λ (h : WorldHistory A).
+            told_in (entity.station_of s.entity) now (all_keys c3.keys.items) (told_by plan).told h) kept_history;
+      }
+
+-- items in front of others, from link addresses as well
+pub from_both : {A : Type 0} (xs ys : List (Item A)) → AreFromMacs xs → AreFromMacs ys → AreFromMacs (xs ++ ys)
+from_both [] ys a b = b
+from_both (x ∷ xs) ys a b = (a.0, from_both xs ys a.1 b)
+
+-- an internetwork as it is seen
+abbrev pub seen : {A : Type 0} → Parts A → ℕ → List (IpRelay A) → List (WorldStation A) → Chronicle A → WorldState A
+seen site moment relays stations c = record {
+  site = site;
+  moment = moment;
+  relays = relays;
+  stations = stations;
+  items = c.items.items;
+  keys = all_keys c.keys.items;
+  history = c.history.items;
+  said = all_said c.said.items;
+}
+
+-- the station at a place did so
+pub done_so : {A : Type 0} (site : Parts A) (moment : ℕ) (rs : List (IpRelay A)) (ss : List (WorldStation A)) (c0 c1 : Chronicle A) (place : ℕ)
+    (s next : WorldStation A) (plan : StationPlan (IpPortState A) A) (key : Option kept.Key)
+    (entry : Option (Entry Station (Request A) (Reply A))) → slice_get ss place ≡ Some s → next ≡ left_by moment plan s →
+    Tells moment plan key entry s c0 c1 →
+    IsDone (seen site moment rs ss c0) (seen site moment rs (slice_set ss place next) c1) place plan key entry s
+done_so {A} site moment rs ss c0 c1 place s next plan key entry there left tells = record {
+  acts = record {
+    there = there;
+    fresh = tells.fresh;
+    insides = tells.insides;
+    site = refl;
+    moment = refl;
+    relays = refl;
+    stations = ap (λ (x : WorldStation A). slice_set ss place x) left;
+    items_are = tells.items;
+    said = tells.said;
+  };
+  keys = tells.keys;
+  history = tells.history;
+}
+
+-- what is kept is seen the same
+pub same_seen : {A : Type 0} (site : Parts A) (moment : ℕ) (rs : List (IpRelay A)) (ss : List (WorldStation A)) (c0 c1 : Chronicle A) →
+    IsSame c0 c1 → seen site moment rs ss c1 ≡ seen site moment rs ss c0
+same_seen {A} site moment rs ss c0 c1 same =
+    ap (λ (is : List (Item A)). record (seen site moment rs ss c1) { items = is }) same.items
+    ∙ ap (λ (ks : List kept.Key). record (seen site moment rs ss c1) { items = c0.items.items; keys = all_keys ks }) same.keys
+    ∙ ap (λ (h : WorldHistory A). record (seen site moment rs ss c1) {
+      items = c0.items.items;
+      keys = all_keys c0.keys.items;
+      history = h;
+    }) same.history
+    ∙ ap (λ (ms : List (SaidMessage A)). record (seen site moment rs ss c0) { said = all_said ms }) same.said
+
+-- one put where it was changes nothing
+pub set_same : {X : Type 0} (xs : List X) (n : ℕ) (x : X) → slice_get xs n ≡ Some x → slice_set xs n x ≡ xs
+set_same [] n x e = refl
+set_same (y ∷ ys) zero x e = ap (λ (z : _). z ∷ ys) (let s : x ≡ y = cc in s)
+set_same (y ∷ ys) (suc n) x e = ap (λ (zs : List _). y ∷ zs) (set_same ys n x e)
+
+module _ {A R E : Type 0} (r : Result R E) (site : Parts A) (moment : ℕ) (rs : List (IpRelay A))
+    (ss : List (WorldStation A)) (place : ℕ) (s x : WorldStation A) (plan : StationPlan (IpPortState A) A) (there : slice_get ss place ≡ Some s) where
+  -- the stations are steady, whether it was done or refused
+  pub steady_act : OnOk r (x ≡ left_by moment plan s) → OnErr r (x ≡ s) → AreSteady site moment ss →
+      MayBeDone moment plan s → AreSteady site moment (slice_set ss place x)
+  steady_act left same steady may = by_result r left same
+    where
+      by_result : (q : Result R E) → OnOk q (x ≡ left_by moment plan s) → OnErr q (x ≡ s) →
+          AreSteady site moment (slice_set ss place x)
+      by_result (Ok u) left same = steady_set site moment ss place s x plan.entity there
+          (ap (λ (y : WorldStation A). y.entity) left) steady
+          (subst (λ (y : WorldStation A). IsHost moment y) (sym left) may.stands)
+      by_result (Err e) left same = subst (λ (xs : List (WorldStation A)). AreSteady site moment xs)
+          (sym (ap (λ (y : WorldStation A). slice_set ss place y) same ∙ set_same ss place s there)) steady
+
+  -- .. and all pass on
+  pub passing_act : (c0 c1 : Chronicle A) (key : Option kept.Key)
+      (entry : Option (Entry Station (Request A) (Reply A))) → OnOk r (Tells moment plan key entry s c0 c1) →
+      OnErr r (IsSame c0 c1) → ArePassing moment rs c0.items.items → ArePassing moment rs c1.items.items
+  passing_act c0 c1 key entry tells kept steady = by_result r tells kept
+    where
+      by_result : (q : Result R E) → OnOk q (Tells moment plan key entry s c0 c1) → OnErr q (IsSame c0 c1) →
+          ArePassing moment rs c1.items.items
+      by_result (Ok u) tells kept = record {
+        relays = steady.relays;
+        from = subst (λ (is : List (Item A)). AreFromMacs is) (sym tells.items)
+            (from_both c0.items.items (items_of moment s.ports (told_by plan).out) steady.from tells.from);
+      }
+      by_result (Err e) tells kept = record {
+        relays = steady.relays;
+        from = subst (λ (is : List (Item A)). AreFromMacs is) (sym kept.items) steady.from;
+      }
+
+  module _ (w : WorldState A) (c0 c1 : Chronicle A) (view : seen site moment rs ss c0 ≡ w) where
+    -- it was done
+    pub done_act : (key : Option kept.Key) (entry : Option (Entry Station (Request A) (Reply A))) →
+        OnOk r (x ≡ left_by moment plan s) → OnOk r (Tells moment plan key entry s c0 c1) →
+        OnOk r (AtPlace place w.stations
+        (IsDone w (seen site moment rs (slice_set ss place x) c1) place plan key entry))
+    done_act key entry left tells = by_result r left tells
+      where
+        by_result : (q : Result R E) → OnOk q (x ≡ left_by moment plan s) → OnOk q (Tells moment plan key entry s c0 c1) →
+            OnOk q (AtPlace place w.stations
+            (IsDone w (seen site moment rs (slice_set ss place x) c1) place plan key entry))
+        by_result (Ok u) left tells = subst (λ (z : WorldState A). AtPlace place z.stations
+            (IsDone z (seen site moment rs (slice_set ss place x) c1) place plan key entry)) view (record {
+              one = s;
+              there = there;
+              holds = done_so site moment rs ss c0 c1 place s x plan key entry there left tells;
+            })
+        by_result (Err e) left tells = tt
+
+    -- or refused, and nothing changed
+    pub unchanged_act : OnErr r (x ≡ s) → OnErr r (IsSame c0 c1) →
+        OnErr r (seen site moment rs (slice_set ss place x) c1 ≡ w)
+    unchanged_act same kept = by_result r same kept
+      where
+        by_result : (q : Result R E) → OnErr q (x ≡ s) → OnErr q (IsSame c0 c1) →
+            OnErr q (seen site moment rs (slice_set ss place x) c1 ≡ w)
+        by_result (Ok u) same kept = tt
+        by_result (Err e) same kept =
+            ap (λ (y : WorldStation A). seen site moment rs (slice_set ss place y) c1) same
+            ∙ ap (λ (xs : List (WorldStation A)). seen site moment rs xs c1) (set_same ss place s there)
+            ∙ same_seen site moment rs ss c0 c1 kept ∙ view

@@ -1,0 +1,9 @@
+pub mod Hosts
+pub mod Standing
+pub mod ActingLaws
+pub mod PlanLaws
+pub mod EventLaws
+pub mod StrayLaws
+pub mod FreshLaws
+pub mod FlowLaws
+pub mod PassingLaws

@@ -1,0 +1,22 @@
+use Rattle.std.proofs.Common.{◌≡◌, sym, ap, subst, ℕ, List, Option, Some, None}
+use Rattle.std.specs.Prelude.{slice_get}
+use Rattle.headline_client.proofs.Places.{all_at}
+use Rattle.hosts.specs.Hosts.{IsHost}
+use Rattle.internetwork.specs.World.{WorldState}
+use Rattle.internetwork.proofs.internetwork.Internetwork.addressee.Goals as goal
+
+-- this port of this station is
+pub returns-in-Some-clause-addressee : goal.returns-in-Some-clause-addressee
+returns-in-Some-clause-addressee g c =
+    let f = ap (λ (w : WorldState _). w.stations) c.self.view_is in record {
+      at_address = cc (f, c.as_slice.ensures.value, c.in-Some.ensures.there.at_address);
+      there = cc (f, c.as_slice.ensures.value, c.in-Some.ensures.there.there);
+      port_is = c.in-Some.ensures.there.port_is;
+    }
+
+pub returns-in-Some-clause-host : goal.returns-in-Some-clause-host
+returns-in-Some-clause-host g c =
+    subst (λ (w : WorldState _). IsHost w.moment c.in-Some.found.station.now) c.self.view_is
+    (all_at (λ s. IsHost c.self.inside.moment s) c.self.inside.stations.items c.in-Some.found.place
+    c.in-Some.found.station.now c.self.invariant.0.hosts
+    (cc (c.as_slice.ensures.value, c.in-Some.ensures.there.there)))

@@ -1,0 +1,23 @@
+use Rattle.std.proofs.Common.{◌∙◌, ap, List}
+use Rattle.hosts.specs.Stations.{WorldStation}
+use Rattle.internetwork.proofs.FreshLaws.{passing_new, steady_new}
+use Rattle.internetwork.proofs.internetwork.Internetwork.new.Goals as goal
+use Rattle.internetwork.specs.World.{fresh_world}
+use Rattle.relays.specs.Laws.{IpRelay}
+
+-- its stations and relays stand
+pub open-requires : goal.open-requires
+open-requires g c = record {
+  steady = steady_new c.args.site c.in_ok-stations.stations.items c.in_ok-stations.ensures.sound
+      c.in_ok-stations.ensures.stations;
+  passing = passing_new c.args.site c.in_ok-relays.relays.items c.in_ok-stations.ensures.sound
+      c.in_ok-relays.ensures.relays;
+}
+
+-- it is fresh
+pub returns-clause-fresh : goal.returns-clause-fresh
+returns-clause-fresh g c = c.open.ensures
+    ∙ ap (λ (ss : List (WorldStation _)).
+    record (fresh_world c.args.site) { relays = c.in_ok-relays.relays.items; stations = ss })
+    c.in_ok-stations.ensures.stations
+    ∙ ap (λ (rs : List (IpRelay _)). record (fresh_world c.args.site) { relays = rs }) c.in_ok-relays.ensures.relays

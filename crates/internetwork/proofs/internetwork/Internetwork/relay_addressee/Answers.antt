@@ -1,0 +1,36 @@
+use Rattle.std.proofs.Common.{◌≡◌, sym, ap, subst, ℕ, List, Option, Some, None}
+use Rattle.std.specs.Prelude.{slice_get}
+use Rattle.headline_client.proofs.Places.{all_at}
+use Rattle.relays.specs.Laws.{RelayStands}
+use Rattle.internetwork.proofs.EventLaws.{none_then}
+use Rattle.internetwork.specs.World.{WorldState}
+use Rattle.internetwork.proofs.internetwork.Internetwork.relay_addressee.Goals as goal
+
+-- no station is there, and this place of this relay is
+pub returns-in-Some-clause-addressee : goal.returns-in-Some-clause-addressee
+returns-in-Some-clause-addressee g c =
+    let f = ap (λ (w : WorldState _). w.relays) c.self.view_is in record {
+      no_station = none_then c.addressee.result (cc (c.is_some.ensures, c.if-is_some.false)) c.addressee.ensures.nobody;
+      relay = record {
+        at_address = cc (f, c.as_slice.ensures.value, c.in-Some.ensures.there.at_address);
+        there = cc (f, c.as_slice.ensures.value, c.in-Some.ensures.there.there);
+        port_is = c.in-Some.ensures.there.port_is;
+      };
+    }
+
+pub returns-in-Some-clause-stands : goal.returns-in-Some-clause-stands
+returns-in-Some-clause-stands g c =
+    subst (λ (w : WorldState _). RelayStands w.moment c.in-Some.found.relay.now) c.self.view_is
+    (all_at (λ r. RelayStands c.self.inside.moment r) c.self.inside.relays.items c.in-Some.found.place
+    c.in-Some.found.relay.now c.self.invariant.1.relays
+    (cc (c.as_slice.ensures.value, c.in-Some.ensures.there.there)))
+
+-- none is
+pub returns-in-None-clause-none : goal.returns-in-None-clause-none
+returns-in-None-clause-none g c = let f = ap (λ (w : WorldState _). w.relays) c.self.view_is in record {
+  none = λ place port r to. c.in-None.ensures.none.none place port r (record {
+    at_address = cc (f, c.as_slice.ensures.value, to.relay.at_address);
+    there = cc (f, c.as_slice.ensures.value, to.relay.there);
+    port_is = to.relay.port_is;
+  });
+}

@@ -1,0 +1,179 @@
+-- Why an event is refused.
+use Rattle.std.specs.Prelude.{◌≡◌, ◌⊎◌, ◌<◌, ℕ, ◌+◌, true, false, List, [], ◌∷◌, map, Some, slice_get}
+use Rattle.link_ip.specs.Hearing as ip
+use Rattle.link_ip.specs.Port as port
+use Rattle.link_ip.specs.Steps as ip_steps
+use Rattle.link_ports.specs.Ports.{IsTooLong}
+use Rattle.npdu.specs.declared.mac.Station.{Station}
+use Rattle.profile.specs.Times.{MAX_MOMENT_MS}
+use Rattle.site_station.specs.Entity.{IsClient, told_awake}
+use Rattle.site_station.specs.Station.{AskingIsRefused, HearingIsRefused, ITS_PORT, IsNotForeign, IssueIsRefused}
+use Rattle.tags.specs.declared.fault.Fault.{Fault}
+use Rattle.tags.specs.declared.fault.Fault.TheVariants.{Expired, Memory, NoSuch, TooLong}
+use Rattle.traffic.specs.Seeking.{is_young}
+use Rattle.traffic.specs.declared.item.Item.{Item}
+use Rattle.relays.specs.Laws.{IpRelay}
+use Rattle.relays.specs.Refusals as relay
+use Rattle.internetwork.specs.Finding.{HasNoRelay, IsAddressee, IsNamed, IsNoRelay, IsNobody, IsRelayAddressee, IsRelayNamed, addressee_of}
+use Rattle.internetwork.specs.Step.{Steps}
+use Rattle.hosts.specs.Stations.{WorldStation}
+use Rattle.internetwork.specs.World.{WorldState}
+use Rattle.internetwork.specs.declared.event.Event.{Event}
+use Rattle.internetwork.specs.declared.event.Event.TheVariants as event
+
+-- the places of a station's ports (6.1)
+abbrev pub places_of : {A : Type 0} → WorldStation A → List Station
+places_of s = map (λ l. port.station_of l) s.ports
+
+-- the station of a name refuses so
+pub record OfNamed {A : Type 0} (name : List ℕ) (w : WorldState A) (Says : WorldStation A → Type 0) : Type 0 where
+  pub place : ℕ
+  pub s : WorldStation A
+  pub named : IsNamed name w place s
+  pub refuses : Says s
+
+-- no station has a name, or that one refuses so
+abbrev pub RefusesNamed : {A : Type 0} → (name : List ℕ) → WorldState A → Fault → (WorldStation A → Type 0) → Type 0
+RefusesNamed name w fault Says = ((fault ≡ NoSuch) × IsNobody name w) ⊎ OfNamed name w Says
+
+-- a wake is refused where what its entity says is too long for its port (9, J)
+abbrev pub WakeIsTooLong : {A : Type 0} → (now : ℕ) → Fault → WorldStation A → Type 0
+WakeIsTooLong now fault s = (fault ≡ TooLong) × IsTooLong (places_of s) ITS_PORT (told_awake now s.entity).said
+
+-- nobody has this name
+pub record HasNoName {A : Type 0} (name : List ℕ) (w : WorldState A) : Type 0 where
+  pub station : IsNobody name w
+  pub relay : IsNoRelay name w
+
+-- the relay of a name refuses its wake: what it says is too long for its port (6.6.2)
+pub record OfRelay {A : Type 0} (name : List ℕ) (w : WorldState A) (fault : Fault) : Type 0 where
+  pub place : ℕ
+  pub r : IpRelay A
+  pub named : IsRelayNamed name w place r
+  pub refuses : relay.WakeIsRefused A port.station_of w.moment r fault
+
+-- why a wake is refused
+abbrev pub RefusesWake : {A : Type 0} → (name : List ℕ) → WorldState A → Fault → Type 0
+RefusesWake name w fault =
+    ((fault ≡ NoSuch) × HasNoName name w) ⊎ (OfNamed name w (WakeIsTooLong w.moment fault) ⊎ OfRelay name w fault)
+
+-- an item was never put out, or goes to no relay
+pub record GoesToNoRelay {A : Type 0} (number : ℕ) (w : WorldState A) : Type 0 where
+  pub none : (item : Item A) → slice_get w.items number ≡ Some item → HasNoRelay (addressee_of item) w
+
+-- an item was never put out, or goes to nobody
+pub record IsNowhere {A : Type 0} (number : ℕ) (w : WorldState A) : Type 0 where
+  pub none : (item : Item A) (place port : ℕ) (s : WorldStation A) → slice_get w.items number ≡ Some item →
+      IsAddressee (addressee_of item) w place port s → ⊥
+  pub relay : GoesToNoRelay number w
+
+-- an item that goes to a station, which may still hear it or not
+pub record GoesTo {A : Type 0} (number : ℕ) (w : WorldState A) : Type 0 where
+  pub item : Item A
+  pub place : ℕ
+  pub port : ℕ
+  pub s : WorldStation A
+  pub there : slice_get w.items number ≡ Some item
+  pub addressee : IsAddressee (addressee_of item) w place port s
+
+-- .. is too old to be heard
+pub record IsTooOld {A : Type 0} (number : ℕ) (w : WorldState A) : Type 0 where
+  pub goes : GoesTo number w
+  pub old : is_young w.moment goes.item ≡ false
+
+-- .. is refused by its addressee, which may still hear it
+pub record IsRefusedThere {A : Type 0} (number : ℕ) (w : WorldState A) (fault : Fault) : Type 0 where
+  pub goes : GoesTo number w
+  pub young : is_young w.moment goes.item ≡ true
+  pub refuses : HearingIsRefused ip_steps.Hears ip.IsRefused port.station_of w.moment goes.port goes.item.from
+      goes.item.octets goes.item.stamp goes.s fault
+
+-- an item goes to a relay, which may still hear it or not
+pub record GoesToRelay {A : Type 0} (number : ℕ) (w : WorldState A) : Type 0 where
+  pub item : Item A
+  pub place : ℕ
+  pub port : ℕ
+  pub r : IpRelay A
+  pub there : slice_get w.items number ≡ Some item
+  pub addressee : IsRelayAddressee (addressee_of item) w place port r
+
+-- .. is too old to be heard by it
+pub record IsTooOldThere {A : Type 0} (number : ℕ) (w : WorldState A) : Type 0 where
+  pub goes : GoesToRelay number w
+  pub old : is_young w.moment goes.item ≡ false
+
+-- .. is refused by it, though it may still hear it (6.5, J.4.5)
+pub record RelayRefuses {A : Type 0} (number : ℕ) (w : WorldState A) (fault : Fault) : Type 0 where
+  pub goes : GoesToRelay number w
+  pub young : is_young w.moment goes.item ≡ true
+  pub refuses : relay.HearingIsRefused ip_steps.Hears ip.IsRefused port.station_of w.moment goes.port goes.item.from
+      goes.item.octets goes.item.stamp goes.r fault
+
+-- why an item that goes to a relay is refused
+abbrev pub IsRefusedByRelay : {A : Type 0} → (number : ℕ) → WorldState A → Fault → Type 0
+IsRefusedByRelay number w fault = ((fault ≡ Expired) × IsTooOldThere number w) ⊎ RelayRefuses number w fault
+
+-- why an item isn't handed to anyone: there is none, it goes to no station, or it is too old
+abbrev pub RefusesItem : {A : Type 0} → (number : ℕ) → WorldState A → Fault → Type 0
+RefusesItem number w fault = ((fault ≡ NoSuch) × IsNowhere number w) ⊎ ((fault ≡ Expired) × IsTooOld number w)
+
+-- so many milliseconds don't pass at once
+abbrev pub IsNoTick : (n moment : ℕ) → Type 0
+IsNoTick n moment = (n < 1) ⊎ ((60000 < n) ⊎ (MAX_MOMENT_MS < moment + n))
+
+-- why an event is refused, other than for want of memory
+abbrev pub Refuses : {A : Type 0} → Event A → WorldState A → Fault → Type 0
+Refuses (event.Issue client instance request) w fault = RefusesNamed client w fault
+    (λ s. IssueIsRefused (places_of s) w.moment instance request s.entity fault)
+Refuses (event.WhoIs client limits) w fault = RefusesNamed client w fault
+    (λ s. AskingIsRefused (places_of s) w.moment limits s.entity fault)
+Refuses (event.Tick n) w fault =
+    (fault ≡ NoSuch) × IsNoTick n w.moment
+Refuses (event.Wake station) w fault = RefusesWake station w fault
+Refuses (event.Deliver number) w fault =
+    RefusesItem number w fault ⊎ (IsRefusedThere number w fault ⊎ IsRefusedByRelay number w fault)
+Refuses (event.Restart station) w fault = RefusesNamed station w fault (λ s. (fault ≡ NoSuch) × IsClient s.entity)
+Refuses (event.Hear network station octets) w fault = fault ≡ NoSuch
+Refuses (event.Register station) w fault = RefusesNamed station w fault
+    (λ s. (fault ≡ NoSuch) × IsNotForeign ip_steps.Registers w.moment s)
+
+-- an item that may still be heard goes to a station
+pub record MayBeHeard {A : Type 0} (number : ℕ) (w : WorldState A) : Type 0 where
+  pub goes : GoesTo number w
+  pub young : is_young w.moment goes.item ≡ true
+
+-- .. or to a relay
+pub record RelayMayHear {A : Type 0} (number : ℕ) (w : WorldState A) : Type 0 where
+  pub goes : GoesToRelay number w
+  pub young : is_young w.moment goes.item ≡ true
+
+-- an event may want memory: not a tick, and no delivery that is refused for the item itself
+abbrev pub MayGrow : {A : Type 0} → Event A → WorldState A → Type 0
+MayGrow (event.Tick n) w = ⊥
+MayGrow (event.Deliver number) w = MayBeHeard number w ⊎ RelayMayHear number w
+MayGrow (event.Hear network station octets) w = ⊥
+MayGrow e w = Unit {0}
+
+-- why an event is refused
+abbrev pub IsRefused : {A : Type 0} → Event A → WorldState A → Fault → Type 0
+IsRefused e w fault = ((fault ≡ Memory) × MayGrow e w) ⊎ Refuses e w fault
+
+-- an event leaves what it leaves where it is accepted, or is refused and changes nothing
+pub record IsRefusedSo {A : Type 0} (e : Event A) (w v : WorldState A) : Type 0 where
+  pub fault : Fault
+  pub refused : IsRefused e w fault
+  pub same : v ≡ w
+
+abbrev pub Comes : {A : Type 0} → Event A → WorldState A → WorldState A → Type 0
+Comes e w v = Steps e w v ⊎ IsRefusedSo e w v
+
+-- one event, and then others
+pub record Then {A : Type 0} (First Rest : WorldState A → Type 0) : Type 0 where
+  pub middle : WorldState A
+  pub first : First middle
+  pub rest : Rest middle
+
+-- what events leave, one after another: none is left out but the refused
+abbrev pub Runs : {A : Type 0} → List (Event A) → WorldState A → WorldState A → Type 0
+Runs [] w v = v ≡ w
+Runs (e ∷ es) w v = Then (Comes e w) (λ u. Runs es u v)

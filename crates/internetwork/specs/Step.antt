@@ -1,0 +1,195 @@
+-- What an event leaves of a world: the station addressed makes its own step, no other changes, and items, what was said
+-- and the history grow by exactly what came of it.
+use Rattle.std.specs.Prelude.{◌≡◌, ◌≤◌, ◌⊎◌, ℕ, ◌+◌, true, List, [], ◌∷◌, ◌++◌, length, Option, Some, None, slice_get}
+use Rattle.std.specs.Prelude.{slice_set}
+use Rattle.apdu.specs.declared.unconfirmed.Limits.{Limits}
+use Rattle.history.specs.declared.Entry.TheVariants.{Issue, Restarted}
+use Rattle.inside.specs.Inside.{AreInside, Said}
+use Rattle.link_ip.specs.Port as port
+use Rattle.link_ip.specs.Steps as ip
+use Rattle.primitives.specs.Sound.{IsSoundRequest}
+use Rattle.primitives.specs.declared.plain_data.Request.{Request}
+use Rattle.profile.specs.Times.{MAX_MOMENT_MS}
+use Rattle.site_station.specs.Entity as entity
+use Rattle.site_station.specs.Station.{StationAsks, StationHears, StationIssues, StationRestarts}
+use Rattle.site_station.specs.Station.{StationRegisters, StationTold, StationWakes}
+use Rattle.site_station.specs.declared.entity.Entity.{Entity}
+use Rattle.site_station.specs.declared.entity.Entity.TheVariants.{Device, Client}
+use Rattle.traffic.specs.Seeking.{is_young}
+use Rattle.traffic.specs.declared.item.Item.{Item}
+use Rattle.link_ports.specs.declared.ports.PortSent.{PortSent}
+use Rattle.relays.specs.Laws.{IpRelay, ip_places}
+use Rattle.relays.specs.Steps.{RelayHears, RelayWakes}
+use Rattle.internetwork.specs.Finding.{IsAddressee, IsNamed, IsRelayAddressee, IsRelayNamed, addressee_of}
+use Rattle.hosts.specs.Opening.{object_site}
+use Rattle.hosts.specs.Stations.{WorldStation}
+use Rattle.chronicle.specs.Growing.{WorldHistory, items_at, items_of, told_in}
+use Rattle.internetwork.specs.World.{WorldState}
+use Rattle.internetwork.specs.declared.event.Event.{Event}
+use Rattle.internetwork.specs.declared.event.Event.TheVariants as event
+
+-- the item of this number was delivered
+abbrev pub delivered : {A : Type 0} → (number : ℕ) → Item A → List (Item A) → List (Item A)
+delivered number i items = slice_set items number (record i { is_delivered = true })
+
+-- the station at a place did this: what it put out stands behind these items, and what its entity said behind all that
+-- was said; no other station has changed, and the moment is as before
+pub record Acts {A : Type 0} (w v : WorldState A) (place : ℕ) (s next : WorldStation A) (t : StationTold A)
+    (items : List (Item A)) : Type 0 where
+  pub there : slice_get w.stations place ≡ Some s
+  pub fresh : List Said
+  pub insides : AreInside (entity.station_of s.entity).net t.told.said fresh
+  pub site : v.site ≡ w.site
+  pub moment : v.moment ≡ w.moment
+  pub relays : v.relays ≡ w.relays
+  pub stations : v.stations ≡ slice_set w.stations place next
+  pub items_are : v.items ≡ items ++ items_of w.moment s.ports t.out
+  pub said : v.said ≡ w.said ++ fresh
+
+-- the relay at a place did this: what it put out stands behind these items, and nothing else has changed
+pub record RelayActs {A : Type 0} (w v : WorldState A) (place : ℕ) (r next : IpRelay A) (out : List (PortSent A))
+    (items : List (Item A)) : Type 0 where
+  pub there : slice_get w.relays place ≡ Some r
+  pub is : v ≡ record w {
+    relays = slice_set w.relays place next;
+    items = items ++ items_at w.moment (ip_places r) out;
+  }
+
+-- an item is handed to its addressee, which hears it
+pub record Delivers {A : Type 0} (number : ℕ) (w v : WorldState A) : Type 0 where
+  pub item : Item A
+  pub place : ℕ
+  pub port : ℕ
+  pub s : WorldStation A
+  pub next : WorldStation A
+  pub told : StationTold A
+  pub there : slice_get w.items number ≡ Some item
+  pub addressee : IsAddressee (addressee_of item) w place port s
+  pub young : is_young w.moment item ≡ true
+  pub hears : StationHears ip.Hears ip.Downs w.moment port item.from item.octets item.stamp s told next
+  pub acts : Acts w v place s next told (delivered number item w.items)
+  pub keys : v.keys ≡ w.keys
+  pub history : v.history ≡ told_in (entity.station_of s.entity) w.moment w.keys told.told w.history
+
+-- an item is handed to a relay, which hears it (6.5, J.4.5)
+pub record DeliversToRelay {A : Type 0} (number : ℕ) (w v : WorldState A) : Type 0 where
+  pub item : Item A
+  pub place : ℕ
+  pub port : ℕ
+  pub r : IpRelay A
+  pub next : IpRelay A
+  pub out : List (PortSent A)
+  pub there : slice_get w.items number ≡ Some item
+  pub addressee : IsRelayAddressee (addressee_of item) w place port r
+  pub young : is_young w.moment item ≡ true
+  pub hears : RelayHears ip.Hears ip.Downs w.moment port item.from item.octets item.stamp r out next
+  pub acts : RelayActs w v place r next out (delivered number item w.items)
+
+-- a station wakes
+pub record Wakes {A : Type 0} (name : List ℕ) (w v : WorldState A) : Type 0 where
+  pub place : ℕ
+  pub s : WorldStation A
+  pub next : WorldStation A
+  pub told : StationTold A
+  pub named : IsNamed name w place s
+  pub wakes : StationWakes ip.is_due ip.Idles ip.Downs w.moment s told next
+  pub acts : Acts w v place s next told w.items
+  pub keys : v.keys ≡ w.keys
+  pub history : v.history ≡ told_in (entity.station_of s.entity) w.moment w.keys told.told w.history
+
+-- a relay wakes (6.6.2, J.5.2.3)
+pub record RelayWakesUp {A : Type 0} (name : List ℕ) (w v : WorldState A) : Type 0 where
+  pub place : ℕ
+  pub r : IpRelay A
+  pub next : IpRelay A
+  pub out : List (PortSent A)
+  pub named : IsRelayNamed name w place r
+  pub wakes : RelayWakes ip.is_due ip.Idles ip.Downs w.moment r out next
+  pub acts : RelayActs w v place r next out w.items
+
+-- a foreign station registers at its manager (J.5.2)
+pub record Registers {A : Type 0} (name : List ℕ) (w v : WorldState A) : Type 0 where
+  pub place : ℕ
+  pub s : WorldStation A
+  pub next : WorldStation A
+  pub told : StationTold A
+  pub named : IsNamed name w place s
+  pub registers : StationRegisters ip.Registers w.moment s told next
+  pub acts : Acts w v place s next told w.items
+  pub keys : v.keys ≡ w.keys
+  pub history : v.history ≡ w.history
+
+-- a client issues a request to the device of an instance: the next issue of the history (5.4.4.1)
+pub record Issues {A : Type 0} (name : List ℕ) (instance : ℕ) (request : Request A) (w v : WorldState A) : Type 0 where
+  pub place : ℕ
+  pub s : WorldStation A
+  pub next : WorldStation A
+  pub told : StationTold A
+  pub id : ℕ
+  pub named : IsNamed name w place s
+  pub issues : StationIssues ip.Downs w.moment instance request id s told next
+  pub acts : Acts w v place s next told w.items
+  pub keys : v.keys ≡ w.keys ++ record { client = entity.station_of s.entity; invoke_id = id } ∷ []
+  pub history : v.history ≡
+      w.history ++ Issue (length w.keys) (entity.station_of s.entity) instance request w.moment ∷ []
+
+-- a client asks who is there (16.10.1)
+pub record Asks {A : Type 0} (name : List ℕ) (limits : Option Limits) (w v : WorldState A) : Type 0 where
+  pub place : ℕ
+  pub s : WorldStation A
+  pub next : WorldStation A
+  pub told : StationTold A
+  pub named : IsNamed name w place s
+  pub asks : StationAsks ip.Downs w.moment limits s told next
+  pub acts : Acts w v place s next told w.items
+  pub keys : v.keys ≡ w.keys
+  pub history : v.history ≡ w.history
+
+-- the entry of the history that a device restarted
+abbrev pub restarted : {A : Type 0} → (now : ℕ) → Entity A → WorldHistory A
+restarted now (Device d) = Restarted d.instance now ∷ []
+restarted now (Client c) = []
+
+-- a device restarts, with the objects that the site gives it (12)
+pub record Restarts {A : Type 0} (name : List ℕ) (w v : WorldState A) : Type 0 where
+  pub place : ℕ
+  pub s : WorldStation A
+  pub next : WorldStation A
+  pub told : StationTold A
+  pub named : IsNamed name w place s
+  pub restarts : StationRestarts port.at_moment w.moment
+      ((object_site w.site).opening (entity.station_of s.entity)) s told next
+  pub acts : Acts w v place s next told w.items
+  pub keys : v.keys ≡ w.keys
+  pub history : v.history ≡ w.history ++ restarted w.moment s.entity
+
+-- so many milliseconds pass at once: 1 to 60000, and not past the greatest moment
+pub record PassesNow (n moment : ℕ) : Type 0 where
+  pub least : 1 ≤ n
+  pub most : n ≤ 60000
+  pub greatest : moment + n ≤ MAX_MOMENT_MS
+
+-- time passes
+pub record Ticks {A : Type 0} (n : ℕ) (w v : WorldState A) : Type 0 where
+  pub passes : PassesNow n w.moment
+  pub is : v ≡ record w { moment = w.moment + n }
+
+-- what an event leaves, where it is accepted
+abbrev pub Steps : {A : Type 0} → Event A → WorldState A → WorldState A → Type 0
+Steps (event.Issue client instance request) w v = Issues client instance request w v
+Steps (event.WhoIs client limits) w v = Asks client limits w v
+Steps (event.Tick n) w v = Ticks n w v
+Steps (event.Wake station) w v = Wakes station w v ⊎ RelayWakesUp station w v
+Steps (event.Deliver number) w v = Delivers number w v ⊎ DeliversToRelay number w v
+Steps (event.Restart station) w v = Restarts station w v
+Steps (event.Hear network station octets) w v = ⊥
+Steps (event.Register station) w v = Registers station w v
+
+-- the requests of these events are sound (12, 15)
+abbrev pub IsSoundEvent : {A : Type 0} → Event A → Type 0
+IsSoundEvent (event.Issue client instance request) = IsSoundRequest request
+IsSoundEvent e = Unit {0}
+
+abbrev pub IsSoundIfAny : {A : Type 0} → Option (Event A) → Type 0
+IsSoundIfAny None = Unit {0}
+IsSoundIfAny (Some e) = IsSoundEvent e

@@ -1,0 +1,157 @@
+//! The stations of a site, what is on its way between them, and what happened.
+
+use chronicle::{Chronicle, SaidMessage, WorldEntry};
+use hosts::{WorldRelay, relays_of, stations_of};
+use link_ip::IpPort;
+use relays::RelayPlan;
+use site::Site;
+use site_station::{SiteStation, StationPlan};
+use std::alloc::Allocator;
+use std::marker::Model;
+use tags::Fault;
+use traffic::Item;
+
+/// A station of a world.
+pub(crate) type WorldStation<A> = SiteStation<IpPort<A>, A>;
+
+/// What a relay of a world plans.
+pub(crate) type WorldRelayPlan<A> = RelayPlan<IpPort<A>, A>;
+
+/// What a station of a world plans.
+pub(crate) type WorldPlan<A> = StationPlan<IpPort<A>, A>;
+
+/// The stations of a site, all that is on its way between them, and what happened, however it came about.
+#[derive(Drop)]
+pub struct Internetwork<A: Allocator + Copy> {
+    pub(crate) alloc: A,
+    pub(crate) site: Site<A>,
+    pub(crate) moment: u64,
+    pub(crate) relays: Vec<WorldRelay<A>, A>,
+    pub(crate) stations: Vec<WorldStation<A>, A>,
+    pub(crate) chronicle: Chronicle<A>,
+}
+
+impl<A: Allocator + Copy> Model for Internetwork<A> {
+    ghost use Rattle.chronicle.specs.Kept.{all_keys, all_said};
+    ghost use Rattle.internetwork.specs.Laws.{ArePassing, AreSteady};
+    ghost use Rattle.internetwork.specs.World.{WorldState};
+
+    ghost Value = { WorldState A };
+
+    ghost view = { λ w. record {
+      site = w.site;
+      moment = w.moment;
+      relays = w.relays.items;
+      stations = w.stations.items;
+      items = w.chronicle.items.items;
+      keys = all_keys w.chronicle.keys.items;
+      history = w.chronicle.history.items;
+      said = all_said w.chronicle.said.items;
+    } };
+
+    ghost invariant = { λ w. AreSteady w.site w.moment w.stations.items
+        × ArePassing w.moment w.relays.items w.chronicle.items.items };
+}
+
+impl<A: Allocator + Copy> Internetwork<A> {
+    ghost use Rattle.std.specs.Prelude.{◌≡◌, ◌≤◌, ◌⊎◌, [], IfErr, IfOk, OnOk};
+    ghost use Rattle.hosts.specs.Buses.{HasBus, IsOnIp};
+    ghost use Rattle.profile.specs.Times.{MAX_MOMENT_MS};
+    ghost use Rattle.chronicle.specs.Kept.{all_said};
+    ghost use Rattle.internetwork.specs.Laws.{ArePassing, AreSteady, Stands};
+    ghost use Rattle.internetwork.specs.World.{fresh_world};
+    ghost use Rattle.site.specs.Sound.{IsSound};
+
+    /// A site as it opens: the moment is 0, each device has the objects that the site gives it, no client has asked
+    /// anything, no router and no manager has heard anything, and nothing is on its way. So far it runs sites without a
+    /// station on a bus: any number of networks of BACnet/IP, with routers, broadcast managers and foreign stations
+    /// (6.6, J).
+    ///
+    /// # Errors
+    /// `BadSite` for any other site; or `Memory`.
+    #[tactic(auto, using(crate::proofs::FreshLaws::fresh_rules))]
+    pub fn new(alloc: A, site: Site<A>) -> Result<Self, Fault>
+        ensures fresh { IfOk result (λ world. world ≡ fresh_world site) }
+        ensures sound { OnOk result (IsSound site) }
+        ensures on_ip { OnOk result (IsOnIp site) }
+        ensures cause { IfErr result (λ fault. (fault ≡ Fault.Memory) ⊎ ((fault ≡ Fault.BadSite) × HasBus site)) }
+    {
+        let stations = stations_of(alloc, &site)?;
+        let relays = relays_of(alloc, &site)?;
+        Ok(Internetwork::open(alloc, site, relays, stations))
+    }
+
+    /// These relays and stations of a site at the moment 0: nothing was put out, issued or said.
+    fn open(
+        alloc: A,
+        site: Site<A>,
+        relays: Vec<WorldRelay<A>, A>,
+        stations: Vec<WorldStation<A>, A>,
+    ) -> Self
+        requires steady { AreSteady site 0 stations.items }
+        requires passing { ArePassing {A = A} 0 relays.items [] }
+        ensures { result ≡ record {
+          site = site;
+          moment = 0;
+          relays = relays.items;
+          stations = stations.items;
+          items = [];
+          keys = [];
+          history = [];
+          said = [];
+        } }
+    {
+        Internetwork {
+            alloc,
+            site,
+            moment: 0,
+            relays,
+            stations,
+            chronicle: Chronicle::new(alloc),
+        }
+    }
+
+    /// The moment, in milliseconds: the sum of all ticks.
+    pub fn moment(&self) -> u64
+        ensures { result ≡ self.now.moment }
+    {
+        self.now()
+    }
+
+    /// The moment, and what is known of each state at it.
+    pub(crate) fn now(&self) -> u64
+        ensures moment { result ≡ self.now.moment }
+        ensures greatest { result ≤ MAX_MOMENT_MS }
+        ensures stands { Stands self.now }
+    {
+        self.moment
+    }
+
+    /// The site.
+    pub fn site(&self) -> &Site<A>
+        ensures { result.now ≡ self.now.site }
+    {
+        &self.site
+    }
+
+    /// All that was put out, in order: an item has its place in it as its number.
+    pub fn items(&self) -> &[Item<A>]
+        ensures { result.now ≡ self.now.items }
+    {
+        self.chronicle.items.as_slice()
+    }
+
+    /// What was issued, executed, answered and ended, in order.
+    pub fn history(&self) -> &[WorldEntry<A>]
+        ensures { result.now ≡ self.now.history }
+    {
+        self.chronicle.history.as_slice()
+    }
+
+    /// What is inside each message that was said, in order.
+    pub fn said(&self) -> &[SaidMessage<A>]
+        ensures { all_said result.now ≡ self.now.said }
+    {
+        self.chronicle.said.as_slice()
+    }
+}

@@ -1,0 +1,38 @@
+-- Which of some relays is at an address (6.1).
+use Rattle.std.specs.Prelude.{◌≡◌, ℕ, ◌+◌, if◌then◌else◌, Bool, false, List, [], ◌∷◌, Option, Some, None, is_some, slice_get}
+use Rattle.npdu.specs.Mac.{same_station}
+use Rattle.npdu.specs.declared.mac.Station.{Station}
+use Rattle.relays.specs.Laws.{IpRelay, ip_places}
+
+-- the place of the first that passes the test, where the first of the list has the place n
+abbrev pub place_from : {X : Type 0} → ℕ → (X → Bool) → List X → Option ℕ
+place_from n test [] = None
+place_from n test (x ∷ xs) = if test x then Some n else place_from (n + 1) test xs
+
+-- the place of the first that passes the test
+abbrev pub place_of : {X : Type 0} → (X → Bool) → List X → Option ℕ
+place_of test xs = place_from 0 test xs
+
+-- a place, if there is one, is an address: for private functions alone
+abbrev pub is_place_at : Station → Option Station → Bool
+is_place_at x None = false
+is_place_at x (Some y) = same_station y x
+
+-- which of its places is at an address
+abbrev pub place_at : {A : Type 0} → Station → IpRelay A → Option ℕ
+place_at x r = place_of (λ y. same_station y x) (ip_places r)
+
+-- one of them is
+unfoldable pub is_there : {A : Type 0} → Station → IpRelay A → Bool
+is_there x r = is_some (place_at x r)
+
+-- this place of this relay is at an address
+pub record IsRelayAt {A : Type 0} (x : Station) (relays : List (IpRelay A)) (place port : ℕ) (r : IpRelay A) :
+    Type 0 where
+  pub at_address : place_of (is_there x) relays ≡ Some place
+  pub there : slice_get relays place ≡ Some r
+  pub port_is : place_at x r ≡ Some port
+
+-- no relay is at an address
+pub record IsNoRelayAt {A : Type 0} (x : Station) (relays : List (IpRelay A)) : Type 0 where
+  pub none : (place port : ℕ) (r : IpRelay A) → IsRelayAt x relays place port r → ⊥

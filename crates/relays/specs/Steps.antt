@@ -1,0 +1,28 @@
+-- What a relay does on each input, by its kind: what its kind does (6.5, J.4.5).
+use Rattle.std.specs.Prelude.{ℕ, Bool, List}
+use Rattle.link.specs.declared.step.LinkStep.{LinkStep}
+use Rattle.link_ports.specs.declared.ports.PortSent.{PortSent}
+use Rattle.npdu.specs.declared.mac.Mac.{Mac}
+use Rattle.npdu.specs.declared.parcel.Parcel.{Parcel}
+use Rattle.site_manager.specs.Station.{ManagerHears, ManagerWakes}
+use Rattle.site_router.specs.Station.{RouterStationHears, RouterStationWakes}
+use Rattle.relays.specs.declared.relay.Relay.{Relay}
+use Rattle.relays.specs.declared.relay.Relay.TheVariants.{Router, Manager}
+
+module _ {A L : Type 0} where
+  -- octets from an address, said at a moment, are heard on a port; a manager hears all at its one address
+  abbrev pub RelayHears : (hears : ℕ → Mac → List ℕ → ℕ → L → LinkStep A → L → Type 0) →
+      (downs : ℕ → Parcel A → L → LinkStep A → L → Type 0) → (now port : ℕ) → Mac → List ℕ → (stamp : ℕ) →
+      Relay L A → List (PortSent A) → Relay L A → Type 0
+  RelayHears hears downs now port from octets stamp (Router s) out (Router new) =
+      RouterStationHears hears downs now port from octets stamp s out new
+  RelayHears hears downs now port from octets stamp (Manager s) out (Manager new) =
+      ManagerHears now from octets stamp s out new
+  RelayHears hears downs now port from octets stamp r out new = ⊥
+
+  -- it wakes: a router, and then its ports (6.6.2, 9.5); a manager (J.5.2.3)
+  abbrev pub RelayWakes : (is_due : ℕ → L → Bool) → (wakes : ℕ → L → LinkStep A → L → Type 0) →
+      (downs : ℕ → Parcel A → L → LinkStep A → L → Type 0) → ℕ → Relay L A → List (PortSent A) → Relay L A → Type 0
+  RelayWakes is_due wakes downs now (Router s) out (Router new) = RouterStationWakes is_due wakes downs now s out new
+  RelayWakes is_due wakes downs now (Manager s) out (Manager new) = ManagerWakes now s out new
+  RelayWakes is_due wakes downs now r out new = ⊥

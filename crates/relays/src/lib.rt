@@ -1,0 +1,22 @@
+//! The relays of a site: its routers and broadcast managers (ANSI/ASHRAE 135, clauses 6.5, 6.6 and J.4), which have no
+//! application entity and pass on what they hear.
+//!
+//! To the layer above it promises of each input what the relay's own kind promises, by cases: it is planned before
+//! anything changes, and its commit takes no memory. On BACnet/IP whatever is inside what a relay puts out is inside what
+//! was on its way before, with the same stamp, and a relay stays where it is.
+//!
+//! - `plan`: what a relay would do.
+//! - `relay`: the relay, its inputs and their commit.
+//! - `finding`: which relay is at an address.
+//! - `laws`: what holds of each relay on BACnet/IP, for the proofs of the layers above.
+#![tactic(auto)]
+
+mod finding;
+mod laws;
+mod plan;
+mod relay;
+
+pub use finding::{RelayFound, relay_at, relay_in};
+pub use laws::{relays_pass_on, relays_stay};
+pub use plan::RelayPlan;
+pub use relay::Relay;
