@@ -4,8 +4,9 @@ use Rattle.std.specs.Prelude.{unwrap_or, string_bytes}
 use Rattle.clap.specs.Lexer.{usize_max}
 use Rattle.clap.specs.Words.{App, Rule, Row, Text, new_app, new_rule, with_rule, with_subcommand, all_of, first_of, one_of}
 use Rattle.clap.specs.declared.builder.ArgAction.TheVariants.{Append, Set, SetTrue}
+use Rattle.command_line.specs.declared.order.Checking.{Checking}
 use Rattle.command_line.specs.declared.order.Order.{Order}
-use Rattle.command_line.specs.declared.order.Order.TheVariants.{Answer, Explain, Sim}
+use Rattle.command_line.specs.declared.order.Order.TheVariants.{Answer, Check, Explain, Sim}
 use Rattle.command_line.specs.declared.order.Simulation.{Simulation}
 
 -- one word or more, which spell a datagram
@@ -31,6 +32,10 @@ bare =
 abbrev pub file_rule : Text → Rule
 file_rule id = record (new_rule id) { action = Some Set; value_names = 1; required = true }
 
+-- a word that names a file, or none
+abbrev pub optional_file_rule : Text → Rule
+optional_file_rule id = record (new_rule id) { action = Some Set; value_names = 1 }
+
 -- a flag that is given or not
 abbrev pub trace_rule : Rule
 trace_rule = record (new_rule (codes "trace")) { long = Some (codes "trace"); action = Some SetTrue }
@@ -41,11 +46,18 @@ sim =
     with_rule (with_rule (with_rule (new_app (codes "sim")) (file_rule (codes "site"))) (file_rule (codes "script")))
     trace_rule
 
--- the program: answer HEX.., explain HEX.., sim SITE SCRIPT [--trace]
+-- the subcommand that tells what is wrong with a site file, and with a script for it
+abbrev pub check : App
+check =
+    with_rule (with_rule (new_app (codes "check")) (file_rule (codes "site"))) (optional_file_rule (codes "script"))
+
+-- the program with the subcommands of one datagram: answer HEX.., explain HEX..
+abbrev pub tools : App
+tools = with_subcommand (with_subcommand bare (tool (codes "answer")).top) (tool (codes "explain")).top
+
+-- the program: those, sim SITE SCRIPT [--trace] and check SITE [SCRIPT]
 abbrev pub program : App
-program =
-    with_subcommand (with_subcommand (with_subcommand bare (tool (codes "answer")).top) (tool (codes "explain")).top)
-    sim.top
+program = with_subcommand (with_subcommand tools sim.top) check.top
 
 -- the subcommand that the words name
 abbrev pub name_of : Option (Text × List Row) → Option Text
@@ -81,10 +93,15 @@ pub record IsSimulationOf (rows : List Row) (s : Simulation) : Type 0 where
   pub script : string_bytes s.script ≡ word_of (codes "script") rows
   pub trace : IsFlag (one_of (codes "trace") rows) s.is_traced
 
+-- the check is of the files that are named, and without a script where none is
+pub record IsCheckingOf (rows : List Row) (c : Checking) : Type 0 where
+  pub site : string_bytes c.site ≡ word_of (codes "site") rows
+  pub script : option_map string_bytes c.script ≡ first_of (codes "script") rows
+
 -- the words name no subcommand that there is
 abbrev pub NamesNone : Option (Text × List Row) → Type 0
 NamesNone found = (name_of found ≢ Some (codes "answer")) × (name_of found ≢ Some (codes "explain"))
-    × (name_of found ≢ Some (codes "sim"))
+    × (name_of found ≢ Some (codes "sim")) × (name_of found ≢ Some (codes "check"))
 
 -- the order is the subcommand that the words name, with the words behind it
 abbrev pub IsOrderOf : Option (Text × List Row) → Option Order → Type 0
@@ -94,3 +111,4 @@ IsOrderOf found (Some (Answer words)) =
 IsOrderOf found (Some (Explain words)) =
     (name_of found ≡ Some (codes "explain")) × (map string_bytes words.items ≡ digits_of found)
 IsOrderOf found (Some (Sim s)) = (name_of found ≡ Some (codes "sim")) × IsSimulationOf (rows_in found) s
+IsOrderOf found (Some (Check c)) = (name_of found ≡ Some (codes "check")) × IsCheckingOf (rows_in found) c

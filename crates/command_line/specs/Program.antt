@@ -1,5 +1,5 @@
 -- What is done for a command line, and its exit status.
-use Rattle.std.specs.Prelude.{◌≡◌, ◌≢◌, ◌≤◌, ◌⊎◌, ℕ, Bool, true, false, List, Option, Some, None, Result, Ok, Err, IfOk, map, string_bytes}
+use Rattle.std.specs.Prelude.{◌≡◌, ◌≢◌, ◌≤◌, ◌⊎◌, ℕ, Bool, true, false, List, Option, Some, None, Result, Ok, Err, IfOk, map, option_map, string_bytes}
 use Rattle.std.specs.Global.{Global}
 use Rattle.clap.specs.Words.{Text, FailsBy, fault_of, kind_of, subcommand_of}
 use Rattle.clap.specs.declared.error.Error.{Error}
@@ -8,9 +8,11 @@ use Rattle.clap.specs.declared.error.kind.ErrorKind.TheVariants.{OutOfMemory, Di
 use Rattle.console.specs.Answer.{Known, text_of, PrintsAnswer}
 use Rattle.console.specs.Builtin.{builtin_device}
 use Rattle.console.specs.Explain.{PrintsExplained}
+use Rattle.command_line.specs.declared.order.Checking.{Checking}
 use Rattle.command_line.specs.declared.order.Order.{Order}
-use Rattle.command_line.specs.declared.order.Order.TheVariants.{Answer, Explain, Sim}
+use Rattle.command_line.specs.declared.order.Order.TheVariants.{Answer, Check, Explain, Sim}
 use Rattle.command_line.specs.declared.order.Simulation.{Simulation}
+use Rattle.site_check.specs.Judged.{AreJudged}
 use Rattle.site_run.specs.Simulate.{Simulates}
 use Rattle.site_run.specs.declared.running.Telling.{Telling}
 use Rattle.site_run.specs.declared.running.Telling.TheVariants.{Entries, ItemsAndEntries}
@@ -44,11 +46,28 @@ pub record PrintsSimulation (reads : List ℕ → List ℕ → Type 0) (s : Simu
   pub script_read : reads (string_bytes s.script) script
   pub simulates : Simulates Global (telling_of s.is_traced) site script old new
 
--- what is done for what the words ask for: the status is the tool's, and with status 0 its text is printed
+-- a file was read, if one is named
+abbrev pub IsReadIfNamed : (List ℕ → List ℕ → Type 0) → Option (List ℕ) → Option (List ℕ) → Type 0
+IsReadIfNamed reads None None = Unit {0}
+IsReadIfNamed reads None (Some text) = ⊥
+IsReadIfNamed reads (Some name) None = ⊥
+IsReadIfNamed reads (Some name) (Some text) = reads name text
+
+-- the files of a check were read, by what reads them, and they are judged to have no fault
+pub record HaveNoFault (reads : List ℕ → List ℕ → Type 0) (c : Checking) : Type 0 where
+  pub site : List ℕ
+  pub script : Option (List ℕ)
+  pub site_read : reads (string_bytes c.site) site
+  pub script_read : IsReadIfNamed reads (option_map string_bytes c.script) script
+  pub judged : AreJudged Global site script true
+
+-- what is done for what the words ask for: the status is the tool's, and with status 0 its text is printed, or
+-- the files have no fault
 abbrev pub IsDone : (List ℕ → List ℕ → Type 0) → Result (Option Order) Error → ℕ → Known → Known → Type 0
 IsDone reads (Err e) status old new = IsStatusOf (kind_of e) status
 IsDone reads (Ok None) status old new = status ≡ 2
 IsDone reads (Ok (Some (Sim s))) status old new = (status ≤ 1) × (status ≡ 0 → PrintsSimulation reads s old new)
+IsDone reads (Ok (Some (Check c))) status old new = (status ≤ 1) × (status ≡ 0 → HaveNoFault reads c)
 IsDone reads (Ok (Some (Answer words))) status old new =
     (status ≤ 1)
     × (status ≡ 0 → PrintsAnswer (builtin_device {A = Global}) (text_of (map string_bytes words.items)) old new)

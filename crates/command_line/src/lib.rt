@@ -15,5 +15,5 @@ mod order;
 mod program;
 
 pub use files::Files;
-pub use order::{Order, Simulation, order_of};
+pub use order::{Checking, Order, Simulation, order_of};
 pub use program::run;

@@ -1,10 +1,11 @@
 //! The command line.
 
-ghost use Rattle.std.specs.Prelude.{◌≡◌, true, false, IfOk, map, string_bytes};
-ghost use Rattle.clap.specs.Words.{app_of, rule_of, rows_of, found_of, with_subcommand};
+ghost use Rattle.std.specs.Prelude.{◌≡◌, true, false, IfOk, map, option_map, string_bytes};
+ghost use Rattle.clap.specs.Words.{app_of, first_of, rule_of, rows_of, found_of, with_subcommand};
 ghost use Rattle.clap.specs.Words.{subcommand_of, subcommand_rows_of, FailsBy, fault_of};
-ghost use Rattle.command_line.specs.Order.{program, bare, tool, hex_rule, hex_of, sim, file_rule, trace_rule, word_of};
-ghost use Rattle.command_line.specs.Order.{IsOrderOf, IsSimulationOf};
+ghost use Rattle.command_line.specs.Order.{program, bare, tool, tools, hex_rule, hex_of, sim, check, file_rule};
+ghost use Rattle.command_line.specs.Order.{optional_file_rule, trace_rule, word_of};
+ghost use Rattle.command_line.specs.Order.{IsOrderOf, IsSimulationOf, IsCheckingOf};
 
 use clap::{Arg, ArgAction, ArgMatches, Command, Error};
 use std::alloc::{AllocError, Global};
@@ -21,6 +22,8 @@ pub enum Order {
     Explain(Vec<String>),
     /// Run a script at a site.
     Sim(Simulation),
+    /// Tell what is wrong with a site file, and with a script for it.
+    Check(Checking),
 }
 
 /// Which script is run at which site, and what is printed of it.
@@ -34,8 +37,17 @@ pub struct Simulation {
     pub is_traced: bool,
 }
 
+/// Which site file is checked, and with which script.
+#[derive(Drop)]
+pub struct Checking {
+    /// The name of the site's file.
+    pub site: String,
+    /// The name of the script's file, if a script is checked too.
+    pub script: Option<String>,
+}
+
 /// What the words ask for, the first of them being the program's name: `None` where they name
-/// neither command, which clap refuses before.
+/// no command, which clap refuses before.
 ///
 /// # Errors
 /// Help that was asked for, a fault of the command line, or want of memory, with its text.
@@ -69,6 +81,9 @@ fn order_in(alloc: Global, matches: &ArgMatches<'_>) -> Result<Option<Order>, Al
     if let Some(sim) = matches.subcommand_matches("sim") {
         return Ok(Some(Order::Sim(simulation_in(alloc, sim)?)));
     }
+    if let Some(check) = matches.subcommand_matches("check") {
+        return Ok(Some(Order::Check(checking_in(alloc, check)?)));
+    }
     Ok(None)
 }
 
@@ -81,6 +96,30 @@ fn simulation_in(alloc: Global, matches: &ArgMatches<'_>) -> Result<Simulation, 
         script: word(alloc, matches, "script")?,
         is_traced: matches.get_flag("trace"),
     })
+}
+
+/// The check that is asked for.
+fn checking_in(alloc: Global, matches: &ArgMatches<'_>) -> Result<Checking, AllocError>
+    ensures { IfOk result (IsCheckingOf (rows_of (found_of matches.now))) }
+{
+    Ok(Checking {
+        site: word(alloc, matches, "site")?,
+        script: optional_word(alloc, matches, "script")?,
+    })
+}
+
+/// The word of an argument, if there is one.
+fn optional_word(
+    alloc: Global,
+    matches: &ArgMatches<'_>,
+    id: &str,
+) -> Result<Option<String>, AllocError>
+    ensures { IfOk result (λ word. option_map string_bytes word ≡ first_of id.now (rows_of (found_of matches.now))) }
+{
+    match matches.get_str(id) {
+        Some(word) => Ok(Some(String::from_str(alloc, word)?)),
+        None => Ok(None),
+    }
 }
 
 /// The word of an argument, which is empty where there is none.
@@ -97,6 +136,14 @@ fn word(alloc: Global, matches: &ArgMatches<'_>, id: &str) -> Result<String, All
 fn command<'a>(alloc: Global) -> Result<Command<'a>, AllocError>
     ensures { IfOk result (λ c. app_of c ≡ program) }
 {
+    let command = add(tools(alloc)?, sim(alloc)?)?;
+    add(command, check(alloc)?)
+}
+
+/// The program with the commands of one datagram.
+fn tools<'a>(alloc: Global) -> Result<Command<'a>, AllocError>
+    ensures { IfOk result (λ c. app_of c ≡ tools) }
+{
     let answer = tool(
         alloc,
         "answer",
@@ -107,10 +154,8 @@ fn command<'a>(alloc: Global) -> Result<Command<'a>, AllocError>
         "explain",
         "Takes a BACnet/IP datagram apart: its headers, and its tags one by one",
     )?;
-    let sim = sim(alloc)?;
     let command = add(bare(alloc), answer)?;
-    let command = add(command, explain)?;
-    add(command, sim)
+    add(command, explain)
 }
 
 /// The command that runs a script at a site.
@@ -132,6 +177,37 @@ fn sim<'a>(alloc: Global) -> Result<Command<'a>, AllocError>
             "A text with a step on each line, as docs/script.md says",
         ))?
         .arg(trace(alloc))
+}
+
+/// The command that tells what is wrong with a site file.
+fn check<'a>(alloc: Global) -> Result<Command<'a>, AllocError>
+    ensures { IfOk result (λ c. app_of c ≡ check) }
+{
+    Command::new(alloc, "check")
+        .about("Tells what is wrong with a site file, and with a script for it")
+        .arg(file(
+            alloc,
+            "site",
+            "SITE",
+            "A TOML file of networks and stations, as docs/site-file.md says",
+        ))?
+        .arg(optional_file(
+            alloc,
+            "script",
+            "SCRIPT",
+            "A text with a step on each line, as docs/script.md says",
+        ))
+}
+
+/// The name of a file, which may be left out.
+fn optional_file<'a>(alloc: Global, id: &'a str, name: &'a str, help: &'a str) -> Arg<'a>
+    ensures rule { rule_of result ≡ optional_file_rule id.entry.now }
+    ensures own { result.global ≡ false }
+{
+    Arg::new(alloc, id)
+        .value_name(name)
+        .action(ArgAction::Set)
+        .help(help)
 }
 
 /// The name of a file.

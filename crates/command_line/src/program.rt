@@ -1,16 +1,19 @@
 //! The program behind its command line.
 
-ghost use Rattle.std.specs.Prelude.{◌≡◌, ◌≤◌, IfOk, map, string_bytes};
+ghost use Rattle.std.specs.Prelude.{◌≡◌, ◌≤◌, true, IfOk, map, option_map, string_bytes};
 ghost use Rattle.std.specs.Global.{Global};
 ghost use Rattle.clap.specs.Words.{kind_of};
 ghost use Rattle.command_line.specs.Program.{Runs, IsDone, IsStatusOf, PrintsSimulation, telling_of};
+ghost use Rattle.command_line.specs.Program.{HaveNoFault, IsReadIfNamed};
+ghost use Rattle.site_check.specs.Judged.{AreJudged};
 ghost use Rattle.site_run.specs.Simulate.{Simulates};
 
 use crate::files::Files;
-use crate::order::{Order, Simulation, order_of};
+use crate::order::{Checking, Order, Simulation, order_of};
 use clap::Error;
 use clap::error::ErrorKind;
 use console::{answer_line, explain_line, say_failed, say_refused};
+use site_check::check;
 use site_run::{simulate, simulate_traced};
 use std::alloc::Global;
 use std::io;
@@ -18,8 +21,9 @@ use std::io::Write;
 use tags::Fault;
 
 /// Does what the words ask for, the first of them being the program's name, and answers the exit
-/// status: 0, also for help, which is printed on `out`; 1 for what a command refuses, a failed
-/// write and want of memory; 2 for a fault of the command line, which is printed on `err`.
+/// status: 0, also for help, which is printed on `out`; 1 for what a command refuses, a fault that a
+/// check finds, a failed write and want of memory; 2 for a fault of the command line, which is
+/// printed on `err`.
 pub fn run<F: Files, W: Write, E: Write>(
     alloc: Global,
     words: &[String],
@@ -48,6 +52,7 @@ fn done<F: Files, W: Write, E: Write>(
         Ok(Some(Order::Answer(words))) => answer_line(alloc, words.as_slice(), out, err),
         Ok(Some(Order::Explain(words))) => explain_line(alloc, words.as_slice(), out, err),
         Ok(Some(Order::Sim(simulation))) => sim(alloc, simulation, files, out, err),
+        Ok(Some(Order::Check(checking))) => check_files(alloc, checking, files, out, err),
         Ok(None) => 2,
         Err(error) => show(error, out, err),
     }
@@ -111,6 +116,62 @@ fn run_texts<W: Write, E: Write>(
         simulate_traced(alloc, alloc, site, script, out, err)
     } else {
         simulate(alloc, alloc, site, script, out, err)
+    }
+}
+
+/// Reads the files of a check, the site first, and tells what is wrong with them.
+fn check_files<F: Files, W: Write, E: Write>(
+    alloc: Global,
+    checking: &Checking,
+    files: &F,
+    out: &mut W,
+    err: &mut E,
+) -> u8
+    ensures status { result ≤ 1 }
+    ensures judged { result ≡ 0 → HaveNoFault (F.reads files.now) checking.now }
+{
+    match check_texts_of(alloc, checking, files) {
+        Ok((site, script)) => {
+            let script = script.as_deref();
+            check_texts(alloc, site.as_slice(), script, out, err)
+        }
+        Err(error) => say_unread(&error, err),
+    }
+}
+
+/// The octets of the site's file, and of the script's, if one is named.
+fn check_texts_of<F: Files>(
+    alloc: Global,
+    checking: &Checking,
+    files: &F,
+) -> io::Result<(Vec<u8>, Option<Vec<u8>>)>
+    ensures site { IfOk result (λ texts. F.reads files.now (string_bytes checking.now.site) texts.0.items) }
+    ensures script { IfOk result (λ texts. IsReadIfNamed (F.reads files.now)
+        (option_map string_bytes checking.now.script) (option_map (λ t. t.items) texts.1)) }
+{
+    let site = files.read(alloc, checking.site.as_str())?;
+    let script = match &checking.script {
+        Some(name) => Some(files.read(alloc, name.as_str())?),
+        None => None,
+    };
+    Ok((site, script))
+}
+
+/// Tells what is wrong with a site and a script, and answers the exit status.
+fn check_texts<W: Write, E: Write>(
+    alloc: Global,
+    site: &[u8],
+    script: Option<&[u8]>,
+    out: &mut W,
+    err: &mut E,
+) -> u8
+    ensures status { result ≤ 1 }
+    ensures judged { result ≡ 0 → AreJudged Global site.now (option_map (λ s. s.now) script.entry) true }
+{
+    match check(alloc, alloc, site, script, out) {
+        Ok(true) => 0,
+        Ok(false) => 1,
+        Err(error) => say_failed(&error, err),
     }
 }
 
