@@ -1,0 +1,6 @@
+pub mod Quiet
+pub mod Site
+pub mod Full
+pub mod Managers
+pub mod Stays
+pub mod Opening

@@ -1,0 +1,242 @@
+-- What a manager puts out is no registration, and whom it knows then.
+use Rattle.std.proofs.Common.{◌≡◌, ◌∙◌, ◌⊎◌, ⊎_elim, inl, inr, refl, sym, ap, subst, arith, ℕ, ◌≤◌, ◌==◌, ◌+◌, cond, Bool, true, false, true≢false, List, [], ◌∷◌, ◌++◌, map, Option, Some, None}
+use Rattle.std.specs.Prelude.{◌&&◌, filter, not}
+use Rattle.std.specs.List.{AllByRecursion}
+use Rattle.bbmd.proofs.Times.{itself_is, same_is, times-append}
+use Rattle.bbmd.specs.Reach.{times}
+use Rattle.bbmd_manager.specs.Manager.{Saying, distributed, foreign_left, from_one, has_place, IsFound, left_of, said, said_of}
+use Rattle.bbmd_manager.specs.State.{ManagerState, woken}
+use Rattle.bbmd_tables.specs.Tables.{is_among, lives, living, registered, same_address, without}
+use Rattle.bbmd_tables.specs.declared.registration.Registration.{Registration}
+use Rattle.bvll.specs.Address.{address_at, address_octets}
+use Rattle.bvll.specs.Datagram.{Datagram, Spells, canonical, function, register}
+use Rattle.bvll.specs.Datagram as bvll
+use Rattle.bvll.specs.Function.{number_of}
+use Rattle.bvll.specs.declared.address.Address.{Address}
+use Rattle.carry.specs.Datagrams.{mac_at}
+use Rattle.carry_stations.proofs.Addresses.{address_again}
+use Rattle.history.proofs.HasLaws.{map_has}
+use Rattle.history.proofs.Lists.{none_has}
+use Rattle.history.specs.Lists.{Has}
+use Rattle.link_ports.specs.declared.ports.PortSent.{PortSent}
+use Rattle.npdu.specs.declared.mac.Mac.{Mac}
+use Rattle.npdu.specs.declared.mac.Mac.TheVariants.{One, Six}
+use Rattle.site.specs.Sound.{IsSound}
+use Rattle.site_manager.specs.Stamping.{put_out, sent_to}
+use Rattle.site_manager.specs.Station.{HearsFrom, ManagerHears, ManagerStationState, ManagerWakes}
+use Rattle.site_parts.specs.declared.parts.Parts.{Parts}
+use Rattle.site_parts.specs.declared.parts.Station.{Station}
+use Rattle.site_reach.proofs.Quiet.{IsQuiet, quiet_datagram}
+use Rattle.site_reach.proofs.Site.{one_subnet, some_same}
+use Rattle.site_reach.specs.Tables.{HasItsTable, IsForeignOf}
+use Rattle.site_views.specs.Laws.{foreigns_on, managers_on, subnet_of}
+
+-- what a manager says is no registration
+abbrev IsOther : Saying → Type 0
+IsOther x = (number_of (function x.what) == 5) ≡ false
+
+other_is : (y x : Saying) → IsOther y → Some y ≡ Some x → IsOther x
+other_is y x other e = subst (λ (z : Saying). IsOther z) (some_same y x e) other
+
+one_other : (b : Bool) (y x : Saying) → IsOther y → from_one b y ≡ Some x → IsOther x
+one_other true y x other e = other_is y x other e
+one_other false y x other e = absurd (cc e)
+
+distributed_other : (b : Bool) (now : ℕ) (from : Address) (st : ManagerState) (npdu : List ℕ) (x : Saying) →
+    distributed b now from st npdu ≡ Some x → IsOther x
+distributed_other true now from st npdu x e = other_is _ x refl e
+distributed_other false now from st npdu x e = other_is _ x refl e
+
+said_other : (now : ℕ) (from : Address) (st : ManagerState) (d : Datagram) (x : Saying) → said now from st d ≡ Some x →
+    IsOther x
+said_other now from st (bvll.broadcast npdu) x e = one_other _ _ x refl e
+said_other now from st (bvll.forwarded origin npdu) x e = one_other _ _ x refl e
+said_other now from st (bvll.distribute npdu) x e = distributed_other _ now from st npdu x e
+said_other now from st (bvll.write_distribution entries) x e = other_is _ x refl e
+said_other now from st bvll.read_distribution x e = other_is _ x refl e
+said_other now from st bvll.read_foreign x e = other_is _ x refl e
+said_other now from st (bvll.register seconds) x e = other_is _ x refl e
+said_other now from st (bvll.delete_foreign a) x e = other_is _ x refl e
+said_other now from st (bvll.outcome code) x e = absurd (cc e)
+said_other now from st (bvll.distribution entries) x e = absurd (cc e)
+said_other now from st (bvll.foreign entries) x e = absurd (cc e)
+said_other now from st (bvll.unicast npdu) x e = absurd (cc e)
+
+put_quiet : {A : Type 0} (heard now : ℕ) (s : Option Saying) → ((x : Saying) → s ≡ Some x → IsOther x) →
+    (o : PortSent A) → Has (put_out heard now s) o → IsQuiet o.sent.octets
+put_quiet heard now None other o h = absurd (none_has h)
+put_quiet {A} heard now (Some s) other o h =
+    let found = map_has (λ (a : Address). sent_to {A = A} heard now s.what a) s.to o h in
+    subst (λ (q : PortSent A). IsQuiet q.sent.octets) found.2 (quiet_datagram s.what (other s refl))
+
+said_of_other : (now : ℕ) (from : Address) (st : ManagerState) (found : Option Datagram) (x : Saying) →
+    said_of now from st found ≡ Some x → IsOther x
+said_of_other now from st None x e = absurd (cc e)
+said_of_other now from st (Some d) x e = said_other now from st d x e
+
+pub manager_quiet : {A : Type 0} (now : ℕ) (from : Mac) (octets : List ℕ) (stamp : ℕ) (old new : ManagerStationState)
+    (out : List (PortSent A)) → ManagerHears now from octets stamp old out new → (o : PortSent A) → Has out o →
+    IsQuiet o.sent.octets
+manager_quiet {A} now (Six from) octets stamp old new out h o there =
+    put_quiet stamp now (said_of now (address_at from) old.manager h.found)
+    (said_of_other now (address_at from) old.manager h.found) o
+    (subst (λ (os : List (PortSent A)). Has os o) h.says there)
+manager_quiet {A} now (One from) octets stamp old new out h o there =
+    absurd (none_has (subst (λ (os : List (PortSent A)). Has os o) h.0 there))
+
+-- registrations that are left of others: each of those
+filter_all : (P : Registration → Type 0) (test : Registration → Bool) (rs : List Registration) → AllByRecursion P rs →
+    AllByRecursion P (filter test rs)
+filter_all P test [] all = tt
+filter_all P test (r ∷ rs) all = by (test r) (filter_all P test rs all.1)
+  where
+    by : (b : Bool) → AllByRecursion P (filter test rs) → AllByRecursion P (cond b (r ∷ filter test rs) (filter test rs))
+    by true rest = (all.0, rest)
+    by false rest = rest
+
+filter_few : (test : Registration → Bool) (a : Address) (rs : List Registration) →
+    times a (map (λ r. r.device) (filter test rs)) ≤ times a (map (λ r. r.device) rs)
+filter_few test a [] = omega arith
+filter_few test a (r ∷ rs) = by (test r) (filter_few test a rs)
+  where
+    by : (b : Bool) → times a (map (λ r. r.device) (filter test rs)) ≤ times a (map (λ r. r.device) rs) →
+        times a (map (λ r. r.device) (cond b (r ∷ filter test rs) (filter test rs))) ≤ times a (map (λ r. r.device) (r ∷ rs))
+    by true le = omega (arith, le)
+    by false le = omega (arith, le)
+
+-- none is left of a device that is taken away
+without_none : (now : ℕ) (a : Address) (rs : List Registration) → times a (map (λ r. r.device) (without now a rs)) ≡ 0
+without_none now a [] = refl
+without_none now a (r ∷ rs) = by (lives now r) (same_address r.device a) refl (without_none now a rs)
+  where
+    by : (b c : Bool) → same_address r.device a ≡ c → times a (map (λ r. r.device) (without now a rs)) ≡ 0 →
+        times a (map (λ r. r.device) (cond (b && not c) (r ∷ without now a rs) (without now a rs))) ≡ 0
+    by true true e rest = rest
+    by true false e rest =
+        let p : times a (map (λ r. r.device) (r ∷ without now a rs)) ≡ 0 + times a (map (λ r. r.device) (without now a rs)) =
+        ap (λ (c : Bool). cond c 1 0 + times a (map (λ r. r.device) (without now a rs))) e in omega (arith, p, rest)
+    by false c e rest = rest
+
+both_all : (P : Registration → Type 0) (rs ts : List Registration) → AllByRecursion P rs → AllByRecursion P ts →
+    AllByRecursion P (rs ++ ts)
+both_all P [] ts a b = b
+both_all P (r ∷ rs) ts a b = (a.0, both_all P rs ts a.1 b)
+
+map_both : (rs ts : List Registration) → map (λ r. r.device) (rs ++ ts) ≡ map (λ r. r.device) rs ++ map (λ r. r.device) ts
+map_both [] ts = refl
+map_both (r ∷ rs) ts = ap (λ (xs : List Address). r.device ∷ xs) (map_both rs ts)
+
+-- registrations of which each is good and each device stands once
+record AreFew (P : Registration → Type 0) (rs : List Registration) : Type 0 where
+  each : AllByRecursion P rs
+  once : (a : Address) → times a (map (λ r. r.device) rs) ≤ 1
+
+filtered : (P : Registration → Type 0) (test : Registration → Bool) (rs : List Registration) → AreFew P rs →
+    AreFew P (filter test rs)
+filtered P test rs few = record {
+  each = filter_all P test rs few.each;
+  once = λ a. let le = filter_few test a rs in let one = few.once a in omega (arith, le, one);
+}
+
+one_more : (P : Registration → Type 0) (now seconds : ℕ) (from : Address) (rs : List Registration) → AreFew P rs →
+    P (record { device = from; seconds_to_live = seconds; at = now }) →
+    AreFew P (without now from rs ++ record { device = from; seconds_to_live = seconds; at = now } ∷ [])
+one_more P now seconds from rs few good =
+    let kept = filtered P (λ r. lives now r && not (same_address r.device from)) rs few in record {
+      each = both_all P (without now from rs) (record { device = from; seconds_to_live = seconds; at = now } ∷ [])
+          kept.each (good, tt);
+      once = λ a.
+          let sum : times a (map (λ r. r.device) (without now from rs ++ record { device = from; seconds_to_live = seconds; at = now } ∷ []))
+          ≡ times a (map (λ r. r.device) (without now from rs)) + times a (from ∷ []) =
+          ap (times a) (map_both (without now from rs) (record { device = from; seconds_to_live = seconds; at = now } ∷ []))
+          ∙ times-append a (map (λ r. r.device) (without now from rs)) (from ∷ []) in
+          by a (same_address from a) refl sum (kept.once a);
+    }
+  where
+    by : (a : Address) (b : Bool) → same_address from a ≡ b →
+        times a (map (λ r. r.device) (without now from rs ++ record { device = from; seconds_to_live = seconds; at = now } ∷ []))
+        ≡ times a (map (λ r. r.device) (without now from rs)) + times a (from ∷ []) →
+        times a (map (λ r. r.device) (without now from rs)) ≤ 1 →
+        times a (map (λ r. r.device) (without now from rs ++ record { device = from; seconds_to_live = seconds; at = now } ∷ [])) ≤ 1
+    by a true e sum le =
+        let none : times a (map (λ r. r.device) (without now from rs)) ≡ 0 =
+        subst (λ (x : Address). times x (map (λ r. r.device) (without now from rs)) ≡ 0) (same_is from a e)
+        (without_none now from rs) in
+        let one : times a (from ∷ []) ≡ 1 + 0 = ap (λ (c : Bool). cond c 1 0 + 0) e in omega (arith, sum, none, one)
+    by a false e sum le =
+        let none : times a (from ∷ []) ≡ 0 + 0 = ap (λ (c : Bool). cond c 1 0 + 0) e in omega (arith, sum, none, le)
+
+if_registered : (P : Registration → Type 0) (room : Bool) (now seconds : ℕ) (from : Address) (rs : List Registration) →
+    AreFew P rs → P (record { device = from; seconds_to_live = seconds; at = now }) →
+    AreFew P (registered room now from seconds rs)
+if_registered P true now seconds from rs few good = one_more P now seconds from rs few good
+if_registered P false now seconds from rs few good = few
+
+left_few : (P : Registration → Type 0) (now : ℕ) (from : Address) (st : ManagerState) (d : Datagram) →
+    AreFew P st.tables.foreign →
+    ((seconds : ℕ) → d ≡ register seconds → P (record { device = from; seconds_to_live = seconds; at = now })) →
+    AreFew P (foreign_left now from st d)
+left_few P now from st (bvll.register seconds) few good =
+    if_registered P (has_place now from st) now seconds from st.tables.foreign few (good seconds refl)
+left_few P now from st (bvll.delete_foreign a) few good =
+    filtered P (λ r. lives now r && not (same_address r.device a)) st.tables.foreign few
+left_few P now from st (bvll.broadcast npdu) few good = few
+left_few P now from st (bvll.forwarded origin npdu) few good = few
+left_few P now from st (bvll.distribute npdu) few good = few
+left_few P now from st (bvll.write_distribution entries) few good = few
+left_few P now from st bvll.read_distribution few good = few
+left_few P now from st bvll.read_foreign few good = few
+left_few P now from st (bvll.outcome code) few good = few
+left_few P now from st (bvll.distribution entries) few good = few
+left_few P now from st (bvll.foreign entries) few good = few
+left_few P now from st (bvll.unicast npdu) few good = few
+
+module _ {A : Type 0} (ss : List (Station A)) (old : ManagerStationState) (has : HasItsTable ss old) where
+  abbrev IsGood : Registration → Type 0
+  IsGood r = is_among r.device (foreigns_on (subnet_of old.net has.subnet) ss) ≡ true
+
+  few_now : AreFew IsGood old.manager.tables.foreign
+  few_now = record { each = has.just; once = has.once }
+
+  -- with other registrations that are such
+  with_foreign : (rs : List Registration) (moment : ℕ) → AreFew IsGood rs → HasItsTable ss (record old {
+    manager = record { tables = record old.manager.tables { foreign = rs }; moment = moment };
+  })
+  with_foreign rs moment few = record {
+    subnet = has.subnet;
+    manages = has.manages;
+    knows = has.knows;
+    peers = has.peers;
+    just = few.each;
+    once = few.once;
+  }
+
+  -- it wakes
+  pub woken_has : (now : ℕ) (out : List (PortSent A)) (new : ManagerStationState) → ManagerWakes now old out new →
+      HasItsTable ss new
+  woken_has now out new w = subst (λ (s : ManagerStationState). HasItsTable ss s) (sym w.leaves)
+      (with_foreign (living now old.manager.tables.foreign) now
+      (filtered IsGood (λ r. lives now r) old.manager.tables.foreign few_now))
+
+  left_has : (now : ℕ) (from : Address) (found : Option Datagram) →
+      ((seconds : ℕ) → found ≡ Some (register seconds) → is_among from (foreigns_on (subnet_of old.net has.subnet) ss) ≡ true) →
+      HasItsTable ss (record old { manager = left_of now from old.manager found })
+  left_has now from None good = with_foreign old.manager.tables.foreign now few_now
+  left_has now from (Some d) good = with_foreign (foreign_left now from old.manager d) now
+      (left_few IsGood now from old.manager d few_now (λ seconds e. good seconds (ap (λ (x : Datagram). Some x) e)))
+
+  -- it hears a datagram, which, where it is a registration, is that of a foreign device of its own
+  pub heard_has : (now : ℕ) (from : Mac) (octets : List ℕ) (stamp : ℕ) (out : List (PortSent A))
+      (new : ManagerStationState) → ManagerHears now from octets stamp old out new →
+      ((seconds : ℕ) (six : List ℕ) → from ≡ Six six → Spells octets (register seconds) →
+      is_among (address_at six) (foreigns_on (subnet_of old.net has.subnet) ss) ≡ true) → HasItsTable ss new
+  heard_has now (One from) octets stamp out new h rightful =
+      subst (λ (s : ManagerStationState). HasItsTable ss s) (sym h.1) has
+  heard_has now (Six from) octets stamp out new h rightful =
+      subst (λ (s : ManagerStationState). HasItsTable ss s) (sym h.leaves)
+      (left_has now (address_at from) h.found (λ seconds e. rightful seconds from refl (spells h.found seconds e h.means)))
+    where
+      spells : (found : Option Datagram) (seconds : ℕ) → found ≡ Some (register seconds) → IsFound octets found →
+          Spells octets (register seconds)
+      spells None seconds e m = absurd (cc e)
+      spells (Some d) seconds e m = subst (λ (x : Datagram). Spells octets x) (some_same d (register seconds) e) m

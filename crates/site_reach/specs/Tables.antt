@@ -1,0 +1,107 @@
+-- The tables of the broadcast managers of an internetwork, and whom they serve (J.4.3, J.5.2).
+use Rattle.std.specs.Prelude.{◌≡◌, ◌≤◌, ◌==◌, ◌&&◌, if◌then◌else◌, ℕ, true, List, [], ◌∷◌, map, Option, Some, None}
+use Rattle.std.specs.List.{AllByRecursion}
+use Rattle.bbmd.specs.Reach.{times}
+use Rattle.bbmd.specs.declared.spreading.Subnet.{Subnet}
+use Rattle.bbmd_tables.specs.Tables.{is_among, same_address, served}
+use Rattle.bbmd_tables.specs.declared.registration.Registration.{Registration}
+use Rattle.bvll.specs.Address.{IsAddress}
+use Rattle.bvll.specs.Datagram.{Spells, register}
+use Rattle.bvll.specs.declared.address.Address.{Address}
+use Rattle.carry.specs.Datagrams.{mac_at}
+use Rattle.history.specs.Lists.{Has}
+use Rattle.internetwork.specs.World.{WorldState}
+use Rattle.link_ip.specs.Port.{IpPortState}
+use Rattle.link_ip.specs.declared.port.Reach.{Reach}
+use Rattle.link_ip.specs.declared.port.Reach.TheVariants as reach
+use Rattle.relays.specs.Laws.{IpRelay}
+use Rattle.relays.specs.declared.relay.Relay.TheVariants.{Router, Manager}
+use Rattle.site.specs.Sound.{IsSound}
+use Rattle.site_manager.specs.Station.{ManagerStationState}
+use Rattle.site_parts.specs.Roles.{beyond}
+use Rattle.site_parts.specs.declared.parts.Station.{Station}
+use Rattle.site_parts.specs.declared.place.Foreign.{Foreign}
+use Rattle.site_views.specs.Laws.{first, foreigns_on, managers_on, subnet_of, subnets_with}
+use Rattle.site_views.specs.Views.{managers, members}
+use Rattle.traffic.specs.declared.item.Item.{Item}
+
+-- the foreign device table of the manager at an address of a network, as it stands
+abbrev pub table_at : {A : Type 0} → (net : ℕ) → Address → List (IpRelay A) → List Registration
+table_at net own [] = []
+table_at net own (Router s ∷ rs) = table_at net own rs
+table_at net own (Manager s ∷ rs) =
+    if (s.net == net) && same_address s.manager.tables.own own then s.manager.tables.foreign else table_at net own rs
+
+abbrev pub table_of : {A : Type 0} → (net : ℕ) → Option Address → List (IpRelay A) → List Registration
+table_of net None rs = []
+table_of net (Some own) rs = table_at net own rs
+
+-- the foreign device tables of a network as they stand, by the numbers of its subnets
+abbrev pub tables_in : {A : Type 0} → WorldState A → (net subnet : ℕ) → List Registration
+tables_in w net subnet = table_of net (first (managers_on (subnet_of net subnet) w.site.stations)) w.relays
+
+-- the subnets of a network, with their members, and their managers with their tables as they stand (J.4)
+abbrev pub subnets_in : {A : Type 0} → WorldState A → (net : ℕ) → List (Subnet A)
+subnets_in w net = subnets_with w.moment net w.site.stations (tables_in w net)
+
+-- each foreign device of a network is registered at its manager, and its registration lives (J.5.2)
+pub record AreServed {A : Type 0} (w : WorldState A) (net : ℕ) : Type 0 where
+  pub each : (subnet : ℕ) (a : Address) →
+      is_among a (foreigns_on (subnet_of net subnet) w.site.stations) ≡ true →
+      is_among a (served w.moment (tables_in w net subnet)) ≡ true
+
+-- this is a foreign device of the manager at this address of a network (J.5)
+pub record IsForeignOf {A : Type 0} (ss : List (Station A)) (net : ℕ) (own manager : Address) : Type 0 where
+  pub subnet : ℕ
+  pub manages : Has (managers_on (subnet_of net subnet) ss) manager
+  pub is_there : is_among own (foreigns_on (subnet_of net subnet) ss) ≡ true
+  pub sound : IsAddress own
+
+-- a manager knows the members of its subnet and the managers of its network, and none is registered there but foreign
+-- devices of its own, each once (J.4.3, J.5.2)
+pub record HasItsTable {A : Type 0} (ss : List (Station A)) (s : ManagerStationState) : Type 0 where
+  pub subnet : ℕ
+  pub manages : Has (managers_on (subnet_of s.net subnet) ss) s.manager.tables.own
+  pub knows : s.manager.tables.members ≡ members (subnet_of s.net subnet) ss
+  pub peers : s.manager.tables.managers ≡ managers s.net ss
+  pub just : AllByRecursion (λ r. is_among r.device (foreigns_on (subnet_of s.net subnet) ss) ≡ true)
+      s.manager.tables.foreign
+  pub once : (a : Address) → times a (map (λ r. r.device) s.manager.tables.foreign) ≤ 1
+
+-- .. where a relay is one
+abbrev pub HasItsTableIfAny : {A : Type 0} → List (Station A) → IpRelay A → Type 0
+HasItsTableIfAny ss (Router s) = Unit {0}
+HasItsTableIfAny ss (Manager s) = HasItsTable ss s
+
+-- a port of a foreign device is that of one of the site
+abbrev pub IsPlaced : {A : Type 0} → List (Station A) → (net : ℕ) → Address → Reach A → Type 0
+IsPlaced ss net own (reach.Members others) = Unit {0}
+IsPlaced ss net own (reach.Foreign manager seconds) = IsForeignOf ss net own manager
+
+-- an item goes from a foreign device to its manager
+pub record IsToItsManager {A : Type 0} (ss : List (Station A)) (i : Item A) : Type 0 where
+  pub own : Address
+  pub manager : Address
+  pub from : i.from ≡ mac_at own
+  pub to : i.to ≡ mac_at manager
+  pub is_foreign : IsForeignOf ss i.net own manager
+
+-- nobody but a foreign device of the site registers, and at no other manager but its own (J.5.2)
+pub record IsRightful {A : Type 0} (ss : List (Station A)) (i : Item A) : Type 0 where
+  pub registers : (seconds : ℕ) → Spells i.octets (register seconds) → IsToItsManager ss i
+
+-- the managers of an internetwork have the tables that its site gives them, and serve foreign devices of the site alone
+pub record HasItsTables {A : Type 0} (w : WorldState A) : Type 0 where
+  pub sound : IsSound w.site
+  pub relays : AllByRecursion (HasItsTableIfAny w.site.stations) w.relays
+  pub ports : AllByRecursion (λ s. AllByRecursion (λ (l : IpPortState A).
+      IsPlaced w.site.stations l.net l.address l.reach) s.ports) w.stations
+  pub items : AllByRecursion (IsRightful w.site.stations) w.items
+
+-- the address of a foreign device has four octets and a port, as each that is read has (J.1.2)
+abbrev pub HasAddress : {A : Type 0} → Option (Foreign A) → Type 0
+HasAddress None = Unit {0}
+HasAddress (Some f) = IsAddress f.address
+
+abbrev pub HaveAddresses : {A : Type 0} → List (Station A) → Type 0
+HaveAddresses ss = AllByRecursion (λ s. HasAddress (beyond s.role)) ss
