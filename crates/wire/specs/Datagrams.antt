@@ -1,0 +1,21 @@
+-- Datagrams as a wire brings them (J.1.2).
+use Rattle.std.specs.Prelude.{ℕ, ◌<◌, List, length}
+use Rattle.npdu.specs.declared.mac.Mac.{Mac}
+use Rattle.wire.specs.declared.wire.Got.{Got}
+
+-- a datagram and its ends
+pub record Datagram : Type 0 where
+  pub from : Mac
+  pub to : Mac
+  pub octets : List ℕ
+
+abbrev pub datagram_of : Got → Datagram
+datagram_of g = record { from = g.from; to = g.to; octets = g.octets.now }
+
+-- the octets of a wire's buffer
+abbrev pub BUFFER_OCTETS : ℕ
+BUFFER_OCTETS = 2048
+
+-- a datagram that fills the buffer may have been cut
+abbrev pub IsWhole : Datagram → Type 0
+IsWhole d = length d.octets < BUFFER_OCTETS

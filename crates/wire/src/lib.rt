@@ -1,0 +1,15 @@
+//! What sends and receives datagrams of BACnet/IP (ANSI/ASHRAE 135, clause J.1.2): the only sockets of the product.
+//!
+//! To the layer above it promises: each call counts, and one that fails counts as a fault besides; `Wire` (14) is the
+//! only refusal; what the latest `recv` brought stays until the next one, and is none where that brought nothing or
+//! failed. What the network does with a datagram is no matter of it.
+//!
+//! - `wire`: what a wire is, whatever it sends over.
+//! - `udp`: one of UDP, with a socket for each address of a site.
+#![tactic(auto)]
+
+mod udp;
+mod wire;
+
+pub use udp::UdpWire;
+pub use wire::{BUFFER_OCTETS, Got, Wire};
