@@ -9,6 +9,7 @@
 //! - `managers`: what a broadcast manager forwards.
 //! - `remembered_answers`: finding and executing, with 1, 8 and 64 remembered answers.
 //! - `sites`: judging a large site.
+//! - `worlds`: events of a world.
 #![tactic(auto)]
 
 mod clock;
@@ -17,6 +18,7 @@ mod frames;
 mod managers;
 mod remembered_answers;
 mod sites;
+mod worlds;
 
 use std::{env, io};
 
@@ -30,5 +32,6 @@ fn main(rt: HostRuntime) -> io::Result<()> {
     frames::run(&rt, has_times)?;
     managers::run(&rt, has_times)?;
     devices::run(&rt, has_times)?;
-    sites::run(&rt, has_times)
+    sites::run(&rt, has_times)?;
+    worlds::run(&rt, has_times)
 }
