@@ -25,7 +25,7 @@ use Rattle.npdu.specs.declared.mac.Station.{Station}
 use Rattle.site_manager.specs.Stamping.{put_out, sent_to, stamp_if}
 use Rattle.site_manager.specs.Station.{HearsFrom, ManagerHears, ManagerStationState, place_of}
 use Rattle.carry_stations.proofs.Addresses.{address_again}
-use Rattle.carry_stations.specs.Laws.{ManagerPassesOn, ManagerWakesInSilence}
+use Rattle.carry_stations.specs.Managers.{ManagerPassesOn, ManagerWakesInSilence}
 use Rattle.carry_stations.specs.Out.{OutPassesOn}
 
 none_some : {X : Type 0} (x : X) → None ≡ Some x → ⊥

@@ -1,4 +1,4 @@
 pub mod Addresses
 pub mod RouterPasses
-pub mod IpRouters
+pub mod Routers
 pub mod IpManagers

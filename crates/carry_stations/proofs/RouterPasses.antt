@@ -26,6 +26,7 @@ use Rattle.router.specs.Messages.{announced}
 use Rattle.router.specs.Router.{AreNumbered, IsNumbered, RouterState}
 use Rattle.router.specs.declared.plan.PortParcel.{PortParcel}
 use Rattle.site_router.proofs.RouterKeeping.{AnswersAreGood, AreGood}
+use Rattle.carry_stations.specs.Within.{IsWithin}
 
 some_same : {X : Type 0} (x y : X) → Some x ≡ Some y → x ≡ y
 some_same x y e = cc
@@ -40,13 +41,9 @@ numbered_at : (ports : List Station) (port : ℕ) (at : Station) → AreNumbered
 numbered_at ports port at all e = each_of IsNumbered ports at all (record { place = port; at_place = e })
 
 module _ {A : Type 0} (ts : List (Thing A)) where
-  -- whatever is inside a parcel at a place is inside one of these things, with its stamp
-  abbrev pub IsWithin : Station → Parcel A → Type 0
-  IsWithin x p = (i : Inside) → HasInside x.net p.from p.to p.npdu i → IsInsideOne ts i p.stamp
-
   -- what a router makes of what one of these things bears is within
   routed_within : (u : Thing A) (net : ℕ) (p q : Parcel A) (x : Station) → Has ts u → net_of u ≡ net → Bears u p →
-      is_address p.from ≡ true → 0 < net → net < 65535 → IsRouted net x.net p q ⊎ HasNothingInside x.net q → IsWithin x q
+      is_address p.from ≡ true → 0 < net → net < 65535 → IsRouted net x.net p q ⊎ HasNothingInside x.net q → IsWithin ts x q
   routed_within u net p q x there same bears address low high made i has = ⊎_elim
       (λ (r : IsRouted net x.net p q). record {
         thing = u;
@@ -73,7 +70,7 @@ module _ {A : Type 0} (ts : List (Thing A)) where
       CarriesOn carries station moment waiting now old step new) where
     -- all that a router says of itself where it wakes is within: there is nothing inside
     pub announced_is_within : (now : ℕ) (r : RouterState) → AreGood carries station moment waiting downs hears wakes law_down
-        law_up law_on IsWithin r.ports (announced now r)
+        law_up law_on (IsWithin ts) r.ports (announced now r)
     announced_is_within now r o there x at i has =
         let own = each_of (IsOwn r.ports) (announced now r) o (announces A now r) there in
         let same : own.station ≡ x = some_same own.station x (sym own.leaves.there ∙ at) in
@@ -84,7 +81,7 @@ module _ {A : Type 0} (ts : List (Thing A)) where
         (r : RouterState) → Has ts u → net_of u ≡ at.net →
         ((p : Parcel A) → carries from at.mac octets stamp p → Bears u p × (is_address p.from ≡ true)) →
         slice_get r.ports port ≡ Some at → AreNumbered r.ports →
-        AnswersAreGood carries station moment waiting downs hears wakes law_down law_up law_on IsWithin r.ports now port from
+        AnswersAreGood carries station moment waiting downs hears wakes law_down law_up law_on (IsWithin ts) r.ports now port from
         octets stamp r
     answers_are_within u at now port from octets stamp r there net bears is numbered p said left up hears_it o said_it x leaves i has =
         let at_port : at ≡ up.place = some_same at up.place (sym is ∙ up.at_port) in

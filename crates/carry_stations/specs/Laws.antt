@@ -1,65 +1,98 @@
--- What holds of all that routers and managers put out, and where they are.
-use Rattle.std.specs.Prelude.{◌≡◌, ℕ, List, [], ◌∷◌, Some, slice_get}
-use Rattle.carry.specs.Datagrams.{mac_at}
-use Rattle.carry.specs.Things.{SentDatagram, Thing}
-use Rattle.history.specs.Lists.{Has}
-use Rattle.link_ip.specs.Port.{IpPortState, moment_of, station_of}
-use Rattle.link_ip.specs.Steps.{Downs, Hears, Idles, is_due}
+-- What holds of all that routers put out, whatever links their ports are, and where they are.
+use Rattle.std.specs.Prelude.{◌≡◌, ℕ, Bool, List, Some, slice_get}
+use Rattle.carry.specs.Things.{Thing}
+use Rattle.link.specs.Carrying.{Carrier}
+use Rattle.link.specs.declared.step.LinkStep.{LinkStep}
 use Rattle.link_ports.specs.Ports.{AreBefore}
 use Rattle.link_ports.specs.declared.ports.PortSent.{PortSent}
 use Rattle.npdu.specs.declared.mac.Mac.{Mac}
 use Rattle.npdu.specs.declared.mac.Station.{Station}
+use Rattle.npdu.specs.declared.parcel.Parcel.{Parcel}
 use Rattle.router.specs.Router.{AreNumbered}
-use Rattle.site_manager.specs.Station.{ManagerHears, ManagerStationState, ManagerWakes, place_of}
-use Rattle.site_router.specs.Station.{IsAtItsPorts, RouterStationHears, RouterStationState, RouterStationWakes}
-use Rattle.carry_stations.specs.Out.{IsIpAddress, OutPassesOn}
-
--- a router on networks of BACnet/IP
-abbrev pub IpRouter : Type 0 → Type 0
-IpRouter A = RouterStationState (IpPortState A)
+use Rattle.site_router.specs.Station.{IsAtItsPorts, RouterStationCounts, RouterStationHears, RouterStationHearsFrame}
+use Rattle.site_router.specs.Station.{RouterStationState, RouterStationWakes}
+use Rattle.carry_stations.specs.Within.{AreOnTheirWay, OutIsWithin, WaitingIsWithin}
 
 -- a router stands as it must: its ports are where it has them, and none has seen a later moment
-pub record Stands {A : Type 0} (now : ℕ) (s : IpRouter A) : Type 0 where
-  pub at_its_ports : IsAtItsPorts station_of s
-  pub before : AreBefore moment_of now s.ports
-
--- what a router puts out where it hears a datagram that is on its way to one of its ports passes that on (6.5.2)
-abbrev pub RouterPassesOn : Type 0 → Type 0
-RouterPassesOn A = (ts : List (Thing A)) (now port : ℕ) (from : Mac) (octets : List ℕ) (stamp : ℕ) (old new : IpRouter A)
-    (out : List (PortSent A)) (at : Station) → Stands now old → AreNumbered old.router.ports → IsIpAddress from →
-    slice_get old.router.ports port ≡ Some at →
-    Has ts (SentDatagram at.net from at.mac octets stamp) →
-    RouterStationHears Hears Downs now port from octets stamp old out new → OutPassesOn ts old.router.ports out
-
--- .. where it wakes there is nothing inside (6.2.4)
-abbrev pub WokenRouterPassesOn : Type 0 → Type 0
-WokenRouterPassesOn A = (ts : List (Thing A)) (now : ℕ) (old new : IpRouter A) (out : List (PortSent A)) →
-    Stands now old → RouterStationWakes is_due Idles Downs now old out new → OutPassesOn ts old.router.ports out
+pub record Stands {L : Type 0} (station : L → Station) (moment : L → ℕ) (now : ℕ) (s : RouterStationState L) :
+    Type 0 where
+  pub at_its_ports : IsAtItsPorts station s
+  pub before : AreBefore moment now s.ports
 
 -- it stands then, and has its ports where it had them (6.6.1)
-pub record Stays {A : Type 0} (now : ℕ) (old new : IpRouter A) : Type 0 where
-  pub stands : Stands now new
+pub record Stays {L : Type 0} (station : L → Station) (moment : L → ℕ) (now : ℕ) (old new : RouterStationState L) :
+    Type 0 where
+  pub stands : Stands station moment now new
   pub same : new.router.ports ≡ old.router.ports
 
--- whatever it hears it stays where it is
-abbrev pub RouterStaysAtHearing : Type 0 → Type 0
-RouterStaysAtHearing A = (now port : ℕ) (from : Mac) (octets : List ℕ) (stamp : ℕ) (old new : IpRouter A)
-    (out : List (PortSent A)) → Stands now old →
-    RouterStationHears Hears Downs now port from octets stamp old out new → Stays now old new
+-- what goes out over its ports is within, and so is what waits in them then
+pub record PassesOn {A L : Type 0} (carries : Carrier A) (station : L → Station) (waiting : L → List (Parcel A))
+    (ts : List (Thing A)) (places : List Station) (out : List (PortSent A)) (ls : List L) : Type 0 where
+  pub puts : OutIsWithin carries ts places out
+  pub waits : WaitingIsWithin station waiting ts ls
 
--- .. where it wakes
-abbrev pub RouterStaysAtWake : Type 0 → Type 0
-RouterStaysAtWake A = (now : ℕ) (old new : IpRouter A) (out : List (PortSent A)) → Stands now old →
-    RouterStationWakes is_due Idles Downs now old out new → Stays now old new
+module _ {A L : Type 0} (carries : Carrier A) (station : L → Station) (moment : L → ℕ)
+    (waiting : L → List (Parcel A)) where
+  -- what a router puts out where it hears octets that are on their way to one of its ports passes on those, or what
+  -- waited (6.5.2)
+  abbrev pub RouterPassesOn : (ℕ → Mac → List ℕ → ℕ → L → LinkStep A → L → Type 0) →
+      (ℕ → Parcel A → L → LinkStep A → L → Type 0) → Type 0
+  RouterPassesOn hears downs = (ts : List (Thing A)) (now port : ℕ) (from : Mac) (octets : List ℕ) (stamp : ℕ)
+      (old new : RouterStationState L) (out : List (PortSent A)) (at : Station) → Stands station moment now old →
+      AreNumbered old.router.ports → WaitingIsWithin station waiting ts old.ports →
+      slice_get old.router.ports port ≡ Some at → AreOnTheirWay carries ts from at octets stamp →
+      RouterStationHears hears downs now port from octets stamp old out new →
+      PassesOn carries station waiting ts old.router.ports out new.ports
 
--- what a manager puts out where it hears a datagram that is on its way to it passes that on, or carries no NPDU (J.4.5)
-abbrev pub ManagerPassesOn : Type 0 → Type 0
-ManagerPassesOn A = (ts : List (Thing A)) (now : ℕ) (from : Mac) (octets : List ℕ) (stamp : ℕ)
-    (old new : ManagerStationState) (out : List (PortSent A)) → IsIpAddress from →
-    Has ts (SentDatagram old.net from (mac_at old.manager.tables.own) octets stamp) →
-    ManagerHears now from octets stamp old out new → OutPassesOn ts (place_of old ∷ []) out
+  -- .. where that is a frame which so many octets end (9.5.2)
+  abbrev pub RouterPassesFrameOn : (ℕ → ℕ → L → LinkStep A → L → Type 0) →
+      (ℕ → Mac → List ℕ → ℕ → L → LinkStep A → L → Type 0) → (ℕ → Parcel A → L → LinkStep A → L → Type 0) → Type 0
+  RouterPassesFrameOn counts hears downs = (ts : List (Thing A)) (now port count : ℕ) (from : Mac) (octets : List ℕ)
+      (stamp : ℕ) (old new : RouterStationState L) (out : List (PortSent A)) (at : Station) →
+      Stands station moment now old → AreNumbered old.router.ports → WaitingIsWithin station waiting ts old.ports →
+      slice_get old.router.ports port ≡ Some at → AreOnTheirWay carries ts from at octets stamp →
+      RouterStationHearsFrame counts hears downs now port count from octets stamp old out new →
+      PassesOn carries station waiting ts old.router.ports out new.ports
 
--- .. where it wakes it puts out nothing (J.5.2.3)
-abbrev pub ManagerWakesInSilence : Type 0 → Type 0
-ManagerWakesInSilence A = (ts : List (Thing A)) (now : ℕ) (old new : ManagerStationState) (out : List (PortSent A)) →
-    ManagerWakes now old out new → OutPassesOn ts (place_of old ∷ []) out
+  -- .. where it is told of octets, and where it wakes, what waited (9.5.6): in what it says itself is nothing (6.2.4)
+  abbrev pub CountingRouterPassesOn : (ℕ → ℕ → L → LinkStep A → L → Type 0) → Type 0
+  CountingRouterPassesOn counts = (ts : List (Thing A)) (now port count : ℕ) (old new : RouterStationState L)
+      (out : List (PortSent A)) → Stands station moment now old → WaitingIsWithin station waiting ts old.ports →
+      RouterStationCounts counts now port count old out new →
+      PassesOn carries station waiting ts old.router.ports out new.ports
+
+  abbrev pub WokenRouterPassesOn : (ℕ → L → Bool) → (ℕ → L → LinkStep A → L → Type 0) →
+      (ℕ → Parcel A → L → LinkStep A → L → Type 0) → Type 0
+  WokenRouterPassesOn is_due wakes downs = (ts : List (Thing A)) (now : ℕ) (old new : RouterStationState L)
+      (out : List (PortSent A)) → Stands station moment now old → WaitingIsWithin station waiting ts old.ports →
+      RouterStationWakes is_due wakes downs now old out new →
+      PassesOn carries station waiting ts old.router.ports out new.ports
+
+module _ {A L : Type 0} (station : L → Station) (moment : L → ℕ) where
+  -- whatever it hears a router stays where it is
+  abbrev pub RouterStaysAtHearing : (ℕ → Mac → List ℕ → ℕ → L → LinkStep A → L → Type 0) →
+      (ℕ → Parcel A → L → LinkStep A → L → Type 0) → Type 0
+  RouterStaysAtHearing hears downs = (now port : ℕ) (from : Mac) (octets : List ℕ) (stamp : ℕ)
+      (old new : RouterStationState L) (out : List (PortSent A)) → Stands station moment now old →
+      RouterStationHears hears downs now port from octets stamp old out new → Stays station moment now old new
+
+  -- .. where that is a frame which so many octets end
+  abbrev pub RouterStaysAtFrame : (ℕ → ℕ → L → LinkStep A → L → Type 0) →
+      (ℕ → Mac → List ℕ → ℕ → L → LinkStep A → L → Type 0) → (ℕ → Parcel A → L → LinkStep A → L → Type 0) → Type 0
+  RouterStaysAtFrame counts hears downs = (now port count : ℕ) (from : Mac) (octets : List ℕ) (stamp : ℕ)
+      (old new : RouterStationState L) (out : List (PortSent A)) → Stands station moment now old →
+      RouterStationHearsFrame counts hears downs now port count from octets stamp old out new →
+      Stays station moment now old new
+
+  -- .. where it is told of octets
+  abbrev pub RouterStaysAtCounting : (ℕ → ℕ → L → LinkStep A → L → Type 0) → Type 0
+  RouterStaysAtCounting counts = (now port count : ℕ) (old new : RouterStationState L) (out : List (PortSent A)) →
+      Stands station moment now old → RouterStationCounts counts now port count old out new →
+      Stays station moment now old new
+
+  -- .. where it wakes
+  abbrev pub RouterStaysAtWake : (ℕ → L → Bool) → (ℕ → L → LinkStep A → L → Type 0) →
+      (ℕ → Parcel A → L → LinkStep A → L → Type 0) → Type 0
+  RouterStaysAtWake is_due wakes downs = (now : ℕ) (old new : RouterStationState L) (out : List (PortSent A)) →
+      Stands station moment now old → RouterStationWakes is_due wakes downs now old out new →
+      Stays station moment now old new

@@ -1,2 +1,4 @@
 pub mod Out
+pub mod Within
 pub mod Laws
+pub mod Managers

@@ -23,8 +23,8 @@ module _ {A : Type 0} (own : Mac) where
   heard_brings from datagram (Some p) h =
       (h, record { only = λ q k. some_same p q (one_up from datagram (Some p) (Some q) h k) })
 
-  pub refused_brings : (from : Mac) (datagram : List ℕ) (fault : Fault) → IsRefused fault datagram → HandsUpNothing A own from datagram
-  refused_brings (One from) datagram fault r = record { none = λ p k. none_some p (sym k) }
+  pub refused_brings : (from : Mac) (datagram : List ℕ) (fault : Fault) → IsRefused fault from datagram → HandsUpNothing A own from datagram
+  refused_brings (One from) datagram fault r = absurd r
   refused_brings (Six from) datagram fault r = record { none = λ p k. r.none.none k.datagram k.spelled }
 
 pub ruleset link_rules = (heard_brings, refused_brings)

@@ -30,8 +30,8 @@ pub trait Link<A: Allocator> {
     /// What goes over the network: octets from an address to an address, said at a moment, carry this parcel.
     ghost carries: { Mac → Mac → List ℕ → ℕ → Parcel A → Type 0 };
 
-    /// For what octets are refused where they are heard.
-    ghost refuses: { Fault → List ℕ → Type 0 };
+    /// For what octets from an address are refused where they are heard.
+    ghost refuses: { Fault → Mac → List ℕ → Type 0 };
 
     /// What a link does on a parcel that is handed down at a moment: what comes of it, and what the link is then.
     ghost downs: { ℕ → Parcel A → Self → LinkStep A → Self → Type 0 };
@@ -102,7 +102,7 @@ pub trait Link<A: Allocator> {
         requires greatest { now ≤ MAX_MOMENT_MS }
         requires order { moment self.old ≤ now }
         ensures step { IfOk result (λ step. hears now from octets.now stamp self.old step self.new) }
-        ensures cause { IfErr result (λ fault. (fault ≡ Fault.Memory) ⊎ refuses fault octets.now) }
+        ensures cause { IfErr result (λ fault. (fault ≡ Fault.Memory) ⊎ refuses fault from octets.now) }
         ensures unchanged { IfErr result (λ fault. fault ≢ Fault.Memory → self.new ≡ self.old) };
 
     /// Wakes at the moment `now`, in milliseconds.

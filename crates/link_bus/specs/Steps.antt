@@ -23,8 +23,8 @@ abbrev pub IsOnBus : {A : Type 0} → (from to : Mac) → (octets : List ℕ) �
 IsOnBus from to octets stamp p = IsFrameOf octets stamp p
 
 -- no octets are refused
-abbrev pub IsRefused : Fault → List ℕ → Type 0
-IsRefused fault octets = ⊥
+abbrev pub IsRefused : Fault → (from : Mac) → (octets : List ℕ) → Type 0
+IsRefused fault from octets = ⊥
 
 -- a call does what its node's input leads to: the frames are put out, and this is handed up
 pub record Does {A : Type 0} (outcome : Outcome A) (brings : Option (Parcel A)) (old : BusPortState A)

@@ -25,6 +25,11 @@ IsHeard (Six from) own octets stamp up = HandsUp (Six from) own octets stamp up
 IsHeard (One from) own octets stamp up = up ≡ None
 
 -- octets spell no datagram, and are refused for this (J.2)
-pub record IsRefused (fault : Fault) (octets : List ℕ) : Type 0 where
+pub record IsNotRead (fault : Fault) (octets : List ℕ) : Type 0 where
   pub none : NoDatagram octets
   pub cause : Refuses fault octets
+
+-- .. where they come from an address of BACnet/IP: those from another are dropped, and never refused
+abbrev pub IsRefused : Fault → (from : Mac) → (octets : List ℕ) → Type 0
+IsRefused fault (Six from) octets = IsNotRead fault octets
+IsRefused fault (One from) octets = ⊥

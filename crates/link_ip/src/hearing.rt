@@ -3,7 +3,7 @@
 ghost use Rattle.std.specs.Prelude.{◌≡◌, ◌⊎◌, Some, IfOk, IfErr};
 ghost use Rattle.bvll.specs.Datagram.{datagram_of};
 ghost use Rattle.carry.specs.Datagrams.{parcel};
-ghost use Rattle.link_ip.specs.Hearing.{HandsUp, IsHeard, IsRefused, handed_up};
+ghost use Rattle.link_ip.specs.Hearing.{HandsUp, IsHeard, IsNotRead, IsRefused, handed_up};
 
 use bvll::Bvll;
 use npdu::{Mac, Parcel, Target};
@@ -68,7 +68,7 @@ fn read<A: Allocator + Copy>(
     stamp: u64,
 ) -> Result<Option<Parcel<A>>, Fault>
     ensures up { IfOk result (HandsUp from own octets.now stamp) }
-    ensures cause { IfErr result (λ fault. (fault ≡ Fault.Memory) ⊎ IsRefused fault octets.now) }
+    ensures cause { IfErr result (λ fault. (fault ≡ Fault.Memory) ⊎ IsNotRead fault octets.now) }
 {
     let heard = Bvll::read(octets)?;
     let up = handed_up(alloc, from, own, &heard, stamp)?;
@@ -87,7 +87,7 @@ pub(crate) fn heard_from<A: Allocator + Copy>(
     stamp: u64,
 ) -> Result<Option<Parcel<A>>, Fault>
     ensures up { IfOk result (IsHeard from own octets.now stamp) }
-    ensures cause { IfErr result (λ fault. (fault ≡ Fault.Memory) ⊎ IsRefused fault octets.now) }
+    ensures cause { IfErr result (λ fault. (fault ≡ Fault.Memory) ⊎ IsRefused fault from octets.now) }
 {
     match from {
         Mac::One(_) => Ok(None),

@@ -158,7 +158,7 @@ impl<A: Allocator + Copy> IpPort<A> {
         requires greatest { now ≤ MAX_MOMENT_MS }
         requires order { self.old.moment ≤ now }
         ensures step { IfOk result (λ step. Hears now from octets.now stamp self.old step self.new) }
-        ensures cause { IfErr result (λ fault. (fault ≡ Fault.Memory) ⊎ IsRefused fault octets.now) }
+        ensures cause { IfErr result (λ fault. (fault ≡ Fault.Memory) ⊎ IsRefused fault from octets.now) }
         ensures unchanged { OnErr result (self.new ≡ self.old) }
     {
         let up = heard_from(self.alloc, from, self.station().mac, octets, stamp)?;

@@ -11,7 +11,7 @@ use Rattle.npdu.specs.declared.mac.Mac.{Mac}
 use Rattle.npdu.specs.declared.mac.Station.{Station}
 use Rattle.npdu.specs.declared.parcel.Parcel.{Parcel}
 use Rattle.link_ports.proofs.PortSteps.{mapped_at, mapped_set}
-use Rattle.link_ports.specs.Ports.{DownsAll, DownsOne, HearsAt, RegistersAt, Steps, WakesFrom, over_port}
+use Rattle.link_ports.specs.Ports.{CountsAt, DownsAll, DownsOne, HearsAt, RegistersAt, Steps, WakesFrom, over_port}
 use Rattle.link_ports.specs.declared.ports.PortSent.{PortSent}
 
 some_same : {X : Type 0} (x y : X) → Some x ≡ Some y → x ≡ y
@@ -204,6 +204,15 @@ module _ {A L : Type 0} (carries : Carrier A) (station : L → Station) (moment 
       (λ p there. good p (does.kept.each p there)) (λ s there p c. good p ((does.puts.each s there).only p c))
   registers_keep registers law places now port ls new out out_new k (inr misses) =
       same_keeps now places ls new out out_new k misses.same misses.silent
+
+  -- .. where a port is told of octets
+  pub counts_keep : (counts : ℕ → ℕ → L → LinkStep A → L → Type 0)
+      (law : (count now : ℕ) (old : L) (step : LinkStep A) (new : L) → counts count now old step new →
+      CarriesOn carries station moment waiting now old step new) (places : List Station) (count now port : ℕ)
+      (ls new : List L) (out out_new : List (PortSent A)) → Keeps now places ls out →
+      CountsAt counts count now port ls out new out_new → Keeps now places new out_new
+  counts_keep counts law places count now port ls new out out_new k counted =
+      registers_keep (counts count) (law count) places now port ls new out out_new k counted
 
   -- what comes up of octets that are heard is what they carry, for the port that heard them
   pub record ComesUp (places : List Station) (port : ℕ) (from : Mac) (octets : List ℕ) (stamp : ℕ) (p : Parcel A) :

@@ -3,12 +3,13 @@ use Rattle.std.proofs.Common.{◌≡◌, ◌∙◌, ◌⊎◌, ◌≤◌, ◌+�
 use Rattle.std.specs.Prelude.{slice_get, slice_index_or, slice_set, ◌<◌, take, drop}
 use Rattle.history.specs.Lists.{Has}
 use Rattle.link.specs.declared.step.LinkStep.{LinkStep}
+use Rattle.npdu.specs.declared.mac.Mac.{Mac}
 use Rattle.npdu.specs.declared.mac.Station.{Station}
 use Rattle.npdu.specs.declared.parcel.Parcel.{Parcel}
 use Rattle.tags.specs.declared.fault.Fault.{Fault}
 use Rattle.tags.specs.declared.fault.Fault.TheVariants.{Memory, TooLong}
-use Rattle.link_ports.specs.Ports.{AreBefore, DownsAll, DownsOne, Steps, WakesAll, WakesFrom}
-use Rattle.link_ports.specs.Ports.{IsTooLong}
+use Rattle.link_ports.specs.Ports.{AreBefore, DownsAll, DownsOne, HearsAt, Steps, WakesAll, WakesFrom}
+use Rattle.link_ports.specs.Ports.{IsTooLong, over_port}
 use Rattle.link_ports.specs.declared.ports.PortSent.{PortSent}
 
 -- a link at this moment in the place of one keeps the order
@@ -56,6 +57,30 @@ mapped_at f (y ∷ ys) (suc i) x e = mapped_at f ys i x e
 pub missed : {A L : Type 0} (downs : ℕ → Parcel A → L → LinkStep A → L → Type 0) (now port : ℕ) (p : Parcel A)
     (ls : List L) (out : List (PortSent A)) → length ls ≤ port → DownsOne downs now port p ls out ls out
 missed downs now port p ls out le = inr (record { missing = misses_at ls port le; same = refl; silent = refl })
+
+-- what comes up of octets comes up of them, whatever was put out before
+pub record ComesUpAnew {A L : Type 0} (hears : ℕ → Mac → List ℕ → ℕ → L → LinkStep A → L → Type 0) (now port : ℕ)
+    (from : Mac) (octets : List ℕ) (stamp : ℕ) (ls ls2 : List L) (p : Parcel A) : Type 0 where
+  pub out : List (PortSent A)
+  pub heard : HearsAt hears now port from octets stamp ls [] (Some p) ls2 out
+
+pub heard_anew : {A L : Type 0} (hears : ℕ → Mac → List ℕ → ℕ → L → LinkStep A → L → Type 0) (now port : ℕ) (from : Mac)
+    (octets : List ℕ) (stamp : ℕ) (ls ls2 : List L) (out out2 : List (PortSent A)) (p : Parcel A) →
+    HearsAt hears now port from octets stamp ls out (Some p) ls2 out2 →
+    ComesUpAnew hears now port from octets stamp ls ls2 p
+heard_anew hears now port from octets stamp ls ls2 out out2 p (inl steps) = record {
+  out = over_port port steps.step.out;
+  heard = inl (record {
+    link = steps.link;
+    there = steps.there;
+    step = steps.step;
+    left = steps.left;
+    made = steps.made;
+    ports = steps.ports;
+    puts = refl;
+  });
+}
+heard_anew hears now port from octets stamp ls ls2 out out2 p (inr misses) = absurd (cc (misses.1))
 
 -- what the rest leads to, all lead to
 pub down_step : {A L : Type 0} (downs : ℕ → Parcel A → L → LinkStep A → L → Type 0) (now port : ℕ)

@@ -83,6 +83,12 @@ abbrev pub RegistersAt : {A L : Type 0} → (ℕ → L → LinkStep A → L → 
 RegistersAt registers now port old out new out_new =
     Steps (registers now) port old out new out_new ⊎ Misses port old out new out_new
 
+-- so many octets are heard at a port, in a frame or not (9.5.2)
+abbrev pub CountsAt : {A L : Type 0} → (ℕ → ℕ → L → LinkStep A → L → Type 0) → (count now : ℕ) → (port : ℕ) →
+    List L → List (PortSent A) → List L → List (PortSent A) → Type 0
+CountsAt counts count now port old out new out_new =
+    Steps (counts count now) port old out new out_new ⊎ Misses port old out new out_new
+
 -- the ports from a number on wake in order
 abbrev pub WakesFrom : {A L : Type 0} → (ℕ → L → LinkStep A → L → Type 0) → ℕ → (first count : ℕ) → List L →
     List (PortSent A) → List L → List (PortSent A) → Type 0

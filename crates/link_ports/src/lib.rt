@@ -11,5 +11,6 @@
 mod ports;
 
 pub use ports::{
-    PortSent, copy_of, down_all, down_one, heard_at, is_any_due, register_at, restart_all, wake_all,
+    PortSent, copy_of, count_at, down_all, down_one, heard_at, is_any_due, register_at,
+    restart_all, wake_all,
 };

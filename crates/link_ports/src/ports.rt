@@ -2,7 +2,7 @@
 
 ghost use Rattle.std.specs.Prelude.{◌≡◌, ◌≤◌, ◌<◌, ◌⊎◌, ◌↔◌, ◌++◌, ◌∷◌, [], false, IfOk, IfErr, OnOk, length, map};
 ghost use Rattle.profile.specs.Times.{MAX_MOMENT_MS};
-ghost use Rattle.link_ports.specs.Ports.{AreBefore, DownsAll, DownsOne, HearsAt, IsTooLong, NothingIsDue};
+ghost use Rattle.link_ports.specs.Ports.{AreBefore, CountsAt, DownsAll, DownsOne, HearsAt, IsTooLong, NothingIsDue};
 ghost use Rattle.link_ports.specs.Ports.{RegistersAt, Steps, WakesAll, over_port};
 
 use link::{Link, Sent};
@@ -124,7 +124,7 @@ pub fn heard_at<L: Link<A> + Drop, A: Allocator + Copy>(
         HearsAt L.hears now port from octets.now stamp ports.old.items out.old up ports.new.items out.new) }
     ensures places { OnOk result (map L.station ports.new.items ≡ map L.station ports.old.items) }
     ensures order { OnOk result (AreBefore L.moment now ports.new.items) }
-    ensures cause { IfErr result (λ fault. (fault ≡ Fault.Memory) ⊎ L.refuses fault octets.now) }
+    ensures cause { IfErr result (λ fault. (fault ≡ Fault.Memory) ⊎ L.refuses fault from octets.now) }
 {
     if port >= ports.len() {
         return Ok(None);
@@ -132,6 +132,35 @@ pub fn heard_at<L: Link<A> + Drop, A: Allocator + Copy>(
     let step = ports[port].heard(from, octets, stamp, now)?;
     put_over(port, step.out, out)?;
     Ok(step.up)
+}
+
+/// So many octets are heard at a port at the moment `now`, in milliseconds, in a frame or not, and what it puts out is
+/// appended (9.5.2). A link without octets of its own puts out nothing, nor does a port that the station doesn't have.
+///
+/// # Errors
+/// `Memory` alone. The ports may then hold any state.
+#[tactic(auto, using(crate::proofs::PortSteps::port_rules))]
+pub fn count_at<L: Link<A> + Drop, A: Allocator + Copy>(
+    ports: &mut Vec<L, A>,
+    port: usize,
+    count: usize,
+    now: u64,
+    out: &mut Items<PortSent<A>, A>,
+) -> Result<(), Fault>
+    requires greatest { now ≤ MAX_MOMENT_MS }
+    requires order { AreBefore L.moment now ports.old.items }
+    ensures counts { OnOk result
+        (CountsAt L.counts count now port ports.old.items out.old ports.new.items out.new) }
+    ensures places { OnOk result (map L.station ports.new.items ≡ map L.station ports.old.items) }
+    ensures order { OnOk result (AreBefore L.moment now ports.new.items) }
+    ensures cause { IfErr result (λ fault. fault ≡ Fault.Memory) }
+{
+    if port >= ports.len() {
+        return Ok(());
+    }
+    let step = ports[port].on_octets(count, now)?;
+    put_over(port, step.out, out)?;
+    Ok(())
 }
 
 /// A port registers at the moment `now`, in milliseconds, where its link is one of a foreign device, and what it puts

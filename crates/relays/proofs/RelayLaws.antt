@@ -4,17 +4,21 @@ use Rattle.std.specs.Prelude.{slice_get}
 use Rattle.bbmd_manager.specs.Manager.{left_of}
 use Rattle.bvll.specs.Datagram.{Datagram}
 use Rattle.bvll.specs.declared.address.Address.{Address}
+use Rattle.carry.specs.Datagrams.{IsDatagramOf}
 use Rattle.carry.specs.Things.{SentDatagram, Thing}
 use Rattle.carry_stations.proofs.IpManagers.{manager_passes, manager_wakes}
-use Rattle.carry_stations.proofs.IpRouters.{router_passes_on, router_stays_at_hearing, router_stays_at_wake, woken_router_passes_on}
-use Rattle.carry_stations.specs.Laws.{IpRouter, Stands}
+use Rattle.carry_stations.proofs.Addresses.{datagram_from, ip_is_address}
+use Rattle.carry_stations.proofs.Routers as routers
+use Rattle.carry_stations.specs.Laws.{PassesOn, Stands}
 use Rattle.carry_stations.specs.Laws as stations
-use Rattle.carry_stations.specs.Out.{OutPassesOn}
+use Rattle.carry_stations.specs.Out.{IsIpAddress, OutPassesOn}
+use Rattle.carry_stations.specs.Within.{AreOnTheirWay, WaitingIsWithin}
 use Rattle.history.proofs.Lists.{none_has}
 use Rattle.history.specs.Lists.{Has}
 use Rattle.link.specs.declared.step.Sent.{Sent}
-use Rattle.link_ip.specs.Port.{IpPortState, station_of}
-use Rattle.link_ip.specs.Steps.{Downs, Hears}
+use Rattle.link_ip.specs.CarryLaws.{carries_down, carries_on, carries_up}
+use Rattle.link_ip.specs.Port.{IpPortState, moment_of, station_of, waiting_in}
+use Rattle.link_ip.specs.Steps.{Downs, Hears, Idles, is_due}
 use Rattle.link_ports.specs.Ports.{Misses, Steps, over_port}
 use Rattle.link_ports.specs.declared.ports.PortSent.{PortSent}
 use Rattle.npdu.specs.declared.mac.Mac.{Mac}
@@ -25,8 +29,8 @@ use Rattle.router.specs.Hearing.{RouterHears}
 use Rattle.router.specs.Router.{AreNumbered, RouterState}
 use Rattle.router.specs.declared.plan.PortParcel.{PortParcel}
 use Rattle.site_manager.specs.Station.{ManagerHears, ManagerStationState, place_of}
-use Rattle.site_router.specs.Station.{AnswersIf, RouterStationHears}
-use Rattle.relays.specs.Laws.{RelayPassesOn, RelayStaysAtHearing, RelayStaysAtWake, RouterStands, Stays, WokenRelayPassesOn}
+use Rattle.site_router.specs.Station.{AnswersIf, RouterStationHears, RouterStationWakes}
+use Rattle.relays.specs.Laws.{IpRouter, RelayPassesOn, RelayStaysAtHearing, RelayStaysAtWake, RouterStands, Stays, WokenRelayPassesOn}
 use Rattle.relays.specs.declared.relay.Relay.TheVariants.{Router, Manager}
 
 -- a list that is none puts nothing out
@@ -56,12 +60,50 @@ unheard {A} now port n octets stamp old new out h =
     (none.0) h.answers in
     answers.0 ∙ none.1
 
+-- on BACnet/IP nothing waits, and what is put out are datagrams
+module _ {A : Type 0} (ts : List (Thing A)) where
+  none_waits : (ls : List (IpPortState A)) → WaitingIsWithin station_of waiting_in ts ls
+  none_waits ls = record { each = λ l p there waits. absurd (none_has waits) }
+
+  as_datagrams : (places : List Station) (out : List (PortSent A)) (ls : List (IpPortState A)) →
+      PassesOn IsDatagramOf station_of waiting_in ts places out ls → OutPassesOn ts places out
+  as_datagrams places out ls passes = record {
+    each = λ o x there at. record { passes = λ p i bears has. passes.puts.each o x p there at bears i has };
+  }
+
+  on_its_way : (from : Mac) (at : Station) (octets : List ℕ) (stamp : ℕ) → IsIpAddress from →
+      Has ts (SentDatagram at.net from at.mac octets stamp) → AreOnTheirWay IsDatagramOf ts from at octets stamp
+  on_its_way from at octets stamp address there = record {
+    thing = SentDatagram at.net from at.mac octets stamp;
+    there = there;
+    net = refl;
+    bears = λ p carried. (carried, datagram_from from at.mac octets stamp p (ip_is_address from address) carried);
+  }
+
+  router_passes : (now port : ℕ) (from : Mac) (octets : List ℕ) (stamp : ℕ) (old new : IpRouter A)
+      (out : List (PortSent A)) (at : Station) → RouterStands now old → IsIpAddress from →
+      slice_get old.router.ports port ≡ Some at → Has ts (SentDatagram at.net from at.mac octets stamp) →
+      RouterStationHears Hears Downs now port from octets stamp old out new → OutPassesOn ts old.router.ports out
+  router_passes now port from octets stamp old new out at stands address is there hears =
+      as_datagrams old.router.ports out new.ports
+      (routers.router_passes_on IsDatagramOf station_of moment_of waiting_in Downs Hears Idles carries_down carries_up
+      carries_on ts now port from octets stamp old new out at stands.stands stands.numbered (none_waits old.ports) is
+      (on_its_way from at octets stamp address there) hears)
+
+  woken_router_passes : (now : ℕ) (old new : IpRouter A) (out : List (PortSent A)) → RouterStands now old →
+      RouterStationWakes is_due Idles Downs now old out new → OutPassesOn ts old.router.ports out
+  woken_router_passes now old new out stands wakes =
+      as_datagrams old.router.ports out new.ports
+      (routers.woken_router_passes_on IsDatagramOf station_of moment_of waiting_in Downs Hears Idles carries_down
+      carries_up carries_on is_due ts now old new out stands.stands (none_waits old.ports) wakes)
+
 -- a router is where its ports are
-at_ports : {A : Type 0} (now : ℕ) (s : IpRouter A) (port : ℕ) (at : Station) → Stands now s →
+at_ports : {A : Type 0} (now : ℕ) (s : IpRouter A) (port : ℕ) (at : Station) → Stands station_of moment_of now s →
     slice_get (map station_of s.ports) port ≡ Some at → slice_get s.router.ports port ≡ Some at
 at_ports now s port at stands e = ap (λ (xs : List Station). slice_get xs port) (sym stands.at_its_ports) ∙ e
 
-by_ports : {A : Type 0} (ts : List (Thing A)) (now : ℕ) (s : IpRouter A) (out : List (PortSent A)) → Stands now s →
+by_ports : {A : Type 0} (ts : List (Thing A)) (now : ℕ) (s : IpRouter A) (out : List (PortSent A)) →
+    Stands station_of moment_of now s →
     OutPassesOn ts s.router.ports out → OutPassesOn ts (map station_of s.ports) out
 by_ports ts now s out stands passes =
     subst (λ (xs : List Station). OutPassesOn ts xs out) (sym stands.at_its_ports) passes
@@ -76,8 +118,8 @@ the_same x y (suc n) e = absurd (cc e)
 pub relay_passes_on : (A : Type 0) → RelayPassesOn A
 relay_passes_on A ts now port (Six from) octets stamp (Router old) (Router new) out at stands mac is there hears =
     by_ports ts now old out stands.stands
-    (router_passes_on A ts now port (Six from) octets stamp old new out at stands.stands stands.numbered mac
-    (at_ports now old port at stands.stands is) there hears)
+    (router_passes ts now port (Six from) octets stamp old new out at stands mac (at_ports now old port at stands.stands is)
+    there hears)
 relay_passes_on A ts now port (One from) octets stamp (Router old) (Router new) out at stands mac is there hears =
     nothing_passes ts (map station_of old.ports) out (unheard now port from octets stamp old new out hears)
 relay_passes_on A ts now port (Six from) octets stamp (Manager old) (Manager new) out at stands mac is there hears =
@@ -91,7 +133,7 @@ relay_passes_on A ts now port from octets stamp (Manager old) (Router new) out a
 
 pub woken_relay_passes_on : (A : Type 0) → WokenRelayPassesOn A
 woken_relay_passes_on A ts now (Router old) (Router new) out stands wakes =
-    by_ports ts now old out stands.stands (woken_router_passes_on A ts now old new out stands.stands wakes)
+    by_ports ts now old out stands.stands (woken_router_passes ts now old new out stands wakes)
 woken_relay_passes_on A ts now (Manager old) (Manager new) out stands wakes = manager_wakes A ts now old new out wakes
 woken_relay_passes_on A ts now (Router old) (Manager new) out stands wakes = absurd wakes
 woken_relay_passes_on A ts now (Manager old) (Router new) out stands wakes = absurd wakes
@@ -111,7 +153,8 @@ before_then now port (Some p) middle old new so_far out le a =
     let same = moment_then now port p old.router new.router a.said a.hears in omega (arith, same)
 
 -- a router that stays with its ports stands, and is where it was
-router_stays : {A : Type 0} (now : ℕ) (old new : IpRouter A) → RouterStands now old → stations.Stays now old new →
+router_stays : {A : Type 0} (now : ℕ) (old new : IpRouter A) → RouterStands now old →
+    stations.Stays station_of moment_of now old new →
     new.router.moment ≤ now → Stays now (Router old) (Router new)
 router_stays now old new stands stays before = record {
   stands = record {
@@ -143,7 +186,8 @@ manager_stays now (Six from) octets stamp old new out le h =
 pub relay_stays_at_hearing : (A : Type 0) → RelayStaysAtHearing A
 relay_stays_at_hearing A now port from octets stamp (Router old) (Router new) out stands hears =
     router_stays now old new stands
-    (router_stays_at_hearing A now port from octets stamp old new out stands.stands hears)
+    (routers.router_stays_at_hearing IsDatagramOf station_of moment_of waiting_in Downs Hears Idles carries_down carries_up
+    carries_on now port from octets stamp old new out stands.stands hears)
     (before_then now port hears.up hears.middle old new hears.middle_out out stands.before hears.answers)
 relay_stays_at_hearing A now port from octets stamp (Manager old) (Manager new) out stands hears =
     let stays = manager_stays now from octets stamp old new out stands hears in
@@ -154,7 +198,9 @@ relay_stays_at_hearing A now port from octets stamp (Manager old) (Router new) o
 pub relay_stays_at_wake : (A : Type 0) → RelayStaysAtWake A
 relay_stays_at_wake A now (Router old) (Router new) out stands wakes =
     let same : new.router.moment ≡ now = ap (λ (r : RouterState). r.moment) wakes.router in
-    router_stays now old new stands (router_stays_at_wake A now old new out stands.stands wakes) (omega (arith, same))
+    router_stays now old new stands
+    (routers.router_stays_at_wake IsDatagramOf station_of moment_of waiting_in Downs Hears Idles carries_down carries_up
+    carries_on is_due now old new out stands.stands wakes) (omega (arith, same))
 relay_stays_at_wake A now (Manager old) (Manager new) out stands wakes =
     let same : new.manager.moment ≡ now = ap (λ (s : ManagerStationState). s.manager.moment) wakes.leaves in
     record { stands = omega (arith, same); same = ap (λ (s : ManagerStationState). place_of s ∷ []) wakes.leaves }

@@ -1,16 +1,17 @@
 -- What holds of all that relays on BACnet/IP put out, and where they are.
 use Rattle.std.specs.Prelude.{◌≡◌, ◌≤◌, ℕ, List, Some, slice_get}
 use Rattle.carry.specs.Things.{SentDatagram, Thing}
-use Rattle.carry_stations.specs.Laws.{IpRouter, Stands}
+use Rattle.carry_stations.specs.Laws.{Stands}
 use Rattle.carry_stations.specs.Out.{IsIpAddress, OutPassesOn}
 use Rattle.history.specs.Lists.{Has}
-use Rattle.link_ip.specs.Port.{IpPortState, station_of}
+use Rattle.link_ip.specs.Port.{IpPortState, moment_of, station_of}
 use Rattle.link_ip.specs.Steps.{Downs, Hears, Idles, is_due}
 use Rattle.link_ports.specs.declared.ports.PortSent.{PortSent}
 use Rattle.npdu.specs.declared.mac.Mac.{Mac}
 use Rattle.npdu.specs.declared.mac.Mac.TheVariants.{One, Six}
 use Rattle.npdu.specs.declared.mac.Station.{Station}
 use Rattle.router.specs.Router.{AreNumbered}
+use Rattle.site_router.specs.Station.{RouterStationState}
 use Rattle.relays.specs.Relay.{places_of}
 use Rattle.relays.specs.Steps.{RelayHears, RelayWakes}
 use Rattle.relays.specs.declared.relay.Relay.{Relay}
@@ -19,6 +20,10 @@ use Rattle.relays.specs.declared.relay.Relay.TheVariants.{Router, Manager}
 -- a relay on networks of BACnet/IP
 abbrev pub IpRelay : Type 0 → Type 0
 IpRelay A = Relay (IpPortState A) A
+
+-- a router among them
+abbrev pub IpRouter : Type 0 → Type 0
+IpRouter A = RouterStationState (IpPortState A)
 
 -- where it is (6.1)
 abbrev pub ip_places : {A : Type 0} → IpRelay A → List Station
@@ -31,7 +36,7 @@ IsMac (Six octets) = IsIpAddress (Six octets)
 
 -- a router has its ports on networks with numbers, and neither it nor one of them has seen a later moment
 pub record RouterStands {A : Type 0} (now : ℕ) (s : IpRouter A) : Type 0 where
-  pub stands : Stands now s
+  pub stands : Stands station_of moment_of now s
   pub numbered : AreNumbered s.router.ports
   pub before : s.router.moment ≤ now
 

@@ -1,11 +1,12 @@
 -- What a relay does on each input, by its kind: what its kind does (6.5, J.4.5).
-use Rattle.std.specs.Prelude.{ℕ, Bool, List}
+use Rattle.std.specs.Prelude.{◌≡◌, ℕ, Bool, List, []}
 use Rattle.link.specs.declared.step.LinkStep.{LinkStep}
 use Rattle.link_ports.specs.declared.ports.PortSent.{PortSent}
 use Rattle.npdu.specs.declared.mac.Mac.{Mac}
 use Rattle.npdu.specs.declared.parcel.Parcel.{Parcel}
 use Rattle.site_manager.specs.Station.{ManagerHears, ManagerWakes}
-use Rattle.site_router.specs.Station.{RouterStationHears, RouterStationWakes}
+use Rattle.site_router.specs.Station.{RouterStationCounts, RouterStationHears, RouterStationHearsFrame}
+use Rattle.site_router.specs.Station.{RouterStationWakes}
 use Rattle.relays.specs.declared.relay.Relay.{Relay}
 use Rattle.relays.specs.declared.relay.Relay.TheVariants.{Router, Manager}
 
@@ -19,6 +20,25 @@ module _ {A L : Type 0} where
   RelayHears hears downs now port from octets stamp (Manager s) out (Manager new) =
       ManagerHears now from octets stamp s out new
   RelayHears hears downs now port from octets stamp r out new = ⊥
+
+  -- so many octets are heard on a port, and no frame ends with them (9.5.2): a manager is on no bus
+  abbrev pub RelayCounts : (counts : ℕ → ℕ → L → LinkStep A → L → Type 0) → (now port count : ℕ) → Relay L A →
+      List (PortSent A) → Relay L A → Type 0
+  RelayCounts counts now port count (Router s) out (Router new) = RouterStationCounts counts now port count s out new
+  RelayCounts counts now port count (Manager s) out (Manager new) = (out ≡ []) × (new ≡ s)
+  RelayCounts counts now port count r out new = ⊥
+
+  -- so many octets are heard on a port, and then the frame that they end (9.5.2); a manager hears no octets but those of
+  -- datagrams
+  abbrev pub RelayHearsFrame : (counts : ℕ → ℕ → L → LinkStep A → L → Type 0) →
+      (hears : ℕ → Mac → List ℕ → ℕ → L → LinkStep A → L → Type 0) →
+      (downs : ℕ → Parcel A → L → LinkStep A → L → Type 0) → (now port count : ℕ) → Mac → List ℕ → (stamp : ℕ) →
+      Relay L A → List (PortSent A) → Relay L A → Type 0
+  RelayHearsFrame counts hears downs now port count from octets stamp (Router s) out (Router new) =
+      RouterStationHearsFrame counts hears downs now port count from octets stamp s out new
+  RelayHearsFrame counts hears downs now port count from octets stamp (Manager s) out (Manager new) =
+      ManagerHears now from octets stamp s out new
+  RelayHearsFrame counts hears downs now port count from octets stamp r out new = ⊥
 
   -- it wakes: a router, and then its ports (6.6.2, 9.5); a manager (J.5.2.3)
   abbrev pub RelayWakes : (is_due : ℕ → L → Bool) → (wakes : ℕ → L → LinkStep A → L → Type 0) →

@@ -3,8 +3,8 @@
 ghost use Rattle.std.specs.Prelude.{◌≡◌, ◌≤◌, ◌⊎◌, IfOk, IfErr, length, map, slice_get};
 ghost use Rattle.profile.specs.Times.{MAX_MOMENT_MS};
 ghost use Rattle.relays.specs.Relay.{IsBefore, left_by, out_of, places_of};
-ghost use Rattle.relays.specs.Refusals.{HearingIsRefused, WakeIsRefused};
-ghost use Rattle.relays.specs.Steps.{RelayHears, RelayWakes};
+ghost use Rattle.relays.specs.Refusals.{FrameIsRefused, HearingIsRefused, WakeIsRefused};
+ghost use Rattle.relays.specs.Steps.{RelayCounts, RelayHears, RelayHearsFrame, RelayWakes};
 
 use crate::plan::RelayPlan;
 use link::Link;
@@ -98,6 +98,66 @@ impl<L: Link<A> + Drop, A: Allocator + Copy> Relay<L, A> {
         match self {
             Relay::Router(station) => {
                 let plan = station.plan_hears(port, from, octets, stamp, now)?;
+                Ok(RelayPlan::Router(plan))
+            }
+            Relay::Manager(station) => {
+                let plan = station.plan_hears(from, octets, stamp, now)?;
+                Ok(RelayPlan::Manager(plan))
+            }
+        }
+    }
+
+    /// What it does where so many octets are heard on a port at the moment `now`, in milliseconds, and no frame ends with
+    /// them: `commit` does it. A manager is on no bus (9.5.2).
+    ///
+    /// # Errors
+    /// `Memory` alone.
+    pub fn plan_octets(&self, port: usize, count: usize, now: u64) -> Result<RelayPlan<L, A>, Fault>
+        requires greatest { now ≤ MAX_MOMENT_MS }
+        requires before { IsBefore L.moment now self.now }
+        ensures counts { IfOk result (λ plan. RelayCounts L.counts now port count self.now
+            (out_of plan) (left_by now plan self.now)) }
+        ensures cause { IfErr result (λ fault. fault ≡ Fault.Memory) }
+    {
+        match self {
+            Relay::Router(station) => {
+                let plan = station.plan_octets(port, count, now)?;
+                Ok(RelayPlan::Router(plan))
+            }
+            Relay::Manager(station) => {
+                // octets of a bus are nothing to it
+                let plan = station.plan_hears(Mac::One(0), &[], 0, now)?;
+                Ok(RelayPlan::Manager(plan))
+            }
+        }
+    }
+
+    /// What it does where so many octets are heard on a port at the moment `now`, in milliseconds, and then the frame
+    /// that they end, from an address, said at the moment `stamp`: `commit` does it. A manager drops what comes from a bus
+    /// (6.5, 9.5.2).
+    ///
+    /// # Errors
+    /// What a router's port refuses of octets; `TableFull` for an announcement behind which a router would know too many
+    /// routes; `TooLong` for what is too long to be passed on; or `Memory`.
+    pub fn plan_frame(
+        &self,
+        port: usize,
+        count: usize,
+        from: Mac,
+        octets: &[u8],
+        stamp: u64,
+        now: u64,
+    ) -> Result<RelayPlan<L, A>, Fault>
+        requires greatest { now ≤ MAX_MOMENT_MS }
+        requires before { IsBefore L.moment now self.now }
+        ensures hears { IfOk result (λ plan. RelayHearsFrame L.counts L.hears L.downs now port count from octets.now stamp
+            self.now (out_of plan) (left_by now plan self.now)) }
+        ensures cause { IfErr result (λ fault. (fault ≡ Fault.Memory) ⊎ FrameIsRefused L.counts L.hears L.refuses
+            L.station now port count from octets.now stamp self.now fault) }
+    {
+        match self {
+            Relay::Router(station) => {
+                let plan = station.plan_frame(port, count, from, octets, stamp, now)?;
                 Ok(RelayPlan::Router(plan))
             }
             Relay::Manager(station) => {

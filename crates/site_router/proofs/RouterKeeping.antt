@@ -6,7 +6,7 @@ use Rattle.history.proofs.Lists.{has, has_next}
 use Rattle.history.specs.Lists.{Has}
 use Rattle.link.specs.Carrying.{CarriesDown, CarriesOn, CarriesUp, Carrier}
 use Rattle.link.specs.declared.step.LinkStep.{LinkStep}
-use Rattle.link_ports.proofs.Keeping.{ComesUp, Keeps, SaidIsGood, heard_comes_up, heard_keeps, one_keeps, wakes_keep}
+use Rattle.link_ports.proofs.Keeping.{ComesUp, Keeps, SaidIsGood, counts_keep, heard_comes_up, heard_keeps, one_keeps, wakes_keep}
 use Rattle.link_ports.specs.Ports.{HearsAt}
 use Rattle.link_ports.specs.declared.ports.PortSent.{PortSent}
 use Rattle.npdu.specs.declared.mac.Mac.{Mac}
@@ -17,7 +17,8 @@ use Rattle.router.specs.Messages.{announced}
 use Rattle.router.specs.Router.{RouterState}
 use Rattle.router.specs.declared.plan.PortParcel.{PortParcel}
 use Rattle.site_router.specs.Downs.{DownsEach}
-use Rattle.site_router.specs.Station.{AnswersIf, PortsRest, PortsWake, RouterStationHears, RouterStationState, RouterStationWakes}
+use Rattle.site_router.specs.Station.{AnswersIf, HearsOn, PortsRest, PortsWake, RouterStationCounts, RouterStationHears}
+use Rattle.site_router.specs.Station.{RouterStationHearsFrame, RouterStationState, RouterStationWakes}
 
 -- its ports stay the same whatever a router hears
 pub ports_stay : {A : Type 0} (now port : ℕ) (p : Parcel A) (old new : RouterState) (out : List (PortParcel A)) →
@@ -65,23 +66,56 @@ module _ {A L : Type 0} (carries : Carrier A) (station : L → Station) (moment 
       RouterHears now port p r said left → AreGood places said
 
   -- octets are heard
-  pub router_hears_keep : (places : List Station) (now port : ℕ) (from : Mac) (octets : List ℕ) (stamp : ℕ)
-      (old : RouterStationState L) (out : List (PortSent A)) (new : RouterStationState L) → Kept now places old.ports [] →
-      AnswersAreGood places now port from octets stamp old.router →
-      RouterStationHears hears downs now port from octets stamp old out new → Kept now places new.ports out
-  router_hears_keep places now port from octets stamp old out new k good h = by_up h.up h.heard
+  on_keep : (places : List Station) (now port : ℕ) (from : Mac) (octets : List ℕ) (stamp : ℕ)
+      (ports : List L) (r : RouterState) (so_far out : List (PortSent A)) (new : RouterStationState L) →
+      Kept now places ports so_far → AnswersAreGood places now port from octets stamp r →
+      HearsOn hears downs now port from octets stamp ports r so_far out new → Kept now places new.ports out
+  on_keep places now port from octets stamp ports r so_far out new k good h = by_up h.up h.heard
       (heard_keeps carries station moment waiting downs hears wakes law_down law_up law_on Good places now port
-      from octets stamp old.ports h.middle [] h.middle_out h.up k h.heard) h.answers
+      from octets stamp ports h.middle so_far h.middle_out h.up k h.heard) h.answers
     where
-      by_up : (up : Option (Parcel A)) → HearsAt hears now port from octets stamp old.ports [] up h.middle h.middle_out →
+      by_up : (up : Option (Parcel A)) → HearsAt hears now port from octets stamp ports so_far up h.middle h.middle_out →
           Kept now places h.middle h.middle_out →
-          AnswersIf downs now port up (record old { ports = h.middle }) h.middle_out out new → Kept now places new.ports out
+          AnswersIf downs now port up (record { ports = h.middle; router = r }) h.middle_out out new →
+          Kept now places new.ports out
       by_up None heard kept a = subst (λ (os : List (PortSent A)). Kept now places new.ports os) (sym (a.0))
           (subst (λ (x : RouterStationState L). Kept now places x.ports h.middle_out) (sym (a.1)) kept)
       by_up (Some p) heard kept a = each_keeps places now a.said h.middle new.ports h.middle_out out kept
           (good p a.said new.router
           (heard_comes_up carries station moment waiting downs hears wakes law_down law_up law_on Good places now port from
-          octets stamp old.ports h.middle [] h.middle_out p k.places_are heard) a.hears) a.goes_down
+          octets stamp ports h.middle so_far h.middle_out p k.places_are heard) a.hears) a.goes_down
+
+  -- .. with nothing put out before
+  pub router_hears_keep : (places : List Station) (now port : ℕ) (from : Mac) (octets : List ℕ) (stamp : ℕ)
+      (old : RouterStationState L) (out : List (PortSent A)) (new : RouterStationState L) → Kept now places old.ports [] →
+      AnswersAreGood places now port from octets stamp old.router →
+      RouterStationHears hears downs now port from octets stamp old out new → Kept now places new.ports out
+  router_hears_keep places now port from octets stamp old out new k good h =
+      on_keep places now port from octets stamp old.ports old.router [] out new k good h
+
+  -- a router is told of octets on a port
+  pub router_octets_keep : (counts : ℕ → ℕ → L → LinkStep A → L → Type 0)
+      (law : (count now : ℕ) (old : L) (step : LinkStep A) (new : L) → counts count now old step new →
+      CarriesOn carries station moment waiting now old step new) (places : List Station) (now port count : ℕ)
+      (old : RouterStationState L) (out : List (PortSent A)) (new : RouterStationState L) → Kept now places old.ports [] →
+      RouterStationCounts counts now port count old out new → Kept now places new.ports out
+  router_octets_keep counts law places now port count old out new k c =
+      counts_keep carries station moment waiting downs hears wakes law_down law_up law_on Good counts law places count now
+      port old.ports new.ports [] out k c.ports
+
+  -- .. and hears the frame that they end
+  pub router_frame_keeps : (counts : ℕ → ℕ → L → LinkStep A → L → Type 0)
+      (law : (count now : ℕ) (old : L) (step : LinkStep A) (new : L) → counts count now old step new →
+      CarriesOn carries station moment waiting now old step new) (places : List Station) (now port count : ℕ)
+      (from : Mac) (octets : List ℕ) (stamp : ℕ) (old : RouterStationState L) (out : List (PortSent A))
+      (new : RouterStationState L) → Kept now places old.ports [] →
+      AnswersAreGood places now port from octets stamp old.router →
+      RouterStationHearsFrame counts hears downs now port count from octets stamp old out new →
+      Kept now places new.ports out
+  router_frame_keeps counts law places now port count from octets stamp old out new k good h =
+      on_keep places now port from octets stamp h.counted old.router h.so_far out new
+      (counts_keep carries station moment waiting downs hears wakes law_down law_up law_on Good counts law places count now
+      port old.ports h.counted [] h.so_far k h.told) good h.heard
 
   -- a router wakes
   pub router_wakes_keep : (is_due : ℕ → L → Bool) (places : List Station) (now : ℕ) (old : RouterStationState L)

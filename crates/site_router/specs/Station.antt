@@ -1,7 +1,7 @@
 -- What a router with its ports does on each input: the router, and what is put out over its ports (6.5, 6.6).
 use Rattle.std.specs.Prelude.{◌≡◌, ◌⊎◌, ℕ, Bool, List, [], map, Option, Some, None}
 use Rattle.link.specs.declared.step.LinkStep.{LinkStep}
-use Rattle.link_ports.specs.Ports.{HearsAt, NothingIsDue, WakesAll}
+use Rattle.link_ports.specs.Ports.{CountsAt, HearsAt, NothingIsDue, WakesAll}
 use Rattle.link_ports.specs.declared.ports.PortSent.{PortSent}
 use Rattle.npdu.specs.declared.mac.Mac.{Mac}
 use Rattle.npdu.specs.declared.mac.Station.{Station}
@@ -42,15 +42,38 @@ module _ {A L : Type 0} where
   AnswersIf downs now port None old so_far out new = (out ≡ so_far) × (new ≡ old)
   AnswersIf downs now port (Some p) old so_far out new = RouterAnswers downs now port p old so_far out new
 
-  -- octets from an address, said at a moment, are heard on a port
-  pub record RouterStationHears (hears : ℕ → Mac → List ℕ → ℕ → L → LinkStep A → L → Type 0)
+  -- octets from an address, said at a moment, are heard on one of these ports, behind what was put out so far
+  pub record HearsOn (hears : ℕ → Mac → List ℕ → ℕ → L → LinkStep A → L → Type 0)
       (downs : ℕ → Parcel A → L → LinkStep A → L → Type 0) (now port : ℕ) (from : Mac) (octets : List ℕ) (stamp : ℕ)
-      (old : RouterStationState L) (out : List (PortSent A)) (new : RouterStationState L) : Type 0 where
+      (ports : List L) (r : RouterState) (so_far out : List (PortSent A)) (new : RouterStationState L) : Type 0 where
     pub up : Option (Parcel A)
     pub middle : List L
     pub middle_out : List (PortSent A)
-    pub heard : HearsAt hears now port from octets stamp old.ports [] up middle middle_out
-    pub answers : AnswersIf downs now port up (record old { ports = middle }) middle_out out new
+    pub heard : HearsAt hears now port from octets stamp ports so_far up middle middle_out
+    pub answers : AnswersIf downs now port up (record { ports = middle; router = r }) middle_out out new
+
+  -- .. on a port of a router
+  abbrev pub RouterStationHears : (ℕ → Mac → List ℕ → ℕ → L → LinkStep A → L → Type 0) →
+      (ℕ → Parcel A → L → LinkStep A → L → Type 0) → (now port : ℕ) → Mac → (octets : List ℕ) → (stamp : ℕ) →
+      RouterStationState L → List (PortSent A) → RouterStationState L → Type 0
+  RouterStationHears hears downs now port from octets stamp old out new =
+      HearsOn hears downs now port from octets stamp old.ports old.router [] out new
+
+  -- so many octets are heard on a port, and no frame ends with them: the router says nothing (9.5.2)
+  pub record RouterStationCounts (counts : ℕ → ℕ → L → LinkStep A → L → Type 0) (now port count : ℕ)
+      (old : RouterStationState L) (out : List (PortSent A)) (new : RouterStationState L) : Type 0 where
+    pub same : new.router ≡ old.router
+    pub ports : CountsAt counts count now port old.ports [] new.ports out
+
+  -- so many octets are heard on a port, and then the frame that they end (9.5.2)
+  pub record RouterStationHearsFrame (counts : ℕ → ℕ → L → LinkStep A → L → Type 0)
+      (hears : ℕ → Mac → List ℕ → ℕ → L → LinkStep A → L → Type 0)
+      (downs : ℕ → Parcel A → L → LinkStep A → L → Type 0) (now port count : ℕ) (from : Mac) (octets : List ℕ)
+      (stamp : ℕ) (old : RouterStationState L) (out : List (PortSent A)) (new : RouterStationState L) : Type 0 where
+    pub counted : List L
+    pub so_far : List (PortSent A)
+    pub told : CountsAt counts count now port old.ports [] counted so_far
+    pub heard : HearsOn hears downs now port from octets stamp counted old.router so_far out new
 
   -- what a router says goes down, and then its ports wake in order, so that it can go out in the same call
   pub record PortsWake (wakes : ℕ → L → LinkStep A → L → Type 0) (downs : ℕ → Parcel A → L → LinkStep A → L → Type 0)

@@ -4,12 +4,14 @@ ghost use Rattle.std.specs.Prelude.{◌≡◌, ◌≤◌, ◌⊎◌, IfOk, IfErr
 ghost use Rattle.link_ports.specs.Ports.{AreBefore};
 ghost use Rattle.profile.specs.Times.{MAX_MOMENT_MS};
 ghost use Rattle.router.specs.Router.{AreNumbered};
-ghost use Rattle.site_router.specs.Refusals.{AnnouncesTooLong, HearingIsRefused, IsTaught};
-ghost use Rattle.site_router.specs.Station.{HasRoutes, RouterStationHears, RouterStationWakes, left_by, new_station};
+ghost use Rattle.site_router.specs.Refusals.{AnnouncesTooLong, FrameIsRefused, FrameIsTaught, HearingIsRefused};
+ghost use Rattle.site_router.specs.Refusals.{IsTaught, IsTaughtOn};
+ghost use Rattle.site_router.specs.Station.{HasRoutes, HearsOn, RouterStationCounts, RouterStationHears};
+ghost use Rattle.site_router.specs.Station.{RouterStationHearsFrame, RouterStationWakes, left_by, new_station};
 
 use crate::downs::{down_each, places_of};
 use link::Link;
-use link_ports::{PortSent, copy_of, heard_at, is_any_due, wake_all};
+use link_ports::{PortSent, copy_of, count_at, heard_at, is_any_due, wake_all};
 use npdu::Mac;
 use router::{Router, RouterPlan};
 use std::alloc::{AllocError, Allocator};
@@ -111,8 +113,34 @@ impl<L: Link<A> + Drop, A: Allocator + Copy> RouterStation<L, A> {
         ensures cause { IfErr result (λ fault. (fault ≡ Fault.Memory) ⊎ HearingIsRefused L.hears L.refuses L.station
             now port from octets.now stamp self.now fault) }
     {
-        let mut ports = copy_of(self.alloc, self.ports.as_slice())?;
-        let mut out = Items::new(self.alloc);
+        let ports = copy_of(self.alloc, self.ports.as_slice())?;
+        let out = Items::new(self.alloc);
+        let plan = self.hear_on(ports, out, port, from, octets, stamp, now)?;
+        Ok(plan)
+    }
+
+    /// What it does where octets from an address are heard on one of these ports, behind what was put out so far.
+    fn hear_on(
+        &self,
+        ports: Vec<L, A>,
+        so_far: Items<PortSent<A>, A>,
+        port: usize,
+        from: Mac,
+        octets: &[u8],
+        stamp: u64,
+        now: u64,
+    ) -> Result<RouterStationPlan<L, A>, Fault>
+        requires greatest { now ≤ MAX_MOMENT_MS }
+        requires order { AreBefore L.moment now ports.items }
+        ensures hears { IfOk result (λ plan. HearsOn L.hears L.downs now port from octets.now stamp ports.items
+            self.now.router so_far plan.out (left_by now plan self.now)) }
+        ensures copied { IfOk result (λ plan. HasRoutes plan.router →
+            IsTaughtOn L.hears now port from octets.now stamp ports.items self.now.router) }
+        ensures cause { IfErr result (λ fault. (fault ≡ Fault.Memory) ⊎ HearingIsRefused L.hears L.refuses L.station now
+            port from octets.now stamp (record { ports = ports.items; router = self.now.router }) fault) }
+    {
+        let mut ports = ports;
+        let mut out = so_far;
         let Some(parcel) = heard_at(&mut ports, port, from, octets, stamp, now, &mut out)? else {
             return Ok(RouterStationPlan {
                 out,
@@ -127,6 +155,65 @@ impl<L: Link<A> + Drop, A: Allocator + Copy> RouterStation<L, A> {
             router: Some(plan),
             ports: Some(ports),
         })
+    }
+
+    /// What it does where so many octets are heard on a port at the moment `now`, in milliseconds, and no frame ends
+    /// with them: `commit` does it (9.5.2).
+    ///
+    /// # Errors
+    /// `Memory` alone.
+    pub fn plan_octets(
+        &self,
+        port: usize,
+        count: usize,
+        now: u64,
+    ) -> Result<RouterStationPlan<L, A>, Fault>
+        requires greatest { now ≤ MAX_MOMENT_MS }
+        requires order { AreBefore L.moment now self.now.ports }
+        ensures counts { IfOk result (λ plan. RouterStationCounts L.counts now port count self.now
+            plan.out (left_by now plan self.now)) }
+        ensures cause { IfErr result (λ fault. fault ≡ Fault.Memory) }
+    {
+        let mut ports = copy_of(self.alloc, self.ports.as_slice())?;
+        let mut out = Items::new(self.alloc);
+        count_at(&mut ports, port, count, now, &mut out)?;
+        Ok(RouterStationPlan {
+            out,
+            router: None,
+            ports: Some(ports),
+        })
+    }
+
+    /// What it does where so many octets are heard on a port at the moment `now`, in milliseconds, and then the frame
+    /// that they end, from an address, said at the moment `stamp`: `commit` does it (6.5, 9.5.2). Where it learns no
+    /// route, no route is copied.
+    ///
+    /// # Errors
+    /// What the port refuses of octets; `TableFull` for an announcement behind which it would know too many routes;
+    /// `TooLong` where what it says is too long for a port; or `Memory`.
+    pub fn plan_frame(
+        &self,
+        port: usize,
+        count: usize,
+        from: Mac,
+        octets: &[u8],
+        stamp: u64,
+        now: u64,
+    ) -> Result<RouterStationPlan<L, A>, Fault>
+        requires greatest { now ≤ MAX_MOMENT_MS }
+        requires order { AreBefore L.moment now self.now.ports }
+        ensures hears { IfOk result (λ plan. RouterStationHearsFrame L.counts L.hears L.downs now port count from
+            octets.now stamp self.now plan.out (left_by now plan self.now)) }
+        ensures copied { IfOk result (λ plan. HasRoutes plan.router →
+            FrameIsTaught L.counts L.hears now port count from octets.now stamp self.now) }
+        ensures cause { IfErr result (λ fault. (fault ≡ Fault.Memory) ⊎ FrameIsRefused L.counts L.hears L.refuses
+            L.station now port count from octets.now stamp self.now fault) }
+    {
+        let mut ports = copy_of(self.alloc, self.ports.as_slice())?;
+        let mut out = Items::new(self.alloc);
+        count_at(&mut ports, port, count, now, &mut out)?;
+        let plan = self.hear_on(ports, out, port, from, octets, stamp, now)?;
+        Ok(plan)
     }
 
     /// What it does where it wakes at the moment `now`, in milliseconds: the router first, then its ports, in order

@@ -9,7 +9,7 @@ use Rattle.object_model.specs.Objects.{PlainTable}
 use Rattle.primitives.specs.declared.plain_data.Request.{Request}
 use Rattle.site_station.specs.Entity.{EntityAsks, EntityHears, EntityIssues, EntityRestarts, IsDevice, RefusesParcel, awake, issue_refusal, silence, told_awake}
 use Rattle.site_station.specs.Entity as entity
-use Rattle.link_ports.specs.Ports.{DownsAll, HearsAt, IsTooLong, NothingIsDue, RegistersAt, WakesAll}
+use Rattle.link_ports.specs.Ports.{CountsAt, DownsAll, HearsAt, IsTooLong, NothingIsDue, RegistersAt, WakesAll}
 use Rattle.site_station.specs.declared.entity.Entity.{Entity}
 use Rattle.site_station.specs.declared.entity.EntityTold.{EntityTold}
 use Rattle.link_ports.specs.declared.ports.PortSent.{PortSent}
@@ -47,15 +47,40 @@ module _ {A L : Type 0} where
   AnswersIf downs now (Some p) ports e so_far t new =
       SaysDown downs (λ told left. EntityHears now p e told left) now ports so_far t new
 
-  -- octets from an address, said at a moment, are heard on a port
-  pub record StationHears (hears : ℕ → Mac → List ℕ → ℕ → L → LinkStep A → L → Type 0)
+  -- octets from an address, said at a moment, are heard on one of these ports, behind what was put out so far
+  pub record HearsOn (hears : ℕ → Mac → List ℕ → ℕ → L → LinkStep A → L → Type 0)
       (downs : ℕ → Parcel A → L → LinkStep A → L → Type 0) (now port : ℕ) (from : Mac) (octets : List ℕ) (stamp : ℕ)
-      (old : StationState A L) (t : StationTold A) (new : StationState A L) : Type 0 where
+      (ports : List L) (e : Entity A) (so_far : List (PortSent A)) (t : StationTold A) (new : StationState A L) :
+      Type 0 where
     pub up : Option (Parcel A)
     pub middle : List L
     pub middle_out : List (PortSent A)
-    pub heard : HearsAt hears now port from octets stamp old.ports [] up middle middle_out
-    pub answers : AnswersIf downs now up middle old.entity middle_out t new
+    pub heard : HearsAt hears now port from octets stamp ports so_far up middle middle_out
+    pub answers : AnswersIf downs now up middle e middle_out t new
+
+  -- .. on a port of a station
+  abbrev pub StationHears : (ℕ → Mac → List ℕ → ℕ → L → LinkStep A → L → Type 0) →
+      (ℕ → Parcel A → L → LinkStep A → L → Type 0) → (now port : ℕ) → Mac → (octets : List ℕ) → (stamp : ℕ) →
+      StationState A L → StationTold A → StationState A L → Type 0
+  StationHears hears downs now port from octets stamp old t new =
+      HearsOn hears downs now port from octets stamp old.ports old.entity [] t new
+
+  -- so many octets are heard on a port, and no frame ends with them: its entity says nothing (9.5.2)
+  pub record StationCounts (counts : ℕ → ℕ → L → LinkStep A → L → Type 0) (now port count : ℕ)
+      (old : StationState A L) (t : StationTold A) (new : StationState A L) : Type 0 where
+    pub silent : t.told ≡ silence
+    pub same : new.entity ≡ old.entity
+    pub ports : CountsAt counts count now port old.ports [] new.ports t.out
+
+  -- so many octets are heard on a port, and then the frame that they end (9.5.2)
+  pub record StationHearsFrame (counts : ℕ → ℕ → L → LinkStep A → L → Type 0)
+      (hears : ℕ → Mac → List ℕ → ℕ → L → LinkStep A → L → Type 0)
+      (downs : ℕ → Parcel A → L → LinkStep A → L → Type 0) (now port count : ℕ) (from : Mac) (octets : List ℕ)
+      (stamp : ℕ) (old : StationState A L) (t : StationTold A) (new : StationState A L) : Type 0 where
+    pub counted : List L
+    pub so_far : List (PortSent A)
+    pub told : CountsAt counts count now port old.ports [] counted so_far
+    pub heard : HearsOn hears downs now port from octets stamp counted old.entity so_far t new
 
   -- what an entity says goes down, and then the ports wake in order, so that it can go out in the same call
   pub record PortsWake (wakes : ℕ → L → LinkStep A → L → Type 0) (downs : ℕ → Parcel A → L → LinkStep A → L → Type 0)
@@ -146,22 +171,32 @@ abbrev pub UpIsRefused : {A : Type 0} → (places : List Station) → ℕ → Pa
 UpIsRefused places now p e fault =
     ((fault ≡ TableFull) × RefusesParcel p e) ⊎ ((fault ≡ TooLong) × AnswersTooLong places now p e)
 
--- .. of octets that are heard
+-- .. of octets that are heard on one of these ports
 pub record ParcelIsRefused {A L : Type 0} (hears : ℕ → Mac → List ℕ → ℕ → L → LinkStep A → L → Type 0)
-    (station : L → Station) (now port : ℕ) (from : Mac) (octets : List ℕ) (stamp : ℕ) (s : StationState A L)
+    (station : L → Station) (now port : ℕ) (from : Mac) (octets : List ℕ) (stamp : ℕ) (ports : List L) (e : Entity A)
     (fault : Fault) : Type 0 where
   pub up : Parcel A
-  pub ports : List L
+  pub left : List L
   pub out : List (PortSent A)
-  pub heard : HearsAt hears now port from octets stamp s.ports [] (Some up) ports out
-  pub refused : UpIsRefused (map station s.ports) now up s.entity fault
+  pub heard : HearsAt hears now port from octets stamp ports [] (Some up) left out
+  pub refused : UpIsRefused (map station ports) now up e fault
 
 -- why octets that are heard are refused: by the port, or what came up of them is
 abbrev pub HearingIsRefused : {A L : Type 0} → (ℕ → Mac → List ℕ → ℕ → L → LinkStep A → L → Type 0) →
-    (refuses : Fault → List ℕ → Type 0) → (station : L → Station) → (now port : ℕ) → Mac → List ℕ → (stamp : ℕ) →
+    (refuses : Fault → Mac → List ℕ → Type 0) → (station : L → Station) → (now port : ℕ) → Mac → List ℕ → (stamp : ℕ) →
     StationState A L → Fault → Type 0
 HearingIsRefused hears refuses station now port from octets stamp s fault =
-    refuses fault octets ⊎ ParcelIsRefused hears station now port from octets stamp s fault
+    refuses fault from octets ⊎ ParcelIsRefused hears station now port from octets stamp s.ports s.entity fault
+
+-- why a frame is refused that so many octets end: as what is heard is, at a port that was told of them (9.5.2)
+pub record FrameIsRefused {A L : Type 0} (counts : ℕ → ℕ → L → LinkStep A → L → Type 0)
+    (hears : ℕ → Mac → List ℕ → ℕ → L → LinkStep A → L → Type 0) (refuses : Fault → Mac → List ℕ → Type 0)
+    (station : L → Station) (now port count : ℕ) (from : Mac) (octets : List ℕ) (stamp : ℕ) (s : StationState A L)
+    (fault : Fault) : Type 0 where
+  pub counted : List L
+  pub so_far : List (PortSent A)
+  pub told : CountsAt counts count now port s.ports [] counted so_far
+  pub refused : HearingIsRefused hears refuses station now port from octets stamp (record s { ports = counted }) fault
 
 -- what a client says of an issue is too long for its port
 pub record IssuesTooLong {A : Type 0} (places : List Station) (now instance : ℕ) (request : Request A) (e : Entity A) :

@@ -7,15 +7,16 @@ ghost use Rattle.site_station.specs.Entity as spec;
 ghost use Rattle.site_station.specs.Entity.{told_awake};
 ghost use Rattle.link_ports.specs.Ports.{AreBefore, DownsAll, IsTooLong};
 ghost use Rattle.site_station.specs.Station as words;
-ghost use Rattle.site_station.specs.Station.{AskingIsRefused, HearingIsRefused, IsNotForeign, IssueIsRefused};
-ghost use Rattle.site_station.specs.Station.{IsPlanned, StationAsks, StationHears, StationIssues, StationRegisters};
-ghost use Rattle.site_station.specs.Station.{StationRestarts, StationWakes, left_by, told_by};
+ghost use Rattle.site_station.specs.Station.{AskingIsRefused, FrameIsRefused, HearingIsRefused, HearsOn, IsNotForeign};
+ghost use Rattle.site_station.specs.Station.{IsPlanned, IssueIsRefused, StationAsks, StationCounts, StationHears};
+ghost use Rattle.site_station.specs.Station.{StationHearsFrame, StationIssues, StationRegisters, StationRestarts};
+ghost use Rattle.site_station.specs.Station.{StationWakes, left_by, told_by};
 
 use crate::entity::{Entity, EntityPlan, EntityTold};
 use apdu::Limits;
 use link::Link;
 use link_ports::{
-    PortSent, copy_of, down_all, heard_at, is_any_due, register_at, restart_all, wake_all,
+    PortSent, copy_of, count_at, down_all, heard_at, is_any_due, register_at, restart_all, wake_all,
 };
 use npdu::{Mac, Parcel};
 use objects::Table;
@@ -115,8 +116,33 @@ impl<L: Link<A> + Drop, A: Allocator + Copy> SiteStation<L, A> {
         ensures cause { IfErr result (λ fault. (fault ≡ Fault.Memory) ⊎ HearingIsRefused L.hears L.refuses L.station now
             port from octets.now stamp self.now fault) }
     {
-        let mut ports = copy_of(self.alloc, self.ports.as_slice())?;
-        let mut out = Items::new(self.alloc);
+        let ports = copy_of(self.alloc, self.ports.as_slice())?;
+        let out = Items::new(self.alloc);
+        let plan = self.hear_on(ports, out, port, from, octets, stamp, now)?;
+        Ok(plan)
+    }
+
+    /// What it does where octets from an address are heard on one of these ports, behind what was put out so far.
+    fn hear_on(
+        &self,
+        ports: Vec<L, A>,
+        so_far: Items<PortSent<A>, A>,
+        port: usize,
+        from: Mac,
+        octets: &[u8],
+        stamp: u64,
+        now: u64,
+    ) -> Result<StationPlan<L, A>, Fault>
+        requires greatest { now ≤ MAX_MOMENT_MS }
+        requires order { AreBefore L.moment now ports.items }
+        ensures hears { IfOk result (λ plan. HearsOn L.hears L.downs now port from octets.now stamp ports.items
+            self.now.entity so_far (told_by plan) (left_by now plan self.now)) }
+        ensures planned { IfOk result (IsPlanned now self.now) }
+        ensures cause { IfErr result (λ fault. (fault ≡ Fault.Memory) ⊎ HearingIsRefused L.hears L.refuses L.station now
+            port from octets.now stamp (record { ports = ports.items; entity = self.now.entity }) fault) }
+    {
+        let mut ports = ports;
+        let mut out = so_far;
         let Some(parcel) = heard_at(&mut ports, port, from, octets, stamp, now, &mut out)? else {
             return Ok(StationPlan {
                 out,
@@ -131,6 +157,64 @@ impl<L: Link<A> + Drop, A: Allocator + Copy> SiteStation<L, A> {
             entity,
             ports: Some(ports),
         })
+    }
+
+    /// What it does where so many octets are heard on a port at the moment `now`, in milliseconds, and no frame ends
+    /// with them: `commit` does it (9.5.2).
+    ///
+    /// # Errors
+    /// `Memory` alone.
+    pub fn plan_octets(
+        &self,
+        port: usize,
+        count: usize,
+        now: u64,
+    ) -> Result<StationPlan<L, A>, Fault>
+        requires greatest { now ≤ MAX_MOMENT_MS }
+        requires order { AreBefore L.moment now self.now.ports }
+        ensures counts { IfOk result (λ plan. StationCounts L.counts now port count self.now
+            (told_by plan) (left_by now plan self.now)) }
+        ensures planned { IfOk result (IsPlanned now self.now) }
+        ensures cause { IfErr result (λ fault. fault ≡ Fault.Memory) }
+    {
+        let mut ports = copy_of(self.alloc, self.ports.as_slice())?;
+        let mut out = Items::new(self.alloc);
+        count_at(&mut ports, port, count, now, &mut out)?;
+        Ok(StationPlan {
+            out,
+            entity: EntityPlan::Says(Items::new(self.alloc)),
+            ports: Some(ports),
+        })
+    }
+
+    /// What it does where so many octets are heard on a port at the moment `now`, in milliseconds, and then the frame
+    /// that they end, from an address, said at the moment `stamp`: `commit` does it (9.5.2).
+    ///
+    /// # Errors
+    /// What the port refuses of octets; `TableFull` where a client has no place for one more binding; `TooLong` where
+    /// what is said is too long for the port; or `Memory`.
+    pub fn plan_frame(
+        &self,
+        port: usize,
+        count: usize,
+        from: Mac,
+        octets: &[u8],
+        stamp: u64,
+        now: u64,
+    ) -> Result<StationPlan<L, A>, Fault>
+        requires greatest { now ≤ MAX_MOMENT_MS }
+        requires order { AreBefore L.moment now self.now.ports }
+        ensures hears { IfOk result (λ plan. StationHearsFrame L.counts L.hears L.downs now port count from octets.now
+            stamp self.now (told_by plan) (left_by now plan self.now)) }
+        ensures planned { IfOk result (IsPlanned now self.now) }
+        ensures cause { IfErr result (λ fault. (fault ≡ Fault.Memory) ⊎ FrameIsRefused L.counts L.hears L.refuses
+            L.station now port count from octets.now stamp self.now fault) }
+    {
+        let mut ports = copy_of(self.alloc, self.ports.as_slice())?;
+        let mut out = Items::new(self.alloc);
+        count_at(&mut ports, port, count, now, &mut out)?;
+        let plan = self.hear_on(ports, out, port, from, octets, stamp, now)?;
+        Ok(plan)
     }
 
     /// Its ports once this is handed down, and what they put out of it.

@@ -1,8 +1,20 @@
-use Rattle.carry_stations.proofs.IpRouters.{router_stays_at_hearing, router_stays_at_wake}
+use Rattle.carry_stations.proofs.Routers.{router_stays_at_counting, router_stays_at_frame, router_stays_at_hearing, router_stays_at_wake}
 use Rattle.carry_stations.proofs.routers_stay.Goals as goal
 
 pub returns-clause-heard : goal.returns-clause-heard
-returns-clause-heard g c = router_stays_at_hearing _
+returns-clause-heard g c = router_stays_at_hearing g.L.Link.carries g.L.Link.station g.L.Link.moment g.L.Link.waiting g.L.Link.downs g.L.Link.hears g.L.Link.wakes
+    g.met.L.Link.carries_down g.met.L.Link.carries_up g.met.L.Link.carries_on
+
+pub returns-clause-framed : goal.returns-clause-framed
+returns-clause-framed g c = router_stays_at_frame g.L.Link.carries g.L.Link.station g.L.Link.moment g.L.Link.waiting g.L.Link.downs g.L.Link.hears g.L.Link.wakes
+    g.met.L.Link.carries_down g.met.L.Link.carries_up g.met.L.Link.carries_on g.L.Link.counts
+    g.met.L.Link.carries_counting
+
+pub returns-clause-told : goal.returns-clause-told
+returns-clause-told g c = router_stays_at_counting g.L.Link.carries g.L.Link.station g.L.Link.moment g.L.Link.waiting g.L.Link.downs g.L.Link.hears g.L.Link.wakes
+    g.met.L.Link.carries_down g.met.L.Link.carries_up g.met.L.Link.carries_on g.L.Link.counts
+    g.met.L.Link.carries_counting
 
 pub returns-clause-woken : goal.returns-clause-woken
-returns-clause-woken g c = router_stays_at_wake _
+returns-clause-woken g c = router_stays_at_wake g.L.Link.carries g.L.Link.station g.L.Link.moment g.L.Link.waiting g.L.Link.downs g.L.Link.hears g.L.Link.wakes
+    g.met.L.Link.carries_down g.met.L.Link.carries_up g.met.L.Link.carries_on g.L.Link.is_due

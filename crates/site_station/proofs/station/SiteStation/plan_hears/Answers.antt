@@ -1,32 +1,18 @@
-use Rattle.std.proofs.Common.{rules, Some, ap, subst}
+use Rattle.std.proofs.Common.{rules, refl, []}
 use Rattle.std.proofs.lemmas.Result.{err_from_is_err_and}
-use Rattle.site_station.proofs.Planning.{answer_is_stopped, heard_is_answered}
-use Rattle.site_station.specs.Entity.{EntityHears, left_by, told_by}
-use Rattle.site_station.specs.Station.{StationState}
-use Rattle.site_station.specs.declared.entity.Entity.{Entity}
+use Rattle.site_station.proofs.Planning.{heard_there, refused_there}
 use Rattle.site_station.proofs.station.SiteStation.plan_hears.Goals as goal
 
--- what is said of what is heard can't go down
-pub returns-in_err-down_all-clause-cause : goal.returns-in_err-down_all-clause-cause
-returns-in_err-down_all-clause-cause g c =
-    let p = err_from_is_err_and c.from_residual-in_err-down_all.result c.from_residual-in_err-down_all.ensures.1 in
-    let does = subst (λ (e : Entity _). EntityHears c.args.now c.in-Some.parcel e (told_by c.in_ok-entity.entity)
-    (left_by c.args.now c.in_ok-entity.entity e)) (ap (λ (s : StationState _ _). s.entity) c.self.view_is)
-    c.in_ok-entity.ensures.hears in
-    rw (p.1) (rw (p.2) (answer_is_stopped g.L.Link.hears g.L.Link.refuses g.L.Link.station c.args.now c.args.port c.args.from
-    c.args.octets.now c.args.stamp c.args.self.now c.in_ok-ports.ports.items _ _ c.in_ok-parcel.field-0 c.in-Some.parcel
-    (left_by c.args.now c.in_ok-entity.entity c.args.self.now.entity) (told_by c.in_ok-entity.entity) _ _
-    c.in_err-down_all.field-0.0 (search rules) (search rules) (search rules) (search rules) c.in_ok-parcel.ensures.heard
-    c.in_ok-parcel.ensures.places does c.in_err-down_all.ensures.cause))
+-- what its ports hear is refused
+pub returns-in_err-plan-clause-cause : goal.returns-in_err-plan-clause-cause
+returns-in_err-plan-clause-cause g c =
+    let p = err_from_is_err_and c.from_residual-in_err-plan.result c.from_residual-in_err-plan.ensures.1 in
+    rw (p.1) (rw (p.2) (refused_there g.L.Link.hears g.L.Link.downs g.L.Link.refuses g.L.Link.station c.args.now c.args.port
+    c.args.from c.args.octets.now c.args.stamp c.args.self.now c.in_ok-ports.ports.items [] (search rules) refl
+    c.in_err-plan.field-0.0 c.in_err-plan.ensures.cause))
 
--- what is heard is answered
+-- what its ports hear it hears
 pub returns-clause-hears : goal.returns-clause-hears
-returns-clause-hears g c =
-    let does = subst (λ (e : Entity _). EntityHears c.args.now c.in-Some.parcel e (told_by c.in_ok-entity.entity)
-    (left_by c.args.now c.in_ok-entity.entity e)) (ap (λ (s : StationState _ _). s.entity) c.self.view_is)
-    c.in_ok-entity.ensures.hears in
-    heard_is_answered g.L.Link.hears g.L.Link.downs c.args.now c.args.port c.args.from c.args.octets.now c.args.stamp
-    c.args.self.now c.in_ok-ports.ports.items _ c.down_all.new.ports.items _ c.down_all.new.out c.in_ok-parcel.field-0
-    c.in-Some.parcel (left_by c.args.now c.in_ok-entity.entity c.args.self.now.entity) (told_by c.in_ok-entity.entity)
-    c.said.result.now _ (search rules) (search rules) (search rules) (search rules) c.in_ok-parcel.ensures.heard does
-    c.in_ok-down_all.ensures.downs
+returns-clause-hears g c = heard_there g.L.Link.hears g.L.Link.downs g.L.Link.refuses g.L.Link.station c.args.now c.args.port
+    c.args.from c.args.octets.now c.args.stamp c.args.self.now c.in_ok-ports.ports.items _ (search rules) (search rules)
+    _ _ c.in_ok-plan.ensures.hears

@@ -1,0 +1,5 @@
+pub mod Port
+pub mod Things
+pub mod Steps
+pub mod Laws
+pub mod CarryLaws
