@@ -5,3 +5,4 @@ pub mod RememberLaws
 pub mod GivenLaws
 pub mod TellingLaws
 pub mod KeepingLaws
+pub mod KnownLaws

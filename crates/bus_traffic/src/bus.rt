@@ -214,8 +214,9 @@ impl<A: Allocator + Copy> Bus<A> {
     /// delivered there, the first such is delivered. It takes no memory.
     pub fn hear(&mut self, place: usize, octets: &[u8], deframer: Deframer, now: u64)
         requires { place < length self.old.ears.items }
-        ensures { (ear : Ear) → slice_get self.old.ears.items place ≡ Some ear →
+        ensures heard { (ear : Ear) → slice_get self.old.ears.items place ≡ Some ear →
             bus_of self.new ≡ heard_on now place octets.now deframer ear (bus_of self.old) }
+        ensures room { (n : ℕ) → HasRoom n self.old → HasRoom n self.new }
     {
         let ear = ear_of(&self.ears, place).after(octets, deframer, now);
         deliver(&mut self.recent, ear.address, octets, now);
@@ -226,8 +227,9 @@ impl<A: Allocator + Copy> Bus<A> {
     /// gone. It takes no memory.
     pub fn restart(&mut self, place: usize, now: u64)
         requires { place < length self.old.ears.items }
-        ensures { (ear : Ear) → slice_get self.old.ears.items place ≡ Some ear →
+        ensures restarted { (ear : Ear) → slice_get self.old.ears.items place ≡ Some ear →
             bus_of self.new ≡ restarted now place ear (bus_of self.old) }
+        ensures room { (n : ℕ) → HasRoom n self.old → HasRoom n self.new }
     {
         self.ears[place] = Ear::new(self.ears[place].address, now);
     }

@@ -11,12 +11,14 @@
 //! - `judging`: how a frame is judged.
 //! - `hearing`: the frames that octets end at an ear, each judged.
 //! - `bus`: a bus, its ears, and what is known of it; what is put out, and what is delivered.
+//! - `copying`: copies of a bus.
 //! - `finding`: which ear is meant.
 //! - `telling`: which frame an ear is told next.
 //! - `laws`: what holds of all that was ever put out, for the proofs of the layers above.
 #![tactic(auto)]
 
 mod bus;
+mod copying;
 mod ear;
 mod finding;
 mod hearing;

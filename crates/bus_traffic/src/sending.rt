@@ -78,4 +78,13 @@ impl<A: Allocator + Copy> Put<A> {
         };
         Ok(Put { sending, known })
     }
+
+    /// The same frame, in another place.
+    pub fn placed(self, place: Place) -> Self
+        ensures { result ≡ record self { place = place } }
+    {
+        let Put { sending, known } = self;
+        let sending = Sending { place, ..sending };
+        Put { sending, known }
+    }
 }

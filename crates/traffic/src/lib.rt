@@ -1,16 +1,19 @@
-//! What is on its way on the networks of a world (ANSI/ASHRAE 135, clauses 6.1 and J): datagrams, in the order in which
-//! they were put out.
+//! What is on its way on the networks of a world (ANSI/ASHRAE 135, clauses 6.1, 9 and J): datagrams, in the order in
+//! which they were put out, and frames that are put out on buses.
 //!
 //! To the layer above it promises: it tells which one is meant, refuses one that was never put out or is too old to be
 //! heard, and finds what is still to be delivered among those that are young, without a walk through all that was ever
 //! sent. No station is known here.
 //!
 //! - `item`: a datagram on its way.
+//! - `frame`: a frame that a station puts out.
 //! - `seeking`: which of them is meant, and which is to be delivered next.
 #![tactic(auto)]
 
+mod frame;
 mod item;
 mod seeking;
 
+pub use frame::FramePut;
 pub use item::Item;
 pub use seeking::{in_time, item_at, next_waiting};

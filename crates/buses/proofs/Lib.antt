@@ -1,0 +1,5 @@
+pub mod Places
+pub mod RestartLaws
+pub mod FindingLaws
+pub mod KnownLaws
+pub mod HeardLaws

@@ -1,0 +1,5 @@
+pub mod Puts
+pub mod Buses
+pub mod Finding
+pub mod Hearing
+pub mod Laws
