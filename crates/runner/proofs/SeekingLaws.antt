@@ -1,0 +1,73 @@
+-- The last item that a datagram is.
+use Rattle.std.proofs.Common.{◌≡◌, inl, inr, refl, ap, ℕ, zero, suc, ◌+◌, ◌<◌, true, false, List, [], ◌∷◌, ◌++◌, length, get_or, drop, take, arith}
+use Rattle.traffic.specs.declared.item.Item.{Item}
+use Rattle.runner.specs.Seeking.{AreOthers, EndsLate, IsLastMatch, IsMatch, IsStray, is_recent}
+use Rattle.wire.specs.Datagrams.{Datagram}
+
+module _ {A : Type 0} (now : ℕ) (d : Datagram) where
+  -- one that matches, behind which all are others
+  pub last_found : (items : List (Item A)) (number : ℕ) (e : Item A) → number < length items →
+      is_recent now (get_or items number e) ≡ true → IsMatch now d (get_or items number e) →
+      AreOthers now d (drop (suc number) items) → IsLastMatch now d items number
+  last_found [] number e below recent same others = absurd (omega (arith, below))
+  last_found (i ∷ is) zero e below recent same others = record {
+    before = [];
+    item = i;
+    later = is;
+    parts = refl;
+    count = refl;
+    recent = recent;
+    same = same;
+    others = others;
+  }
+  last_found (i ∷ is) (suc n) e below recent same others =
+      let r = last_found is n e (omega (arith, below)) recent same others in record {
+        before = i ∷ r.before;
+        item = r.item;
+        later = r.later;
+        parts = ap (λ (l : List (Item A)). i ∷ l) r.parts;
+        count = ap suc r.count;
+        recent = r.recent;
+        same = r.same;
+        others = r.others;
+      }
+
+  -- one that doesn't match is another besides
+  pub passed : (items : List (Item A)) (number : ℕ) (e : Item A) → number < length items →
+      is_recent now (get_or items number e) ≡ true → (IsMatch now d (get_or items number e) → ⊥) →
+      AreOthers now d (drop (suc number) items) → AreOthers now d (drop number items)
+  passed [] number e below recent other others = absurd (omega (arith, below))
+  passed (i ∷ is) zero e below recent other others = (record { recent = recent; other = other }, others)
+  passed (i ∷ is) (suc n) e below recent other others = passed is n e (omega (arith, below)) recent other others
+
+  -- the first so many items end with the last of them
+  pub ends_late : (items : List (Item A)) (number : ℕ) (e : Item A) → number < length items →
+      is_recent now (get_or items number e) ≡ false → EndsLate now (take (suc number) items)
+  ends_late [] number e below late = absurd (omega (arith, below))
+  ends_late (i ∷ is) zero e below late = record { before = []; item = i; parts = refl; late = late }
+  ends_late (i ∷ is) (suc n) e below late =
+      let r = ends_late is n e (omega (arith, below)) late in record {
+        before = i ∷ r.before;
+        item = r.item;
+        parts = ap (λ (l : List (Item A)). i ∷ l) r.parts;
+        late = r.late;
+      }
+
+  halves : (items : List (Item A)) (number : ℕ) → items ≡ take number items ++ drop number items
+  halves [] zero = refl
+  halves [] (suc n) = refl
+  halves (i ∷ is) zero = refl
+  halves (i ∷ is) (suc n) = ap (λ (l : List (Item A)). i ∷ l) (halves is n)
+
+  pub none_before : (items : List (Item A)) → AreOthers now d (drop 0 items) → IsStray now d items
+  none_before items others = record { older = []; recent = items; parts = refl; others = others; rest = inl refl }
+
+  pub late_before : (items : List (Item A)) (number : ℕ) (e : Item A) → number < length items →
+      is_recent now (get_or items number e) ≡ false → AreOthers now d (drop (suc number) items) → IsStray now d items
+  late_before items number e below late others = record {
+    older = take (suc number) items;
+    recent = drop (suc number) items;
+    parts = halves items (suc number);
+    others = others;
+    rest = inr (ends_late items number e below late);
+  }

@@ -1,0 +1,15 @@
+-- A runner as it is kept.
+use Rattle.std.specs.Prelude.{◌-◌, ℕ, Bool, length}
+use Rattle.internetwork.specs.World.{WorldState}
+
+-- world: what it runs. is_open: datagrams that nobody of the site sent are heard. strayed: the latest turn had one that
+-- was. is_led: no turn had one so far
+pub record RunnerState (A : Type 0) : Type 0 where
+  pub world : WorldState A
+  pub is_open : Bool
+  pub strayed : Bool
+  pub is_led : Bool
+
+-- how many datagrams were put out between two states of a world
+abbrev pub put_out : {A : Type 0} → (old new : WorldState A) → ℕ
+put_out old new = length new.items - length old.items

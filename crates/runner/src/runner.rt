@@ -1,0 +1,247 @@
+//! What a runner keeps, and its turn.
+
+use crate::seeking::last_match;
+use crate::sending::{behind, send_all};
+use crate::straying::take_stray;
+use crate::turned::Turned;
+use chronicle::WorldEntry;
+use internetwork::{Event, Internetwork};
+use simulator::World;
+use std::alloc::Allocator;
+use std::marker::Model;
+use tags::Fault;
+use traffic::Item;
+use wire::{Got, Wire};
+
+/// A site at a wire. It came about from the site's opening by events alone, as long as no datagram was heard that
+/// nobody of the site sent.
+#[derive(Drop)]
+pub struct Runner<A: Allocator + Copy> {
+    world: Internetwork<A>,
+    is_open: bool,
+    strayed: bool,
+    is_led: bool,
+}
+
+impl<A: Allocator + Copy> Model for Runner<A> {
+    ghost use Rattle.std.specs.Prelude.{◌≡◌, true};
+    ghost use Rattle.runner.specs.Runner.{RunnerState};
+    ghost use Rattle.simulator.specs.Laws.{IsLed};
+
+    ghost Value = { RunnerState A };
+
+    ghost view = { λ r. record { world = r.world; is_open = r.is_open; strayed = r.strayed; is_led = r.is_led } };
+
+    ghost invariant = { λ r. r.is_led ≡ true → IsLed r.world };
+}
+
+impl<A: Allocator + Copy> Runner<A> {
+    ghost use Rattle.std.specs.Prelude.{◌≡◌, ◌≢◌, true, false, Some, None, IfErr, IfNone, IfOk, IfSome, OnErr, OnOk};
+    ghost use Rattle.carry_world.specs.Laws.{IsLegal};
+    ghost use Rattle.hosts.specs.Opening.{object_site};
+    ghost use Rattle.hosts.specs.Stations.{devices_of};
+    ghost use Rattle.internetwork.specs.Refusals.{IsRefused};
+    ghost use Rattle.internetwork.specs.Step.{IsSoundEvent, IsSoundIfAny};
+    ghost use Rattle.runner.specs.Runner.{put_out};
+    ghost use Rattle.runner.specs.Seeking.{IsLastMatch, IsStray};
+    ghost use Rattle.runner.specs.Strays.{IsRefusedStray, TakesStray};
+    ghost use Rattle.runner.specs.Turns.{HasMade, HasTurned, IsTurn, IsUndone, Refuses, received};
+    ghost use Rattle.simulator.specs.Laws.{IsLed};
+    ghost use Rattle.wire.specs.Counts.{IsRisen, raised};
+    ghost use Rattle.wire.specs.Datagrams.{datagram_of};
+
+    /// A world at a wire. An open runner lets a station hear what comes to its address and nobody of the site sent.
+    pub fn new(world: World<A>, is_open: bool) -> Self
+        ensures { result ≡ record { world = world; is_open = is_open; strayed = false; is_led = true } }
+    {
+        Runner {
+            world: world.into_internetwork(),
+            is_open,
+            strayed: false,
+            is_led: true,
+        }
+    }
+
+    /// The site's stations, what is on its way between them, and what happened: what events led to, as long as no stray
+    /// was heard.
+    pub fn world(&self) -> &Internetwork<A>
+        ensures world { result.now ≡ self.now.world }
+        ensures led { self.now.is_led ≡ true → IsLed result.now }
+    {
+        &self.world
+    }
+
+    /// What was issued, executed, answered and ended, in order. It is legal, as long as no stray was heard.
+    pub fn history(&self) -> &[WorldEntry<A>]
+        ensures history { result.now ≡ self.now.world.history }
+        ensures legal { self.now.is_led ≡ true →
+            IsLegal (object_site self.now.world.site) result.now (devices_of self.now.world.stations) }
+    {
+        self.world.history()
+    }
+
+    /// Whether the latest turn had a stray that was heard, also where a sending failed then.
+    pub fn strayed(&self) -> bool
+        ensures { result ≡ self.now.strayed }
+    {
+        self.strayed
+    }
+
+    /// Whether no stray was heard so far.
+    pub fn is_led(&self) -> bool
+        ensures { result ≡ self.now.is_led }
+    {
+        self.is_led
+    }
+
+    fn items(&self) -> &[Item<A>]
+        ensures { result.now ≡ self.now.world.items }
+    {
+        self.world.items()
+    }
+
+    /// One turn: the given event happens; or, where none is given, at most one datagram is received. One that is an
+    /// item is delivered; any other is dropped, or, in an open runner, heard by its station. Each datagram that is put
+    /// out then is sent, all of them also where one fails.
+    ///
+    /// # Errors
+    /// `Wire` where nothing could be received, and nothing has changed then; or where a sending failed, which is a
+    /// loss. What the world refuses; or `Memory`. Nothing has changed then.
+    #[tactic(auto, using(crate::proofs::TurnLaws::turn_rules))]
+    pub fn turn<W: Wire>(&mut self, wire: &mut W, next: Option<Event<A>>) -> Result<Turned, Fault>
+        requires sound { IsSoundIfAny next }
+        ensures turns { IsTurn next (W.latest wire.new) self.old self.new result }
+        ensures sends { W.sends wire.new ≡ raised (W.sends wire.old) (put_out self.old.world self.new.world) }
+        ensures recvs { W.recvs wire.new ≡ received next (W.recvs wire.old) }
+        ensures sound { OnOk result (W.faults wire.new ≡ W.faults wire.old) }
+        ensures failed { IfErr result (λ fault. fault ≡ Fault.Wire → IsRisen (W.faults wire.old) (W.faults wire.new)) }
+    {
+        // Counts are read where their range is to be known.
+        let _counts = (wire.sends(), wire.faults());
+        self.strayed = false;
+        let sent = self.items().len();
+        let turned = self.act(wire, next)?;
+        send_all(wire, behind(self.items(), sent))?;
+        Ok(turned)
+    }
+
+    /// What a turn does before it sends.
+    fn act<W: Wire>(&mut self, wire: &mut W, next: Option<Event<A>>) -> Result<Turned, Fault>
+        requires sound { IsSoundIfAny next }
+        requires strayed { self.old.strayed ≡ false }
+        ensures turned { IfOk result (HasTurned next (W.latest wire.new) self.old self.new) }
+        ensures undone { IfErr result (IsUndone next (W.latest wire.new) self.old) }
+        ensures unchanged { OnErr result (self.new ≡ self.old) }
+        ensures sends { W.sends wire.new ≡ W.sends wire.old }
+        ensures recvs { W.recvs wire.new ≡ received next (W.recvs wire.old) }
+        ensures sound { OnOk result (W.faults wire.new ≡ W.faults wire.old) }
+        ensures failed { IfErr result (λ fault. fault ≡ Fault.Wire → IsRisen (W.faults wire.old) (W.faults wire.new)) }
+    {
+        match next {
+            Some(event) => {
+                self.make(&event)?;
+                Ok(Turned::Stepped)
+            }
+            None => self.receive(wire),
+        }
+    }
+
+    /// At most one datagram is received, and answered.
+    fn receive<W: Wire>(&mut self, wire: &mut W) -> Result<Turned, Fault>
+        requires strayed { self.old.strayed ≡ false }
+        ensures turned { IfOk result (HasTurned None (W.latest wire.new) self.old self.new) }
+        ensures undone { IfErr result (IsUndone None (W.latest wire.new) self.old) }
+        ensures unchanged { OnErr result (self.new ≡ self.old) }
+        ensures sends { W.sends wire.new ≡ W.sends wire.old }
+        ensures recvs { W.recvs wire.new ≡ raised (W.recvs wire.old) 1 }
+        ensures sound { OnOk result (W.faults wire.new ≡ W.faults wire.old) }
+        ensures failed { IfErr result (λ fault. fault ≡ Fault.Wire → IsRisen (W.faults wire.old) (W.faults wire.new)) }
+    {
+        // A count is read where its range is to be known.
+        let _faults = wire.faults();
+        wire.recv()?;
+        let turned = self.answer(wire)?;
+        Ok(turned)
+    }
+
+    /// An event happens, or is refused.
+    #[tactic(auto, using(crate::proofs::LedRules::make_rules))]
+    fn make(&mut self, event: &Event<A>) -> Result<(), Fault>
+        requires sound { IsSoundEvent event.now }
+        requires strayed { self.old.strayed ≡ false }
+        ensures made { OnOk result (HasMade event.now self.old self.new) }
+        ensures refused { IfErr result (λ fault. IsRefused event.now self.old.world fault) }
+        ensures own { IfErr result (λ fault. fault ≢ Fault.Wire) }
+        ensures unchanged { OnErr result (self.new ≡ self.old) }
+    {
+        self.world.step(event)
+    }
+
+    /// What the wire brought is answered, if anything came.
+    fn answer<W: Wire>(&mut self, wire: &W) -> Result<Turned, Fault>
+        requires strayed { self.old.strayed ≡ false }
+        ensures turned { IfOk result (HasTurned None (W.latest wire.now) self.old self.new) }
+        ensures refused { IfErr result (Refuses None (W.latest wire.now) self.old) }
+        ensures own { IfErr result (λ fault. fault ≢ Fault.Wire) }
+        ensures unchanged { OnErr result (self.new ≡ self.old) }
+    {
+        match wire.last() {
+            Some(got) => self.hear(&got),
+            None => Ok(Turned::Nothing),
+        }
+    }
+
+    /// The number of the item that a datagram is.
+    fn sought(&self, got: &Got<'_>) -> Option<usize>
+        ensures is { IfSome result
+            (IsLastMatch self.now.world.moment (datagram_of got.now) self.now.world.items) }
+        ensures stray { IfNone result (IsStray self.now.world.moment (datagram_of got.now) self.now.world.items) }
+    {
+        last_match(self.world.items(), got, self.world.moment())
+    }
+
+    /// A datagram came.
+    fn hear(&mut self, got: &Got<'_>) -> Result<Turned, Fault>
+        requires strayed { self.old.strayed ≡ false }
+        ensures turned { IfOk result (HasTurned None (Some (datagram_of got.now)) self.old self.new) }
+        ensures refused { IfErr result (Refuses None (Some (datagram_of got.now)) self.old) }
+        ensures own { IfErr result (λ fault. fault ≢ Fault.Wire) }
+        ensures unchanged { OnErr result (self.new ≡ self.old) }
+    {
+        if !got.is_whole() {
+            return Ok(Turned::Dropped);
+        }
+        if let Some(number) = self.sought(got) {
+            let event = Event::Deliver(number as u64);
+            self.make(&event)?;
+            return Ok(Turned::Stepped);
+        }
+        if !self.is_open() {
+            return Ok(Turned::Dropped);
+        }
+        self.take(got)?;
+        Ok(Turned::Stray)
+    }
+
+    fn is_open(&self) -> bool
+        ensures { result ≡ self.now.is_open }
+    {
+        self.is_open
+    }
+
+    /// A datagram that nobody of the site sent is heard by its station.
+    #[tactic(auto, using(crate::proofs::NotWire::own_rules))]
+    fn take(&mut self, got: &Got<'_>) -> Result<(), Fault>
+        ensures takes { OnOk result (TakesStray (datagram_of got.now) self.old.world self.new.world) }
+        ensures strayed { OnOk result
+            (self.new ≡ record self.old { world = self.new.world; strayed = true; is_led = false }) }
+        ensures refused { IfErr result (λ fault. IsRefusedStray (datagram_of got.now) self.old.world fault) }
+        ensures own { IfErr result (λ fault. fault ≢ Fault.Wire) }
+        ensures unchanged { OnErr result (self.new ≡ self.old) }
+    {
+        take_stray(&mut self.world, got)?;
+        self.strayed = true;
+        self.is_led = false;
+        Ok(())
+    }
+}
