@@ -4,11 +4,11 @@ use Rattle.bus_traffic.specs.Bus.{BusState}
 use Rattle.bus_traffic.specs.Finding.{is_of, place_of}
 use Rattle.bus_traffic.specs.declared.ear.Ear.{Ear}
 
--- a bus has this number
+-- a bus has this number (6.1)
 abbrev pub has_net : {A : Type 0} → (net : ℕ) → BusState A → Bool
 has_net net b = b.net == net
 
--- these are the bus of a number and the ear of the station at an address there, at these places
+-- these are the bus of a number and the ear of the station at an address there, at these places (9.5.2)
 pub record IsEarOf {A : Type 0} (net address : ℕ) (buses : List (BusState A)) (bus_place : ℕ) (b : BusState A)
     (ear_place : ℕ) (e : Ear) : Type 0 where
   pub numbered : place_of (has_net net) buses ≡ Some bus_place

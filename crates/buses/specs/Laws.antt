@@ -6,7 +6,7 @@ use Rattle.bus_traffic.specs.Bus.{BusState}
 use Rattle.buses.specs.Puts.{BusesState, put_on}
 use Rattle.traffic.specs.declared.frame.FramePut.{FramePut}
 
--- what is known of a bus: each frame as a thing of its network, its octets and its stamp
+-- what is known of a bus: each frame as a thing of its network, its octets and its stamp (9.3)
 abbrev pub known_as : {A X : Type 0} → (ℕ → List ℕ → ℕ → X) → BusState A → List X
 known_as f b = map (λ k. f b.net k.octets k.stamp) b.known
 
@@ -30,7 +30,8 @@ pub record KnownFrame : Type 0 where
 abbrev pub as_known : (net : ℕ) → (octets : List ℕ) → (stamp : ℕ) → KnownFrame
 as_known net octets stamp = record { net = net; octets = octets; stamp = stamp }
 
--- what is known once frames were put out was known before, or is one of them
+-- what is known once frames were put out was known before, or is one of them (9.3)
 abbrev pub PutsAreKnown : Type 0 → Type 0
-PutsAreKnown A = (now items : ℕ) (fs : List (FramePut A)) (b : BusesState A) (x : KnownFrame)
-    → Has (all_known as_known (put_on now items fs b).buses) x → Has (all_known as_known b.buses) x ⊎ IsPutAs as_known fs x
+PutsAreKnown A = (now items : ℕ) (fs : List (FramePut A)) (b : BusesState A) (x : KnownFrame) →
+    Has (all_known as_known (put_on now items fs b).buses) x →
+    Has (all_known as_known b.buses) x ⊎ IsPutAs as_known fs x

@@ -4,7 +4,7 @@ use Rattle.bus_traffic.specs.Bus.{BusState, put_out}
 use Rattle.bus_traffic.specs.declared.sending.Sending.{Sending}
 use Rattle.traffic.specs.declared.frame.FramePut.{FramePut}
 
--- What goes over the buses of a site. buses: in the order of the site. frames: how many frames were put out on all of
+-- What goes over the buses of a site (9). buses: in the order of the site. frames: how many frames were put out on all of
 -- them.
 pub record BusesState (A : Type 0) : Type 0 where
   pub buses : List (BusState A)
@@ -19,7 +19,7 @@ pub record PutsState (A : Type 0) : Type 0 where
 abbrev pub counted : (count more : ℕ) → ℕ
 counted count more = min (count + more) (2 ^ 64 - 1)
 
--- a frame that is put out behind so many datagrams of earlier steps and so many frames, as a sending
+-- a frame that is put out behind so many datagrams of earlier steps and so many frames, as a sending (9.3)
 abbrev pub sending_of : {A : Type 0} → (items frames : ℕ) → FramePut A → Sending A
 sending_of items frames f = record {
   sender = f.sender;
@@ -28,7 +28,7 @@ sending_of items frames f = record {
   place = record { items = counted items f.behind; frames = frames };
 }
 
--- it is put out on the first bus of a number at a moment, if there is one
+-- it is put out on the first bus of a number at a moment, if there is one (6.1, 9.3)
 abbrev pub put_at : {A : Type 0} → (now net : ℕ) → Sending A → List (BusState A) → List (BusState A)
 put_at now net s [] = []
 put_at now net s (b ∷ bs) = if b.net == net then put_out now s b ∷ bs else b ∷ put_at now net s bs

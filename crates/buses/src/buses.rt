@@ -101,7 +101,8 @@ fn copies_of<A: Allocator + Copy>(alloc: A, buses: &[Bus<A>]) -> Result<Vec<Bus<
 }
 
 impl<A: Allocator + Copy> Buses<A> {
-    ghost use Rattle.std.specs.Prelude.{◌≡◌, ◌+◌, ◌⊎◌, ℕ, Some, IfOk, IfErr, IfSome, IfNone, OnOk, length, map, slice_get};
+    ghost use Rattle.std.specs.Prelude.{◌≡◌, ◌+◌, ◌⊎◌, ℕ, Some, IfOk, IfErr, IfSome, IfNone, OnOk};
+    ghost use Rattle.std.specs.Prelude.{length, map, slice_get};
     ghost use Rattle.bus_traffic.specs.Bus.{BusState, bus_of};
     ghost use Rattle.bus_traffic.specs.Telling.{IsNext, NoneWaits};
     ghost use Rattle.bus_traffic.specs.declared.ear.Ear.{Ear};

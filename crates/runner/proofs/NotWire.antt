@@ -132,7 +132,7 @@ event_not_wire e w fault why is = refusing e w (subst (λ (f : Fault). IsRefused
 -- .. nor of a stray
 stray_refusing : {A : Type 0} (d : Datagram) (w : WorldState A) → IsRefusedStray d w Wire → ⊥
 stray_refusing d w (inl why) = subst IsWire (why.0) tt
-stray_refusing d w (inr why) = straying _ w why.refused
+stray_refusing d w (inr why) = straying _ w why.at.refused
 
 pub stray_not_wire : {A : Type 0} (d : Datagram) (w : WorldState A) (fault : Fault) → IsRefusedStray d w fault →
     fault ≢ Wire

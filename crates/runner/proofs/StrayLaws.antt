@@ -1,5 +1,5 @@
 -- Which of a site's networks a stray isn't for, one after another.
-use Rattle.std.proofs.Common.{◌≡◌, inl, inr, refl, sym, subst, ℕ, zero, suc, ◌+◌, List, [], ◌∷◌, length, take, Some, Result, Ok, Err, IfErr, OnOk, arith}
+use Rattle.std.proofs.Common.{◌≡◌, ◌≢◌, inl, inr, refl, sym, subst, ℕ, zero, suc, ◌+◌, List, [], ◌∷◌, length, take, Some, Result, Ok, Err, IfErr, OnOk, arith}
 use Rattle.std.proofs.lemmas.Option.{none-some, same_Some}
 use Rattle.std.specs.List.{AllByRecursion}
 use Rattle.std.specs.Prelude.{slice_get}
@@ -68,7 +68,7 @@ module _ {A : Type 0} (d : Datagram) (w : WorldState A) where
   )
 
   -- the station that it is for refuses it
-  pub refused_on : (place : ℕ) (fault : Fault) → RefusesAt d w place fault → IsRefusedStray d w fault
-  refused_on place fault at = inr (record { net = at.network.number; refused = at.refused })
+  pub refused_on : (place : ℕ) (fault : Fault) → RefusesAt d w place fault → (fault ≢ NoSuch) → IsRefusedStray d w fault
+  refused_on place fault at other = inr (record { place = place; at = at; other = other })
 
 pub ruleset stray_rules = (without_more, none_yet, for_nobody, refused_on)

@@ -43,7 +43,8 @@ pub record EndsLate {A : Type 0} (now : ℕ) (items : List (Item A)) : Type 0 wh
   pub parts : items ≡ before ++ item ∷ []
   pub late : is_recent now item ≡ false
 
--- nobody of the site sent a datagram: each recent item is another
+-- nobody of the site sent a datagram: each item is another, of those behind the last that isn't recent (they stand in the
+-- order in which they were put out)
 pub record IsStray {A : Type 0} (now : ℕ) (d : Datagram) (items : List (Item A)) : Type 0 where
   pub older : List (Item A)
   pub recent : List (Item A)

@@ -1,5 +1,5 @@
 -- A datagram that nobody of the site sent, at an address of one of the site's networks.
-use Rattle.std.specs.Prelude.{◌≡◌, ◌⊎◌, ℕ, List, Some, slice_get}
+use Rattle.std.specs.Prelude.{◌≡◌, ◌≢◌, ◌⊎◌, ℕ, List, Some, slice_get}
 use Rattle.std.specs.List.{AllByRecursion}
 use Rattle.internetwork.specs.Straying.{StrayIsRefused, Strays, stray_item}
 use Rattle.internetwork.specs.World.{WorldState}
@@ -32,10 +32,11 @@ pub record RefusesAt {A : Type 0} (d : Datagram) (w : WorldState A) (place : ℕ
   pub there : slice_get w.site.networks place ≡ Some network
   pub refused : StrayIsRefused (stray_on network.number d w.moment) w fault
 
--- the station at its address refuses it
+-- the station at its address on a network of the site refuses it: not since nobody is there
 pub record RefusesStray {A : Type 0} (d : Datagram) (w : WorldState A) (fault : Fault) : Type 0 where
-  pub net : ℕ
-  pub refused : StrayIsRefused (stray_on net d w.moment) w fault
+  pub place : ℕ
+  pub at : RefusesAt d w place fault
+  pub other : fault ≢ NoSuch
 
 -- why it is refused: no station has its address, or the one that has it refuses it
 abbrev pub IsRefusedStray : {A : Type 0} → Datagram → WorldState A → Fault → Type 0
