@@ -17,6 +17,7 @@ fn main(rt: HostRuntime) -> ExitCode {
     let mut err = rt.stderr();
     match words_of(&rt) {
         Ok(words) => ExitCode::from(command_line::run(
+            Some(&rt),
             alloc,
             words.as_slice(),
             &Host(&rt),

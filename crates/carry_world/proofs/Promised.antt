@@ -3,16 +3,16 @@ use Rattle.std.proofs.Common.{◌≡◌, ◌∙◌, refl, sym, ap, subst, ℕ, L
 use Rattle.carry.specs.Things.{AreCarried, Thing}
 use Rattle.client.specs.Client.{ClientState}
 use Rattle.client_tsm.specs.declared.plan.TransactionOutcome.{TransactionOutcome}
-use Rattle.headline.specs.Happenings.{Fails, Gives, Outcome}
-use Rattle.headline.specs.Promised.{IsExecutedReply}
-use Rattle.headline.specs.Protocol.{IsSite}
-use Rattle.headline_bacnet.specs.Protocol.{bacnet}
-use Rattle.headline_bacnet.specs.Refined.{ObjectSite}
-use Rattle.headline_bacnet.specs.Stations.{longest_of}
-use Rattle.headline_client.proofs.Places.{all_at, all_weaken}
-use Rattle.headline_client.specs.Safe as client_side
-use Rattle.headline_client.specs.Told.{outcome_of}
-use Rattle.headline_device.specs.Devices.{IsDevice, station_of}
+use Rattle.headline_site.specs.headline.Happenings.{Fails, Gives, Outcome}
+use Rattle.headline_site.specs.headline.Promised.{IsExecutedReply}
+use Rattle.headline_site.specs.headline.Protocol.{IsSite}
+use Rattle.headline_site.specs.headline_bacnet.Protocol.{bacnet}
+use Rattle.headline_site.specs.headline_bacnet.Refined.{ObjectSite}
+use Rattle.headline_site.specs.headline_bacnet.Stations.{longest_of}
+use Rattle.headline_site.proofs.headline_client.Places.{all_at, all_weaken}
+use Rattle.headline_site.specs.headline_client.Safe as client_side
+use Rattle.headline_site.specs.headline_client.Told.{outcome_of}
+use Rattle.headline_site.specs.headline_device.Devices.{IsDevice, station_of}
 use Rattle.headline_site.proofs.Hearings.{hearing_executes_issued, hearing_is_whole_issue, hearing_tells_of_issues}
 use Rattle.headline_site.proofs.Reached as headline_at
 use Rattle.headline_site.proofs.Reached.{after_issue_at, answered_at, closed_at, numbered_at, reached_by, tables_left_at}

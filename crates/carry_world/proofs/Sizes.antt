@@ -6,12 +6,12 @@ use Rattle.bindings.specs.Binding.{binding_of}
 use Rattle.bindings.specs.declared.binding.Binding.{Binding}
 use Rattle.client.specs.Client.{ClientState}
 use Rattle.device.specs.Device.{DeviceState, restarts}
-use Rattle.headline_bacnet.specs.Refined.{ObjectSite}
-use Rattle.headline_bacnet.specs.Stations.{longest_of}
-use Rattle.headline_client.proofs.Places.{all_at}
-use Rattle.headline_device.specs.Devices.{IsItself, station_of}
-use Rattle.headline_device.specs.Devices.{HasNumbers}
-use Rattle.headline_server.proofs.Waking.{size_stays}
+use Rattle.headline_site.specs.headline_bacnet.Refined.{ObjectSite}
+use Rattle.headline_site.specs.headline_bacnet.Stations.{longest_of}
+use Rattle.headline_site.proofs.headline_client.Places.{all_at}
+use Rattle.headline_site.specs.headline_device.Devices.{IsItself, station_of}
+use Rattle.headline_site.specs.headline_device.Devices.{HasNumbers}
+use Rattle.headline_site.proofs.headline_server.Waking.{size_stays}
 use Rattle.headline_site.specs.AllStations.{Announces, Asks_who, Client_hears, Client_learns, Client_marks, Client_wakes, Device_hears, Device_wakes, Event}
 use Rattle.headline_site.specs.AllStations.{Issues, Passes, Restarts, AllStations, asked_plan, client_issues, deed_by, device_does, step}
 use Rattle.headline_site.specs.Fair.{IsNewDevice}

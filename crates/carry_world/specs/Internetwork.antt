@@ -1,5 +1,5 @@
 -- An internetwork: all stations of a site, what lies on its networks and waits at them, and what was said.
-use Rattle.headline_bacnet.specs.Stations.{longest_of}
+use Rattle.headline_site.specs.headline_bacnet.Stations.{longest_of}
 use Rattle.std.specs.Prelude.{◌≡◌, ◌⊎◌, ◌≤◌, ◌+◌, ℕ, List, [], ◌++◌}
 use Rattle.std.specs.List.{AllByRecursion}
 use Rattle.carry.specs.Passing.{PutsOut}
@@ -11,9 +11,9 @@ use Rattle.inside.specs.Inside.{AreInside, Reaches, Said}
 use Rattle.npdu.specs.declared.mac.Mac.{Mac}
 use Rattle.npdu.specs.declared.mac.Station.{Station}
 use Rattle.npdu.specs.declared.parcel.Parcel.{Parcel}
-use Rattle.headline_bacnet.specs.Refined.{ObjectSite}
-use Rattle.headline_device.specs.Devices.{station_of}
-use Rattle.headline_device.specs.Devices.{HasNumbers}
+use Rattle.headline_site.specs.headline_bacnet.Refined.{ObjectSite}
+use Rattle.headline_site.specs.headline_device.Devices.{station_of}
+use Rattle.headline_site.specs.headline_device.Devices.{HasNumbers}
 use Rattle.headline_site.specs.Fair as stations
 use Rattle.headline_site.specs.AllStations.{AllStations, now}
 

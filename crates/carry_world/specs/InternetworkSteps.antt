@@ -1,5 +1,5 @@
 -- What can happen in an internetwork: one station makes a step, or something is passed on.
-use Rattle.headline_bacnet.specs.Stations.{longest_of}
+use Rattle.headline_site.specs.headline_bacnet.Stations.{longest_of}
 use Rattle.std.specs.Prelude.{◌≡◌, ◌⊎◌, ℕ, List, [], ◌∷◌, Option, Some, None, slice_get}
 use Rattle.apdu.specs.declared.unconfirmed.Limits.{Limits}
 use Rattle.carry.specs.Passing.{PassesOn}
@@ -19,15 +19,15 @@ use Rattle.device.specs.declared.plan.DeviceTold as device
 use Rattle.history.specs.Lists.{Has}
 use Rattle.npdu.specs.declared.mac.Station.{Station}
 use Rattle.npdu.specs.declared.parcel.Parcel.{Parcel}
-use Rattle.headline_bacnet.specs.Refined.{ObjectSite}
+use Rattle.headline_site.specs.headline_bacnet.Refined.{ObjectSite}
 use Rattle.primitives.specs.declared.plain_data.Request.{Request}
 use Rattle.server_tsm.specs.Waking as server_waking
 use Rattle.headline_site.specs.Fair.{IsFair}
 use Rattle.headline_site.specs.AllStations.{Announces, Asks_who, Client_hears, Client_learns, Client_marks, Client_wakes, Device_hears, Device_wakes, Event, Issues, Passes, Restarts, AllStations, deed_by, device_does, now, step, with_client}
-use Rattle.headline_client.specs.Heard.{said_in}
-use Rattle.headline_client.specs.Safe.{safe_client, station_of}
-use Rattle.headline_client.specs.Told.{acts}
-use Rattle.headline_device.specs.Devices.{Deed, announces, deed_in, told_of_deed}
+use Rattle.headline_site.specs.headline_client.Heard.{said_in}
+use Rattle.headline_site.specs.headline_client.Safe.{safe_client, station_of}
+use Rattle.headline_site.specs.headline_client.Told.{acts}
+use Rattle.headline_site.specs.headline_device.Devices.{Deed, announces, deed_in, told_of_deed}
 use Rattle.carry_world.specs.Internetwork.{Adds, Internetwork, IsDelivered}
 
 -- a device hears a parcel that reaches it within LIFE_MS, and does what its contract says (5.4.5, 16.10.2)

@@ -10,14 +10,14 @@ use Rattle.client_tsm.specs.declared.plan.TransactionOutcome.{TransactionOutcome
 use Rattle.device.specs.Device.{DeviceState}
 use Rattle.device.specs.Hearing.{DeviceHears}
 use Rattle.device.specs.declared.plan.DeviceTold.{DeviceTold}
-use Rattle.headline.specs.Happenings.{Fails, Gives, Outcome}
-use Rattle.headline.specs.Protocol.{IsSite}
-use Rattle.headline_bacnet.specs.Protocol.{bacnet}
-use Rattle.headline_bacnet.specs.Refined.{ObjectSite}
-use Rattle.headline_client.specs.Safe as client_side
-use Rattle.headline_client.specs.Told.{outcome_of}
-use Rattle.headline_device.specs.Devices as device_side
-use Rattle.headline_device.specs.Devices.{HasNumbers}
+use Rattle.headline_site.specs.headline.Happenings.{Fails, Gives, Outcome}
+use Rattle.headline_site.specs.headline.Protocol.{IsSite}
+use Rattle.headline_site.specs.headline_bacnet.Protocol.{bacnet}
+use Rattle.headline_site.specs.headline_bacnet.Refined.{ObjectSite}
+use Rattle.headline_site.specs.headline_client.Safe as client_side
+use Rattle.headline_site.specs.headline_client.Told.{outcome_of}
+use Rattle.headline_site.specs.headline_device.Devices as device_side
+use Rattle.headline_site.specs.headline_device.Devices.{HasNumbers}
 use Rattle.headline_site.specs.Fair.{IsNewClient, IsNewDevice}
 use Rattle.headline_site.specs.Laws.{ComesWhole}
 use Rattle.history.specs.Legal.{AnswersWereExecuted, AreClosedOnce, AreExecutedOnce, AreNumbered, IsWhatExecutionsLeave, StandAfterIssue}

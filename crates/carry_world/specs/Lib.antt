@@ -3,3 +3,7 @@ pub mod InternetworkSteps
 pub mod PlainWorld
 pub mod PlainSteps
 pub mod Laws
+-- What the layers above cite of those below.
+pub use Rattle.carry_said.specs as carry_said
+pub use Rattle.headline_site.specs.headline as headline
+pub use Rattle.headline_site.specs.headline_client as headline_client

@@ -19,15 +19,15 @@ use Rattle.device.specs.declared.plan.DeviceTold as device
 use Rattle.history.specs.Lists.{Has}
 use Rattle.history.specs.declared.Entry.TheVariants.{Issue, Restarted}
 use Rattle.npdu.specs.declared.parcel.Parcel.{Parcel}
-use Rattle.headline_bacnet.specs.Refined.{ObjectSite}
+use Rattle.headline_site.specs.headline_bacnet.Refined.{ObjectSite}
 use Rattle.primitives.specs.Sound.{IsSoundRequest}
 use Rattle.primitives.specs.declared.plain_data.Request.{Request}
 use Rattle.server_tsm.specs.Server.{committed}
 use Rattle.server_tsm.specs.Steps.{told_of_plan}
 use Rattle.server_tsm.specs.Waking as server_waking
-use Rattle.headline_client.specs.Laws.{awake}
-use Rattle.headline_client.specs.Safe as client_side
-use Rattle.headline_device.specs.Devices as device_side
+use Rattle.headline_site.specs.headline_client.Laws.{awake}
+use Rattle.headline_site.specs.headline_client.Safe as client_side
+use Rattle.headline_site.specs.headline_device.Devices as device_side
 use Rattle.carry_world.specs.PlainWorld.{Delivers, PlainWorld, Puts, executed_told, outcomes_told}
 
 -- a device hears what is delivered to it (5.4.5, 16.10.2)

@@ -5,8 +5,8 @@ use Rattle.carry.specs.Things.{Bears, Thing, net_of}
 use Rattle.client.specs.Client.{ClientState}
 use Rattle.client_tsm.specs.declared.plan.TransactionOutcome.{TransactionOutcome}
 use Rattle.device.specs.Device.{DeviceState}
-use Rattle.headline.specs.Happenings as core
-use Rattle.headline.specs.Happenings.{closing}
+use Rattle.headline_site.specs.headline.Happenings as core
+use Rattle.headline_site.specs.headline.Happenings.{closing}
 use Rattle.history.specs.Book.{Issued}
 use Rattle.history.specs.Lists.{Has, first_of}
 use Rattle.profile.specs.Times.{LIFE_MS}
@@ -20,7 +20,7 @@ use Rattle.npdu.specs.declared.parcel.Parcel.{Parcel}
 use Rattle.primitives.specs.declared.plain_data.Reply.{Reply}
 use Rattle.primitives.specs.declared.plain_data.Request.{Request}
 use Rattle.server_answers.specs.declared.plan.Executed as told
-use Rattle.headline_client.specs.Told.{outcome_of}
+use Rattle.headline_site.specs.headline_client.Told.{outcome_of}
 
 -- who issued, and under which invoke ID
 pub record Key : Type 0 where

@@ -1,3 +1,6 @@
 pub mod SaidLaws
 pub mod KeyLaws
 pub mod FromLaws
+pub mod PutLaws
+-- What the proofs above cite of those below.
+pub use Rattle.carry_world.proofs as carry_world

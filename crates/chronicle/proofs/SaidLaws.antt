@@ -1,7 +1,7 @@
 -- What is inside parcels that have something inside.
 use Rattle.std.proofs.Common.{◌≡◌, refl, sym, ap, subst, ℕ, zero, suc, List, [], ◌∷◌, ◌++◌, Option, Some, None}
 use Rattle.std.specs.Prelude.{IfNone, IsSome, slice_get}
-use Rattle.carry_said.specs.Said.{HasInsides, HasSomething}
+use Rattle.carry_world.specs.carry_said.Said.{HasInsides, HasSomething}
 use Rattle.inside.specs.Inside.{AreInside, HasNothingInside, IsInsideOf, Said}
 use Rattle.npdu.specs.declared.parcel.Parcel.{Parcel}
 use Rattle.chronicle.specs.Kept.{all_said, said_of}

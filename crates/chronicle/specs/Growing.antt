@@ -1,41 +1,76 @@
--- What comes of what a station does: items, and entries of the history.
-use Rattle.std.specs.Prelude.{ℕ, false, List, map, option_map, option_to_list, slice_get}
+-- What comes of what a station does: items, frames, and entries of the history.
+use Rattle.std.specs.Prelude.{ℕ, ◌+◌, false, List, [], ◌∷◌, ◌++◌, length, map, option_to_list, slice_get}
 use Rattle.std.specs.List.{AllByRecursion, flat_map}
 use Rattle.carry_world.specs.PlainWorld.{Key, executed_told, outcomes_told}
 use Rattle.history.specs.declared.Entry.{Entry}
-use Rattle.link_ip.specs.Port as port
-use Rattle.link_ip.specs.Port.{IpPortState}
+use Rattle.link.specs.declared.step.Sent.{Sent}
 use Rattle.link_ports.specs.declared.ports.PortSent.{PortSent}
+use Rattle.npdu.specs.declared.mac.Mac.{Mac}
+use Rattle.npdu.specs.declared.mac.Mac.TheVariants.{One, Six}
 use Rattle.npdu.specs.declared.mac.Station.{Station}
 use Rattle.primitives.specs.declared.plain_data.Reply.{Reply}
 use Rattle.primitives.specs.declared.plain_data.Request.{Request}
 use Rattle.relays.specs.Laws.{IsMac}
 use Rattle.site_station.specs.declared.entity.EntityTold.{EntityTold}
 use Rattle.traffic.specs.declared.item.Item.{Item}
+use Rattle.traffic.specs.declared.frame.FramePut.{FramePut}
 
 -- what is kept of all that happened, in order
 abbrev pub WorldHistory : Type 0 → Type 0
 WorldHistory A = List (Entry Station (Request A) (Reply A))
 
--- what goes out over a port at this place is an item from there: not yet delivered
-abbrev pub item_from : {A : Type 0} → (now : ℕ) → PortSent A → Station → Item A
-item_from now o x = record {
-  net = x.net;
-  from = x.mac;
-  to = o.sent.to;
-  octets = o.sent.octets;
-  stamp = o.sent.stamp;
+-- what goes out from an address on a network is an item where that is one of BACnet/IP: not yet delivered (J.2)
+abbrev pub item_from : {A : Type 0} → (now net : ℕ) → Mac → Sent A → List (Item A)
+item_from now net (Six from) s = record {
+  net = net;
+  from = Six from;
+  to = s.to;
+  octets = s.octets;
+  stamp = s.stamp;
   put_out = now;
   is_delivered = false;
-}
+} ∷ []
+item_from now net (One from) s = []
 
--- the items of what goes out over ports at these places, in order (J.2)
+-- .. and a frame where it is one of MS/TP, behind so many items (9.3)
+abbrev pub frame_from : {A : Type 0} → (behind net : ℕ) → Mac → Sent A → List (FramePut A)
+frame_from behind net (One from) s = record {
+  net = net;
+  sender = from;
+  octets = s.octets;
+  stamp = s.stamp;
+  behind = behind;
+} ∷ []
+frame_from behind net (Six from) s = []
+
+-- what goes out over a port at one of these places, where there is one, as an item
+abbrev pub item_over : {A : Type 0} → (now : ℕ) → List Station → PortSent A → List (Item A)
+item_over now places o = flat_map (λ x. item_from now x.net x.mac o.sent) (option_to_list (slice_get places o.port))
+
+-- the items of all that goes out, in order (J.2)
 abbrev pub items_at : {A : Type 0} → (now : ℕ) → List Station → List (PortSent A) → List (Item A)
-items_at now places out = flat_map (λ o. option_to_list (option_map (item_from now o) (slice_get places o.port))) out
+items_at now places out = flat_map (item_over now places) out
+
+-- .. as a frame, behind so many items
+abbrev pub frame_over : {A : Type 0} → (behind : ℕ) → List Station → PortSent A → List (FramePut A)
+frame_over behind places o =
+    flat_map (λ x. frame_from behind x.net x.mac o.sent) (option_to_list (slice_get places o.port))
+
+-- the frames of all that goes out, in order, each behind the items before it and so many before all of them (9.3)
+abbrev pub frames_behind : {A : Type 0} → (behind : ℕ) → List Station → List (PortSent A) → List (FramePut A)
+frames_behind behind places [] = []
+frames_behind behind places (o ∷ os) =
+    frame_over behind places o ++ frames_behind (behind + length (item_over 0 places o)) places os
+
+abbrev pub frames_at : {A : Type 0} → List Station → List (PortSent A) → List (FramePut A)
+frames_at places out = frames_behind 0 places out
 
 -- .. of what a station puts out over its ports
-abbrev pub items_of : {A : Type 0} → (now : ℕ) → List (IpPortState A) → List (PortSent A) → List (Item A)
-items_of now ports out = items_at now (map (λ l. port.station_of l) ports) out
+abbrev pub items_of : {A L : Type 0} → (L → Station) → (now : ℕ) → List L → List (PortSent A) → List (Item A)
+items_of station now ports out = items_at now (map station ports) out
+
+abbrev pub frames_of : {A L : Type 0} → (L → Station) → List L → List (PortSent A) → List (FramePut A)
+frames_of station ports out = frames_at (map station ports) out
 
 -- each of these items is from a link address (6.1)
 abbrev pub AreFromMacs : {A : Type 0} → List (Item A) → Type 0

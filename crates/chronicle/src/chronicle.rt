@@ -13,7 +13,7 @@ use npdu::Station;
 use primitives::{Reply, Request};
 use site_station::EntityTold;
 use std::alloc::{AllocError, Allocator};
-use traffic::Item;
+use traffic::{FramePut, Item};
 
 /// An entry of a world's history.
 pub type WorldEntry<A> = Entry<Station, Request<A>, Reply<A>>;
@@ -31,6 +31,8 @@ pub struct Chronicle<A: Allocator> {
 #[derive(Drop)]
 pub struct Growth<A: Allocator> {
     pub items: Vec<Item<A>, A>,
+    /// Frames that are put out on buses: they stand there, and not in what is kept here.
+    pub frames: Vec<FramePut<A>, A>,
     pub said: Vec<SaidMessage<A>, A>,
     pub key: Option<Key>,
     pub entry: Option<WorldEntry<A>>,
@@ -80,6 +82,7 @@ impl<A: Allocator> Chronicle<A> {
             said,
             key,
             entry,
+            ..
         } = growth;
         let _ = outcomes;
         append_reserved(&mut self.items, items);

@@ -1,23 +1,24 @@
-//! What a station puts out, as items.
+//! What a station puts out, as items and frames.
 
-ghost use Rattle.std.specs.Prelude.{◌≡◌, ◌++◌, IfOk, OnOk, map, option_map, option_to_list, slice_get};
+ghost use Rattle.std.specs.Prelude.{◌≡◌, ◌++◌, false, IfOk, OnOk, length, map, option_to_list, slice_get};
+ghost use Rattle.std.specs.List.{flat_map};
 ghost use Rattle.bvll.specs.Address.{IsAddress, address_at};
-ghost use Rattle.link_ip.specs.Port as ip;
-ghost use Rattle.chronicle.specs.Growing.{AreFromMacs, item_from, items_at, items_of};
-ghost use Rattle.relays.specs.Laws.{IsMac, ip_places};
+ghost use Rattle.chronicle.specs.Growing.{AreFromMacs, frame_from, frames_at, frames_of, item_from, items_at, items_of};
+ghost use Rattle.relays.specs.Laws.{IsMac};
+ghost use Rattle.relays.specs.Relay.{places_of};
 
 use bvll::Address;
-use link_ip::IpPort;
+use link::{Link, Sent};
 use link_ports::PortSent;
 use npdu::{Mac, Station};
 use relays::Relay;
 use std::alloc::{AllocError, Allocator};
 use tags::Items;
-use traffic::Item;
+use traffic::{FramePut, Item};
 
 /// Where the port of this number is, if there is one (6.1).
-fn place_at<A: Allocator + Copy>(ports: &[IpPort<A>], port: usize) -> Option<Station>
-    ensures { result ≡ slice_get (map (λ l. ip.station_of l) ports.now) port }
+fn place_at<L: Link<A> + Drop, A: Allocator + Copy>(ports: &[L], port: usize) -> Option<Station>
+    ensures { result ≡ slice_get (map L.station ports.now) port }
 {
     match ports.get(port) {
         Some(port) => Some(port.station()),
@@ -51,72 +52,108 @@ pub(crate) fn are_from_macs<A: Allocator>(items: &[Item<A>])
     }
 }
 
-/// What goes out over a port at this place, as an item.
-fn item<A: Allocator>(out: PortSent<A>, place: Station, now: u64) -> Item<A>
-    ensures { result ≡ item_from now out place }
+/// What goes out over ports: items, and frames.
+#[derive(Drop)]
+pub(crate) struct PutOut<A: Allocator> {
+    pub(crate) items: Items<Item<A>, A>,
+    pub(crate) frames: Items<FramePut<A>, A>,
+}
+
+/// What goes out from an address of BACnet/IP, as an item.
+fn item<A: Allocator>(sent: Sent<A>, net: u16, from: Mac, now: u64) -> Item<A>
+    ensures { result ≡ record {
+      net = net;
+      from = from;
+      to = sent.to;
+      octets = sent.octets;
+      stamp = sent.stamp;
+      put_out = now;
+      is_delivered = false;
+    } }
 {
     Item {
-        net: place.net,
-        from: place.mac,
-        to: out.sent.to,
-        octets: out.sent.octets,
-        stamp: out.sent.stamp,
+        net,
+        from,
+        to: sent.to,
+        octets: sent.octets,
+        stamp: sent.stamp,
         put_out: now,
         is_delivered: false,
     }
 }
 
-/// Puts what goes out over a port behind items.
-fn put_item<A: Allocator + Copy>(
-    items: &mut Items<Item<A>, A>,
+/// Puts what goes out over a port at a place behind what went out before, where there is such a port.
+fn put<A: Allocator + Copy>(
+    out: &mut PutOut<A>,
     place: Option<Station>,
-    out: PortSent<A>,
+    sent: Sent<A>,
     now: u64,
 ) -> Result<(), AllocError>
-    ensures { OnOk result (items.new ≡ items.old ++ option_to_list (option_map (item_from now out) place)) }
+    ensures items { OnOk result (out.new.items ≡ out.old.items
+        ++ flat_map (λ x. item_from now x.net x.mac sent) (option_to_list place)) }
+    ensures frames { OnOk result (out.new.frames ≡ out.old.frames
+        ++ flat_map (λ x. frame_from (length out.old.items) x.net x.mac sent) (option_to_list place)) }
 {
-    if let Some(place) = place {
-        items.push(item(out, place, now))?;
+    let Some(place) = place else {
+        return Ok(());
+    };
+    match place.mac {
+        Mac::Six(_) => out.items.push(item(sent, place.net, place.mac, now))?,
+        Mac::One(sender) => out.frames.push(FramePut {
+            net: place.net,
+            sender,
+            octets: sent.octets,
+            stamp: sent.stamp,
+            behind: out.items.len() as u64,
+        })?,
     }
     Ok(())
 }
 
-/// The items of what a station puts out over its ports at the moment `now`, in milliseconds, in order.
+/// What a station puts out over its ports at the moment `now`, in milliseconds, in order.
 ///
 /// # Errors
 /// Want of memory.
-pub(crate) fn items_from<A: Allocator + Copy>(
+pub(crate) fn put_out_over<L: Link<A> + Drop, A: Allocator + Copy>(
     alloc: A,
-    ports: &[IpPort<A>],
-    out: Items<PortSent<A>, A>,
+    ports: &[L],
+    all: Items<PortSent<A>, A>,
     now: u64,
-) -> Result<Vec<Item<A>, A>, AllocError>
-    ensures { IfOk result (λ items. items.items ≡ items_of now ports.now out) }
+) -> Result<PutOut<A>, AllocError>
+    ensures items { IfOk result (λ out. out.items ≡ items_of L.station now ports.now all) }
+    ensures frames { IfOk result (λ out. out.frames ≡ frames_of L.station ports.now all) }
 {
-    let mut items = Items::new(alloc);
-    for sent in out.into_vec() {
+    let mut out = PutOut {
+        items: Items::new(alloc),
+        frames: Items::new(alloc),
+    };
+    for sent in all.into_vec() {
         let place = place_at(ports, sent.port);
-        put_item(&mut items, place, sent, now)?;
+        put(&mut out, place, sent.sent, now)?;
     }
-    Ok(items.into_vec())
+    Ok(out)
 }
 
-/// The items of what a relay puts out at the moment `now`, in milliseconds, in order.
+/// What a relay puts out at the moment `now`, in milliseconds, in order.
 ///
 /// # Errors
 /// Want of memory.
-pub(crate) fn relay_items<A: Allocator + Copy>(
+pub(crate) fn relay_puts_out<L: Link<A> + Drop, A: Allocator + Copy>(
     alloc: A,
-    relay: &Relay<IpPort<A>, A>,
-    out: Items<PortSent<A>, A>,
+    relay: &Relay<L, A>,
+    all: Items<PortSent<A>, A>,
     now: u64,
-) -> Result<Vec<Item<A>, A>, AllocError>
-    ensures { IfOk result (λ items. items.items ≡ items_at now (ip_places relay.now) out) }
+) -> Result<PutOut<A>, AllocError>
+    ensures items { IfOk result (λ out. out.items ≡ items_at now (places_of L.station relay.now) all) }
+    ensures frames { IfOk result (λ out. out.frames ≡ frames_at (places_of L.station relay.now) all) }
 {
-    let mut items = Items::new(alloc);
-    for sent in out.into_vec() {
+    let mut out = PutOut {
+        items: Items::new(alloc),
+        frames: Items::new(alloc),
+    };
+    for sent in all.into_vec() {
         let place = relay.place(sent.port);
-        put_item(&mut items, place, sent, now)?;
+        put(&mut out, place, sent.sent, now)?;
     }
-    Ok(items.into_vec())
+    Ok(out)
 }

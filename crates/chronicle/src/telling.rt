@@ -3,9 +3,9 @@
 ghost use Rattle.std.specs.Prelude.{◌≡◌, ◌≤◌, ◌<◌, ◌+◌, ◌&&◌, ◌==◌, length};
 ghost use Rattle.std.specs.Vec.{vec_capacity, vec_len};
 ghost use Rattle.carry_world.specs.PlainWorld.{executed_told, last_key, outcomes_told};
-ghost use Rattle.headline.specs.Happenings as core;
-ghost use Rattle.headline.specs.Happenings.{closing};
-ghost use Rattle.headline_client.specs.Told.{outcome_of};
+ghost use Rattle.carry_world.specs.headline.Happenings as core;
+ghost use Rattle.carry_world.specs.headline.Happenings.{closing};
+ghost use Rattle.carry_world.specs.headline_client.Told.{outcome_of};
 ghost use Rattle.npdu.specs.Mac.{same_station};
 ghost use Rattle.chronicle.specs.Kept.{all_keys};
 

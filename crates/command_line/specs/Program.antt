@@ -8,15 +8,17 @@ use Rattle.clap.specs.declared.error.kind.ErrorKind.TheVariants.{OutOfMemory, Di
 use Rattle.console.specs.Answer.{Known, text_of, PrintsAnswer}
 use Rattle.console.specs.Builtin.{builtin_device}
 use Rattle.console.specs.Explain.{PrintsExplained}
-use Rattle.command_line.specs.declared.order.Checking.{Checking}
-use Rattle.command_line.specs.declared.order.Order.{Order}
-use Rattle.command_line.specs.declared.order.Order.TheVariants.{Answer, Check, Explain, Sim}
-use Rattle.command_line.specs.declared.order.Simulation.{Simulation}
+use Rattle.command_order.specs.declared.order.Checking.{Checking}
+use Rattle.command_order.specs.declared.order.LiveRun.{LiveRun}
+use Rattle.command_order.specs.declared.order.Order.{Order}
+use Rattle.command_order.specs.declared.order.Order.TheVariants.{Answer, Check, Explain, Run, Sim}
+use Rattle.command_order.specs.declared.order.Simulation.{Simulation}
 use Rattle.site_check.specs.Judged.{AreJudged}
+use Rattle.site_live.specs.Runs.{RunsLive}
 use Rattle.site_run.specs.Simulate.{Simulates}
 use Rattle.site_run.specs.declared.running.Telling.{Telling}
-use Rattle.site_run.specs.declared.running.Telling.TheVariants.{Entries, ItemsAndEntries}
-use Rattle.command_line.specs.Order.{program, IsOrderOf}
+use Rattle.site_run.specs.declared.running.Telling.TheVariants.{Entries, All}
+use Rattle.command_order.specs.Order.{program, IsOrderOf}
 
 -- clap was asked for help or the version
 abbrev pub IsHelp : ErrorKind → Type 0
@@ -35,7 +37,7 @@ pub record IsStatusOf (kind : ErrorKind) (status : ℕ) : Type 0 where
 
 -- what is told of an event, with a trace or without
 abbrev pub telling_of : Bool → Telling
-telling_of true = ItemsAndEntries
+telling_of true = All
 telling_of false = Entries
 
 -- the files of a simulation were read, by what reads them, and what they describe was printed
@@ -45,6 +47,14 @@ pub record PrintsSimulation (reads : List ℕ → List ℕ → Type 0) (s : Simu
   pub site_read : reads (string_bytes s.site) site
   pub script_read : reads (string_bytes s.script) script
   pub simulates : Simulates Global (telling_of s.is_traced) site script old new
+
+-- the files of a live run were read, by what reads them, and what came of the run was printed
+pub record PrintsLive (reads : List ℕ → List ℕ → Type 0) (r : LiveRun) (old new : Known) : Type 0 where
+  pub site : List ℕ
+  pub script : List ℕ
+  pub site_read : reads (string_bytes r.site) site
+  pub script_read : reads (string_bytes r.script) script
+  pub live : RunsLive Global r.is_open site script old new
 
 -- a file was read, if one is named
 abbrev pub IsReadIfNamed : (List ℕ → List ℕ → Type 0) → Option (List ℕ) → Option (List ℕ) → Type 0
@@ -67,6 +77,7 @@ abbrev pub IsDone : (List ℕ → List ℕ → Type 0) → Result (Option Order)
 IsDone reads (Err e) status old new = IsStatusOf (kind_of e) status
 IsDone reads (Ok None) status old new = status ≡ 2
 IsDone reads (Ok (Some (Sim s))) status old new = (status ≤ 1) × (status ≡ 0 → PrintsSimulation reads s old new)
+IsDone reads (Ok (Some (Run r))) status old new = (status ≤ 2) × (status ≡ 0 → PrintsLive reads r old new)
 IsDone reads (Ok (Some (Check c))) status old new = (status ≤ 1) × (status ≡ 0 → HaveNoFault reads c)
 IsDone reads (Ok (Some (Answer words))) status old new =
     (status ≤ 1)

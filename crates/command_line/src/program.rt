@@ -3,55 +3,61 @@
 ghost use Rattle.std.specs.Prelude.{◌≡◌, ◌≤◌, true, IfOk, map, option_map, string_bytes};
 ghost use Rattle.std.specs.Global.{Global};
 ghost use Rattle.clap.specs.Words.{kind_of};
-ghost use Rattle.command_line.specs.Program.{Runs, IsDone, IsStatusOf, PrintsSimulation, telling_of};
-ghost use Rattle.command_line.specs.Program.{HaveNoFault, IsReadIfNamed};
+ghost use Rattle.command_line.specs.Program as spec;
 ghost use Rattle.site_check.specs.Judged.{AreJudged};
+ghost use Rattle.site_live.specs.Runs.{RunsLive};
 ghost use Rattle.site_run.specs.Simulate.{Simulates};
 
 use crate::files::Files;
-use crate::order::{Checking, Order, Simulation, order_of};
 use clap::Error;
 use clap::error::ErrorKind;
+use command_order::{Checking, LiveRun, Order, Simulation, order_of};
 use console::{answer_line, explain_line, say_failed, say_refused};
 use site_check::check;
+use site_live::{Ending, Settings, run_over_udp};
 use site_run::{simulate, simulate_traced};
 use std::alloc::Global;
 use std::io;
 use std::io::Write;
+use std::net::Net;
+use std::time::Clock;
 use tags::Fault;
 
 /// Does what the words ask for, the first of them being the program's name, and answers the exit
 /// status: 0, also for help, which is printed on `out`; 1 for what a command refuses, a fault that a
 /// check finds, a failed write and want of memory; 2 for a fault of the command line, which is
-/// printed on `err`.
-pub fn run<F: Files, W: Write, E: Write>(
+/// printed on `err`. A site is run live over the sockets of `host`; without one it is refused.
+pub fn run<R: Net + Clock, F: Files, W: Write, E: Write>(
+    host: Option<&R>,
     alloc: Global,
     words: &[String],
     files: &F,
     out: &mut W,
     err: &mut E,
 ) -> u8
-    ensures runs { Runs (F.reads files.now) (map string_bytes words.now) result
+    ensures runs { spec.Runs (F.reads files.now) (map string_bytes words.now) result
         (W.contents out.old) (W.contents out.new) }
 {
     let asked = order_of(alloc, words);
-    done(alloc, &asked, files, out, err)
+    done(host, alloc, &asked, files, out, err)
 }
 
 /// Does what is asked for, and answers the exit status.
-fn done<F: Files, W: Write, E: Write>(
+fn done<R: Net + Clock, F: Files, W: Write, E: Write>(
+    host: Option<&R>,
     alloc: Global,
     asked: &Result<Option<Order>, Error>,
     files: &F,
     out: &mut W,
     err: &mut E,
 ) -> u8
-    ensures { IsDone (F.reads files.now) asked.now result (W.contents out.old) (W.contents out.new) }
+    ensures { spec.IsDone (F.reads files.now) asked.now result (W.contents out.old) (W.contents out.new) }
 {
     match asked {
         Ok(Some(Order::Answer(words))) => answer_line(alloc, words.as_slice(), out, err),
         Ok(Some(Order::Explain(words))) => explain_line(alloc, words.as_slice(), out, err),
         Ok(Some(Order::Sim(simulation))) => sim(alloc, simulation, files, out, err),
+        Ok(Some(Order::Run(run))) => run_live(host, alloc, run, files, out, err),
         Ok(Some(Order::Check(checking))) => check_files(alloc, checking, files, out, err),
         Ok(None) => 2,
         Err(error) => show(error, out, err),
@@ -68,9 +74,9 @@ fn sim<F: Files, W: Write, E: Write>(
 ) -> u8
     ensures status { result ≤ 1 }
     ensures simulates { result ≡ 0
-        → PrintsSimulation (F.reads files.now) simulation.now (W.contents out.old) (W.contents out.new) }
+        → spec.PrintsSimulation (F.reads files.now) simulation.now (W.contents out.old) (W.contents out.new) }
 {
-    match texts_of(alloc, simulation, files) {
+    match texts_of(alloc, &simulation.site, &simulation.script, files) {
         Ok((site, script)) => {
             run_texts(
                 alloc,
@@ -85,18 +91,87 @@ fn sim<F: Files, W: Write, E: Write>(
     }
 }
 
-/// The octets of the site's file and of the script's.
+/// The octets of the site's file and of the script's, which have these names.
 fn texts_of<F: Files>(
     alloc: Global,
-    simulation: &Simulation,
+    site: &String,
+    script: &String,
     files: &F,
 ) -> io::Result<(Vec<u8>, Vec<u8>)>
-    ensures site { IfOk result (λ texts. F.reads files.now (string_bytes simulation.now.site) texts.0.items) }
-    ensures script { IfOk result (λ texts. F.reads files.now (string_bytes simulation.now.script) texts.1.items) }
+    ensures site { IfOk result (λ texts. F.reads files.now (string_bytes site.now) texts.0.items) }
+    ensures script { IfOk result (λ texts. F.reads files.now (string_bytes script.now) texts.1.items) }
 {
-    let site = files.read(alloc, simulation.site.as_str())?;
-    let script = files.read(alloc, simulation.script.as_str())?;
+    let site = files.read(alloc, site.as_str())?;
+    let script = files.read(alloc, script.as_str())?;
     Ok((site, script))
+}
+
+/// Reads the files of a live run, the site first, and runs the site.
+fn run_live<R: Net + Clock, F: Files, W: Write, E: Write>(
+    host: Option<&R>,
+    alloc: Global,
+    run: &LiveRun,
+    files: &F,
+    out: &mut W,
+    err: &mut E,
+) -> u8
+    ensures status { result ≤ 2 }
+    ensures lives { result ≡ 0 → spec.PrintsLive (F.reads files.now) run.now (W.contents out.old) (W.contents out.new) }
+{
+    let Some(ending) = ending_of(run.seconds.as_deref()) else {
+        let _ = writeln!(err, "bacsite: --for takes a number of seconds");
+        return 2;
+    };
+    let settings = Settings {
+        is_open: run.is_open,
+        ending,
+    };
+    match texts_of(alloc, &run.site, &run.script, files) {
+        Ok((site, script)) => {
+            run_live_texts(
+                host,
+                alloc,
+                site.as_slice(),
+                script.as_slice(),
+                settings,
+                out,
+                err,
+            )
+        }
+        Err(error) => say_unread(&error, err),
+    }
+}
+
+/// When a live run ends, by the number of seconds that was given, if any was.
+fn ending_of(seconds: Option<&str>) -> Option<Ending> {
+    let Some(seconds) = seconds else {
+        return Some(Ending::WithScript);
+    };
+    match seconds.parse::<u64>() {
+        Ok(0) => Some(Ending::Never),
+        Ok(seconds) => Some(Ending::After { seconds }),
+        Err(_) => None,
+    }
+}
+
+/// Runs a site live over the sockets of a host; without one it is refused.
+fn run_live_texts<R: Net + Clock, W: Write, E: Write>(
+    host: Option<&R>,
+    alloc: Global,
+    site: &[u8],
+    script: &[u8],
+    settings: Settings,
+    out: &mut W,
+    err: &mut E,
+) -> u8
+    ensures status { result ≤ 1 }
+    ensures lives { result ≡ 0
+        → RunsLive Global settings.is_open site.now script.now (W.contents out.old) (W.contents out.new) }
+{
+    match host {
+        Some(host) => run_over_udp(host, alloc, alloc, site, script, settings, out, err),
+        None => say_refused(Fault::Wire, err),
+    }
 }
 
 /// Runs a script at a site, with a trace or without.
@@ -110,7 +185,7 @@ fn run_texts<W: Write, E: Write>(
 ) -> u8
     ensures status { result ≤ 1 }
     ensures simulates { result ≡ 0
-        → Simulates Global (telling_of is_traced) site.now script.now (W.contents out.old) (W.contents out.new) }
+        → Simulates Global (spec.telling_of is_traced) site.now script.now (W.contents out.old) (W.contents out.new) }
 {
     if is_traced {
         simulate_traced(alloc, alloc, site, script, out, err)
@@ -128,7 +203,7 @@ fn check_files<F: Files, W: Write, E: Write>(
     err: &mut E,
 ) -> u8
     ensures status { result ≤ 1 }
-    ensures judged { result ≡ 0 → HaveNoFault (F.reads files.now) checking.now }
+    ensures judged { result ≡ 0 → spec.HaveNoFault (F.reads files.now) checking.now }
 {
     match check_texts_of(alloc, checking, files) {
         Ok((site, script)) => {
@@ -146,7 +221,7 @@ fn check_texts_of<F: Files>(
     files: &F,
 ) -> io::Result<(Vec<u8>, Option<Vec<u8>>)>
     ensures site { IfOk result (λ texts. F.reads files.now (string_bytes checking.now.site) texts.0.items) }
-    ensures script { IfOk result (λ texts. IsReadIfNamed (F.reads files.now)
+    ensures script { IfOk result (λ texts. spec.IsReadIfNamed (F.reads files.now)
         (option_map string_bytes checking.now.script) (option_map (λ t. t.items) texts.1)) }
 {
     let site = files.read(alloc, checking.site.as_str())?;
@@ -188,7 +263,7 @@ fn say_unread<E: Write>(error: &io::Error, err: &mut E) -> u8
 
 /// Prints why there is nothing to do, and answers the exit status.
 fn show<W: Write, E: Write>(error: &Error, out: &mut W, err: &mut E) -> u8
-    ensures { IsStatusOf (kind_of error.now) result }
+    ensures { spec.IsStatusOf (kind_of error.now) result }
 {
     if error.kind() == ErrorKind::OutOfMemory {
         return say_refused(Fault::Memory, err);

@@ -3,12 +3,12 @@
 
 ghost use Rattle.std.specs.Prelude.{IfOk, OnOk};
 ghost use Rattle.std.specs.List.{AllByRecursion};
-ghost use Rattle.carry_world.specs.Laws.{IsLegal};
-ghost use Rattle.hosts.specs.Opening.{object_site};
-ghost use Rattle.hosts.specs.Stations.{devices_of};
-ghost use Rattle.internetwork.specs.Refusals.{Runs};
-ghost use Rattle.internetwork.specs.Step.{IsSoundEvent};
-ghost use Rattle.internetwork.specs.World.{fresh_world};
+ghost use Rattle.simulator.specs.carry_world.Laws.{IsLegal};
+ghost use Rattle.simulator.specs.hosts.Opening.{object_site};
+ghost use Rattle.simulator.specs.hosts.Stations.{devices_of};
+ghost use Rattle.simulator.specs.internetwork.Refusals.{Runs};
+ghost use Rattle.simulator.specs.internetwork.Step.{IsSoundEvent};
+ghost use Rattle.simulator.specs.internetwork.World.{fresh_world};
 
 use simulator::{Event, Flow, World};
 use site::Site;
@@ -18,7 +18,7 @@ use tags::Fault;
 /// The world of a site once these events happened, one after another.
 ///
 /// # Errors
-/// `BadSite` where a station is on a bus; or `Memory`.
+/// `Memory` alone.
 pub fn once_run<A: Allocator + Copy>(
     alloc: A,
     site: Site<A>,

@@ -8,3 +8,8 @@ pub mod Executions
 pub mod Hearings
 pub mod Contracts
 pub mod Placed
+-- What the proofs above cite of those below.
+pub use Rattle.headline_bacnet.proofs as headline_bacnet
+pub use Rattle.headline_client.proofs as headline_client
+pub use Rattle.headline_device.proofs as headline_device
+pub use Rattle.headline_server.proofs as headline_server

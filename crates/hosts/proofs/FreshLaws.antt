@@ -4,19 +4,20 @@ use Rattle.std.specs.Prelude.{option_map, option_to_list}
 use Rattle.std.specs.List.{AllByRecursion, flat_map}
 use Rattle.client.specs.Client.{ClientState, new_client}
 use Rattle.device.specs.Device.{DeviceState, new_device}
-use Rattle.headline_bacnet.specs.Refined.{ObjectSite}
-use Rattle.headline_client.specs.Safe as client_side
-use Rattle.headline_device.specs.Devices as device_side
-use Rattle.headline_device.specs.Devices.{HasNumbers}
+use Rattle.headline_site.specs.headline_bacnet.Refined.{ObjectSite}
+use Rattle.headline_site.specs.headline_client.Safe as client_side
+use Rattle.headline_site.specs.headline_device.Devices as device_side
+use Rattle.headline_site.specs.headline_device.Devices.{HasNumbers}
 use Rattle.headline_site.specs.Fair.{IsNewClient, IsNewDevice}
-use Rattle.link_ip.specs.Port as ip
-use Rattle.link_ip.specs.Port.{IpPortState}
+use Rattle.link_site.specs.Port as site
+use Rattle.link_site.specs.declared.port.SitePort.{SitePort}
 use Rattle.npdu.specs.declared.mac.Station as npdu
 use Rattle.object_model.specs.declared.site.SiteObjects.{SiteObjects}
-use Rattle.profile.specs.declared.link_kind.LinkKind.TheVariants.{BacnetIp}
+use Rattle.profile.specs.declared.link_kind.LinkKind.{LinkKind}
+use Rattle.profile.specs.declared.link_kind.LinkKind.TheVariants.{BacnetIp, MsTp}
 use Rattle.remembered.specs.Records.{AreDistinct}
 use Rattle.site.specs.Sound.{IsSound}
-use Rattle.site_parts.specs.Places.{links_at, station_of}
+use Rattle.site_parts.specs.Places.{kind_at, links_at, station_of}
 use Rattle.site_parts.specs.Places as places
 use Rattle.site_parts.specs.Roles.{objects_in}
 use Rattle.site_parts.specs.declared.parts.Parts.{Parts}
@@ -41,7 +42,7 @@ use Rattle.hosts.proofs.ListLaws.{all_flat, distinct_of_apart, flat_flat}
 use Rattle.hosts.proofs.SiteLaws.{devices_fit, devices_new, opened_device}
 use Rattle.hosts.specs.Hosts.{IsOfSite}
 use Rattle.hosts.specs.Laws.{StationsAreFresh, StationsAreOfSite}
-use Rattle.hosts.specs.Opening.{foreign_port, host_at, object_site, opening_stations, opens, place_port}
+use Rattle.hosts.specs.Opening.{client_at, foreign_port, host_at, object_site, opening_stations, opens, place_port}
 use Rattle.hosts.specs.Stations.{WorldStation, client_of, clients_of, device_of, devices_of}
 
 -- its devices stand within those of the site
@@ -52,20 +53,20 @@ beyond_part f o None = tt
 beyond_part f o (Some (link.Ip n k a)) = inl (refl, tt)
 beyond_part f o (Some (link.Bus n mac)) = tt
 
-no_devices : {A : Type 0} (b : Bool) (q : Option (IpPortState A)) →
-    devices_of (option_to_list (option_map (host_at (λ x. Client (new_client x b (longest_apdu BacnetIp)))) q)) ≡ []
-no_devices b None = refl
-no_devices b (Some port) = refl
+no_devices : {A : Type 0} (p : Place A) (b : Bool) (q : Option (SitePort A)) →
+    devices_of (option_to_list (option_map (host_at (client_at p b)) q)) ≡ []
+no_devices p b None = refl
+no_devices p b (Some port) = refl
 
 abbrev opened_at : {A : Type 0} → List (Station A) → Role A → List (DeviceState A)
 opened_at all r = map opened_device (devices_at (addresses_of all r) (objects_in r))
 
 role_part : {A : Type 0} (all : List (Station A)) (r : Role A) → IsPart (devices_of (opens all r)) (opened_at all r)
 role_part all (role.Device (place.On (link.Ip n k a)) o) = inl (refl, tt)
-role_part all (role.Device (place.On (link.Bus n mac)) o) = tt
+role_part all (role.Device (place.On (link.Bus n mac)) o) = inl (refl, tt)
 role_part all (role.Device (place.Beyond f) o) = beyond_part f o (host f.manager all)
 role_part all (role.Client p b) = subst (λ (ds : List (DeviceState _)). IsPart ds (opened_at all (role.Client p b)))
-    (sym (no_devices b (place_port all p))) tt
+    (sym (no_devices p b (place_port all p))) tt
 role_part all (role.Manager l) = tt
 role_part all (role.Router ls) = tt
 
@@ -81,28 +82,24 @@ devices_opened {A} p =
     (λ s. role_part p.stations s.role) p.stations))
 
 -- its clients have asked nothing
-new_if : {A : Type 0} (b : Bool) (q : Option (IpPortState A)) → AllByRecursion IsNewClient
-    (clients_of (option_to_list (option_map (host_at (λ x. Client (new_client x b (longest_apdu BacnetIp)))) q)))
-new_if b None = tt
-new_if b (Some port) = (
-  record {
-    address = ip.station_of port;
-    segmented = b;
-    max_apdu = longest_apdu BacnetIp;
-    code = omega arith;
-    is = refl;
-  },
-  tt,
-)
+new_at : {A : Type 0} (x : npdu.Station) (b : Bool) (k : LinkKind) → IsNewClient (new_client {A = A} x b (longest_apdu k))
+new_at x b BacnetIp =
+    record { address = x; segmented = b; max_apdu = longest_apdu BacnetIp; code = omega arith; is = refl }
+new_at x b MsTp = record { address = x; segmented = b; max_apdu = longest_apdu MsTp; code = omega arith; is = refl }
 
-no_clients : {A : Type 0} (o : SiteObjects A) (q : Option (IpPortState A)) →
+new_if : {A : Type 0} (p : Place A) (b : Bool) (q : Option (SitePort A)) →
+    AllByRecursion IsNewClient (clients_of (option_to_list (option_map (host_at (client_at p b)) q)))
+new_if p b None = tt
+new_if p b (Some port) = (new_at (site.station_of port) b (kind_at p), tt)
+
+no_clients : {A : Type 0} (o : SiteObjects A) (q : Option (SitePort A)) →
     AllByRecursion IsNewClient (clients_of (option_to_list (option_map (host_at (λ x. Device (new_device o x))) q)))
 no_clients o None = tt
 no_clients o (Some port) = tt
 
 role_new : {A : Type 0} (all : List (Station A)) (r : Role A) → AllByRecursion IsNewClient (clients_of (opens all r))
 role_new all (role.Device p o) = no_clients o (place_port all p)
-role_new all (role.Client p b) = new_if b (place_port all p)
+role_new all (role.Client p b) = new_if p b (place_port all p)
 role_new all (role.Manager l) = tt
 role_new all (role.Router ls) = tt
 
@@ -154,12 +151,12 @@ at_place : {A : Type 0} (all : List (Station A)) (there : npdu.Station → Entit
     IsPart (map place_of (option_to_list (option_map (host_at there) (place_port all p))))
     (map station_of (links_at p) ++ foreign_stations all (places.beyond_at p))
 at_place all there at (place.On (link.Ip n k a)) = inl (at _, tt)
-at_place all there at (place.On (link.Bus n mac)) = tt
+at_place all there at (place.On (link.Bus n mac)) = inl (at _, tt)
 at_place all there at (place.Beyond f) = beyond_at there at f (host f.manager all)
 
 role_at : {A : Type 0} (all : List (Station A)) (r : Role A) → IsPart (map place_of (opens all r)) (addresses_of all r)
 role_at all (role.Device p o) = at_place all (λ x. Device (new_device o x)) (λ x. refl) p
-role_at all (role.Client p b) = at_place all (λ x. Client (new_client x b (longest_apdu BacnetIp))) (λ x. refl) p
+role_at all (role.Client p b) = at_place all (client_at p b) (λ x. refl) p
 role_at all (role.Manager l) = tt
 role_at all (role.Router ls) = tt
 

@@ -2,13 +2,11 @@
 use Rattle.std.proofs.Common.{◌≡◌, ◌≤◌, refl, sym, arith, List, [], ◌∷◌, Option, Some, None}
 use Rattle.std.specs.Prelude.{option_map, option_to_list}
 use Rattle.std.specs.List.{AllByRecursion}
-use Rattle.client.specs.Client.{new_client}
 use Rattle.device.specs.Device.{new_device}
-use Rattle.link_ip.specs.Port as ip
-use Rattle.link_ip.specs.Port.{IpPortState}
+use Rattle.link_site.specs.Port as site
+use Rattle.link_site.specs.declared.port.SitePort.{SitePort}
 use Rattle.link_ports.specs.Ports.{AreBefore}
 use Rattle.npdu.specs.declared.mac.Station as npdu
-use Rattle.profile.specs.declared.link_kind.LinkKind.TheVariants.{BacnetIp}
 use Rattle.relays.specs.Laws.{RelayStands, RouterStands}
 use Rattle.site_parts.specs.declared.parts.Station.{Station}
 use Rattle.site_parts.specs.declared.place.Foreign.{Foreign}
@@ -21,14 +19,13 @@ use Rattle.site_parts.specs.declared.role.Role.TheVariants as role
 use Rattle.site_router.specs.Station.{new_station}
 use Rattle.site_station.specs.Entity as entity
 use Rattle.site_station.specs.declared.entity.Entity.{Entity}
-use Rattle.site_station.specs.declared.entity.Entity.TheVariants.{Device, Client}
+use Rattle.site_station.specs.declared.entity.Entity.TheVariants.{Device}
 use Rattle.site_views.specs.Views.{host}
-use Rattle.unitdata.specs.Sizes.{longest_apdu}
 use Rattle.hosts.proofs.ListLaws.{all_both, all_flat, all_leads}
 use Rattle.hosts.proofs.RelayFits.{ports_numbered, relays_fit}
 use Rattle.hosts.specs.Hosts.{IsHost}
 use Rattle.hosts.specs.Laws.{RelaysStand, StationsStand}
-use Rattle.hosts.specs.Opening.{foreign_port, host_at, manager_at, opens, place_port, port_at, ports_at, relay_opens}
+use Rattle.hosts.specs.Opening.{client_at, foreign_port, host_at, manager_at, opens, place_port, port_at, ports_at, relay_opens}
 use Rattle.hosts.specs.Relays.{HaveNumbers, IsRelayFit}
 
 -- what holds of each holds of all
@@ -37,13 +34,13 @@ all_are P each [] = tt
 all_are P each (x ∷ xs) = (each x, all_are P each xs)
 
 -- a port that has seen no moment, if there is one
-abbrev IsNew : {A : Type 0} → Option (IpPortState A) → Type 0
+abbrev IsNew : {A : Type 0} → Option (SitePort A) → Type 0
 IsNew None = Unit {0}
-IsNew (Some port) = port.moment ≤ 0
+IsNew (Some port) = site.moment_of port ≤ 0
 
-link_new : {A : Type 0} (all : List (Station A)) (l : Link) → IsNew (port_at all l)
+link_new : {A : Type 0} (all : List (Station A)) (l : Link) → site.moment_of (port_at all l) ≤ 0
 link_new all (link.Ip n k a) = let none : 0 ≤ 0 = omega arith in none
-link_new all (link.Bus n m) = tt
+link_new all (link.Bus n m) = let none : 0 ≤ 0 = omega arith in none
 
 foreign_new : {A : Type 0} (f : Foreign A) (h : Option Link) → IsNew (foreign_port f h)
 foreign_new f None = tt
@@ -55,16 +52,16 @@ place_new all (place.On l) = link_new all l
 place_new all (place.Beyond f) = foreign_new f (host f.manager all)
 
 stands_if : {A : Type 0} (there : npdu.Station → Entity A) → ((x : npdu.Station) → entity.station_of (there x) ≡ x) →
-    ((x : npdu.Station) → entity.moment_of (there x) ≤ 0) → (q : Option (IpPortState A)) → IsNew q →
+    ((x : npdu.Station) → entity.moment_of (there x) ≤ 0) → (q : Option (SitePort A)) → IsNew q →
     AllByRecursion (IsHost 0) (option_to_list (option_map (host_at there) q))
 stands_if there at new None is_new = tt
 stands_if there at new (Some port) is_new = (
   record {
     port = port;
     one = refl;
-    place = sym (at (ip.station_of port));
+    place = sym (at (site.station_of port));
     port_before = is_new;
-    entity_before = new (ip.station_of port);
+    entity_before = new (site.station_of port);
   },
   tt,
 )
@@ -72,8 +69,8 @@ stands_if there at new (Some port) is_new = (
 role_stands : {A : Type 0} (all : List (Station A)) (r : Role A) → AllByRecursion (IsHost 0) (opens all r)
 role_stands all (role.Device p o) = stands_if (λ x. Device (new_device o x)) (λ x. refl) (λ x. omega arith)
     (place_port all p) (place_new all p)
-role_stands all (role.Client p b) = stands_if (λ x. Client (new_client x b (longest_apdu BacnetIp))) (λ x. refl)
-    (λ x. omega arith) (place_port all p) (place_new all p)
+role_stands all (role.Client p b) = stands_if (client_at p b) (λ x. refl) (λ x. omega arith) (place_port all p)
+    (place_new all p)
 role_stands all (role.Manager l) = tt
 role_stands all (role.Router ls) = tt
 
@@ -83,18 +80,12 @@ stations_stand p = all_flat (λ s. opens p.stations s.role) (IsHost 0) p.station
     (all_are (λ s. AllByRecursion (IsHost 0) (opens p.stations s.role)) (λ s. role_stands p.stations s.role) p.stations)
 
 -- the ports of a router have seen no moment
-link_before : {A : Type 0} (all : List (Station A)) (l : Link) →
-    AreBefore ip.moment_of 0 (option_to_list (port_at all l))
-link_before all (link.Ip n k a) = let none : 0 ≤ 0 = omega arith in (none, tt)
-link_before all (link.Bus n m) = tt
-
-ports_before : {A : Type 0} (all : List (Station A)) (ls : List Link) → AreBefore ip.moment_of 0 (ports_at all ls)
+ports_before : {A : Type 0} (all : List (Station A)) (ls : List Link) → AreBefore site.moment_of 0 (ports_at all ls)
 ports_before all [] = tt
-ports_before all (l ∷ ls) = all_both (λ (p : IpPortState _). ip.moment_of p ≤ 0) (option_to_list (port_at all l))
-    (ports_at all ls) (link_before all l) (ports_before all ls)
+ports_before all (l ∷ ls) = (link_new all l, ports_before all ls)
 
 router_stands : {A : Type 0} (all : List (Station A)) (ls : List Link) → HaveNumbers ls →
-    RouterStands 0 (new_station ip.station_of (ports_at all ls))
+    RouterStands 0 (new_station site.station_of (ports_at all ls))
 router_stands all ls h = record {
   stands = record { at_its_ports = refl; before = ports_before all ls };
   numbered = ports_numbered all ls h;

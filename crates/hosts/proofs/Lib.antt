@@ -1,6 +1,5 @@
 pub mod ListLaws
 pub mod BoolLaws
-pub mod BusLaws
 pub mod HostLaws
 pub mod SiteLaws
 pub mod FreshLaws

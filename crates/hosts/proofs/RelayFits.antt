@@ -1,14 +1,14 @@
 -- The relays of a sound site are fit to open: links are on networks with numbers, and a manager is one of its network's, of
 -- which there are not too many.
-use Rattle.std.proofs.Common.{◌⊎◌, inl, inr, ◌≡◌, ◌≤◌, ◌∙◌, ◌+◌, ◌==◌, ◌&&◌, ◌||◌, not, refl, sym, ap, subst, arith, cond, if◌then◌else◌, ℕ, Bool, true, false, List, [], ◌∷◌, ◌++◌, length, map, nat_le, option_to_list}
+use Rattle.std.proofs.Common.{◌⊎◌, inl, inr, ◌≡◌, ◌≤◌, ◌∙◌, ◌+◌, ◌==◌, ◌&&◌, ◌||◌, not, refl, sym, ap, subst, arith, cond, if◌then◌else◌, ℕ, Bool, true, false, List, [], ◌∷◌, ◌++◌, length, map, nat_le}
 use Rattle.std.specs.List.{AllByRecursion, list_all, list_any}
 use Rattle.bbmd.proofs.Times.{itself_is, times-append, times_among}
 use Rattle.bbmd.specs.Reach.{times}
 use Rattle.bbmd_tables.specs.Tables.{has_few_peers, is_among, others, same_address}
 use Rattle.bvll.specs.declared.address.Address.{Address}
 use Rattle.profile.specs.Limits.{MAX_PEERS}
-use Rattle.link_ip.specs.Port as ip
-use Rattle.link_ip.specs.Port.{IpPortState}
+use Rattle.link_site.specs.Port as site
+use Rattle.link_site.specs.declared.port.SitePort.{SitePort}
 use Rattle.router.specs.Router.{AreNumbered, IsNumbered}
 use Rattle.site.specs.Links.{are_linked, is_in_range, is_link, is_on, same_kind}
 use Rattle.site.specs.Managers.{count_on, managed, managed_in, subnet_at}
@@ -175,25 +175,19 @@ relays_fit p s = all_fit p.networks s.plain.networks.range p.stations p.stations
 
 -- the ports of a router with links that have numbers
 link_numbered : {A : Type 0} (all : List (Station A)) (l : Link) → IsNumbered (station_of l) →
-    AreNumbered (map ip.station_of (option_to_list (port_at all l)))
-link_numbered all (link.Ip n k a) numbered = (numbered, tt)
-link_numbered all (link.Bus n m) numbered = tt
-
-both_numbered : {A : Type 0} (xs ys : List (IpPortState A)) → AreNumbered (map ip.station_of xs) →
-    AreNumbered (map ip.station_of ys) → AreNumbered (map ip.station_of (xs ++ ys))
-both_numbered [] ys a b = b
-both_numbered (x ∷ xs) ys a b = (a.0, both_numbered xs ys a.1 b)
+    IsNumbered (site.station_of (port_at all l))
+link_numbered all (link.Ip n k a) numbered = numbered
+link_numbered all (link.Bus n m) numbered = numbered
 
 pub ports_numbered : {A : Type 0} (all : List (Station A)) (ls : List Link) → HaveNumbers ls →
-    AreNumbered (map ip.station_of (ports_at all ls))
+    AreNumbered (map site.station_of (ports_at all ls))
 ports_numbered all [] h = tt
-ports_numbered all (l ∷ ls) h =
-    both_numbered (option_to_list (port_at all l)) (ports_at all ls) (link_numbered all l h.0) (ports_numbered all ls h.1)
+ports_numbered all (l ∷ ls) h = (link_numbered all l h.0, ports_numbered all ls h.1)
 
-pub these_numbered : {A : Type 0} (all : List (Station A)) (ls : List Link) (ports : List (IpPortState A)) →
-    ports ≡ ports_at all ls → HaveNumbers ls → AreNumbered (map ip.station_of ports)
+pub these_numbered : {A : Type 0} (all : List (Station A)) (ls : List Link) (ports : List (SitePort A)) →
+    ports ≡ ports_at all ls → HaveNumbers ls → AreNumbered (map site.station_of ports)
 these_numbered all ls ports e h =
-    subst (λ (xs : List (IpPortState _)). AreNumbered (map ip.station_of xs)) (sym e) (ports_numbered all ls h)
+    subst (λ (xs : List (SitePort _)). AreNumbered (map site.station_of xs)) (sym e) (ports_numbered all ls h)
 
 pub ruleset fit_rules = (relays_fit)
 

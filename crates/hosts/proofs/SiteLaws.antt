@@ -4,8 +4,8 @@ use Rattle.std.specs.List.{AllByRecursion}
 use Rattle.bvll.specs.Address.{address_octets}
 use Rattle.bvll.specs.declared.address.Address.{Address}
 use Rattle.device.specs.Device.{DeviceState, new_device}
-use Rattle.headline_bacnet.specs.Stations.{kind_of}
-use Rattle.headline_device.specs.Devices.{HasNumbers}
+use Rattle.headline_site.specs.headline_bacnet.Stations.{kind_of}
+use Rattle.headline_site.specs.headline_device.Devices.{HasNumbers}
 use Rattle.headline_site.proofs.Placed.{site_has_each, site_is_site}
 use Rattle.headline_site.specs.Fair.{IsNewDevice}
 use Rattle.headline_site.specs.Placed.{AreSound, Placed}

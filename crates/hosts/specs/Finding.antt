@@ -2,14 +2,14 @@
 use Rattle.std.specs.Prelude.{◌≡◌, ℕ, Bool, List, Some, slice_get}
 use Rattle.std.specs.List.{list_any}
 use Rattle.hosts.specs.Stations.{WorldStation}
-use Rattle.link_ip.specs.Port.{IpPortState}
-use Rattle.link_ip.specs.Port as port
+use Rattle.link_site.specs.Port as port
+use Rattle.link_site.specs.declared.port.SitePort.{SitePort}
 use Rattle.npdu.specs.Mac.{same_station}
 use Rattle.npdu.specs.declared.mac.Station.{Station}
 use Rattle.relays.specs.Finding.{place_of}
 
 -- a port is at this address
-abbrev pub is_at : {A : Type 0} → Station → IpPortState A → Bool
+abbrev pub is_at : {A : Type 0} → Station → SitePort A → Bool
 is_at x l = same_station (port.station_of l) x
 
 -- one of a station's ports is

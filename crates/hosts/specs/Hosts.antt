@@ -1,20 +1,20 @@
 -- How each station of a world stands.
 use Rattle.std.specs.Prelude.{◌≡◌, ◌≤◌, ℕ, [], ◌∷◌, Some}
-use Rattle.headline_bacnet.specs.Refined.{ObjectSite}
-use Rattle.headline_device.specs.Devices as device_side
+use Rattle.headline_site.specs.headline_bacnet.Refined.{ObjectSite}
+use Rattle.headline_site.specs.headline_device.Devices as device_side
 use Rattle.hosts.specs.Stations.{WorldStation}
-use Rattle.link_ip.specs.Port.{IpPortState}
-use Rattle.link_ip.specs.Port as ip
+use Rattle.link_site.specs.Port as site
+use Rattle.link_site.specs.declared.port.SitePort.{SitePort}
 use Rattle.site_station.specs.Entity as entity
 use Rattle.site_station.specs.declared.entity.Entity.{Entity}
 use Rattle.site_station.specs.declared.entity.Entity.TheVariants.{Device, Client}
 
 -- a station stands as it must: its one port is where its entity is, and neither has seen a later moment
 pub record IsHost {A : Type 0} (now : ℕ) (s : WorldStation A) : Type 0 where
-  pub port : IpPortState A
+  pub port : SitePort A
   pub one : s.ports ≡ port ∷ []
-  pub place : ip.station_of port ≡ entity.station_of s.entity
-  pub port_before : port.moment ≤ now
+  pub place : site.station_of port ≡ entity.station_of s.entity
+  pub port_before : site.moment_of port ≤ now
   pub entity_before : entity.moment_of s.entity ≤ now
 
 -- an entity is one of the site: a device has the instance that the site has at its station (12.11)

@@ -1,12 +1,12 @@
 -- What is promised of the stations that a site opens with.
 use Rattle.std.specs.Prelude.{◌≡◌, List, [], ◌∷◌, ◌++◌, map}
 use Rattle.std.specs.List.{AllByRecursion}
-use Rattle.headline.specs.Protocol.{IsSite}
-use Rattle.headline_bacnet.specs.Protocol.{bacnet}
-use Rattle.headline_bacnet.specs.Refined.{ObjectSite}
-use Rattle.headline_client.specs.Safe as client_side
-use Rattle.headline_device.specs.Devices as device_side
-use Rattle.headline_device.specs.Devices.{HasNumbers}
+use Rattle.headline_site.specs.headline.Protocol.{IsSite}
+use Rattle.headline_site.specs.headline_bacnet.Protocol.{bacnet}
+use Rattle.headline_site.specs.headline_bacnet.Refined.{ObjectSite}
+use Rattle.headline_site.specs.headline_client.Safe as client_side
+use Rattle.headline_site.specs.headline_device.Devices as device_side
+use Rattle.headline_site.specs.headline_device.Devices.{HasNumbers}
 use Rattle.headline_site.specs.Fair.{IsNewClient, IsNewDevice}
 use Rattle.remembered.specs.Records.{AreDistinct}
 use Rattle.site.specs.Sound.{IsSound}
@@ -14,9 +14,8 @@ use Rattle.site_parts.specs.declared.parts.Parts.{Parts}
 use Rattle.site_station.specs.Entity as entity
 use Rattle.site_views.specs.Views.{addresses_of}
 use Rattle.npdu.specs.declared.mac.Station as npdu
-use Rattle.relays.specs.Laws.{IpRelay, RelayStands, ip_places}
+use Rattle.relays.specs.Laws.{RelayStands, SiteRelay, site_places}
 use Rattle.hosts.specs.Hosts.{IsHost, IsOfSite}
-use Rattle.hosts.specs.Buses.{IsOnIp}
 use Rattle.hosts.specs.Opening.{object_site, opening_relays, opening_stations}
 use Rattle.hosts.specs.Stations.{WorldStation, clients_of, devices_of}
 
@@ -49,11 +48,10 @@ abbrev pub RelaysStand : Type 0 → Type 0
 RelaysStand A = (p : Parts A) → IsSound p → AllByRecursion (RelayStands 0) (opening_relays p)
 
 -- where each relay is, and then where each device and each client is
-abbrev pub places : {A : Type 0} → List (IpRelay A) → List (WorldStation A) → List (List npdu.Station)
-places rs ss = map ip_places rs ++ map (λ s. entity.station_of s.entity ∷ []) ss
+abbrev pub places : {A : Type 0} → List (SiteRelay A) → List (WorldStation A) → List (List npdu.Station)
+places rs ss = map site_places rs ++ map (λ s. entity.station_of s.entity ∷ []) ss
 
--- each part of a site without a bus opens as one relay or one station, at its addresses, in the order of the site: their
--- places agree
+-- each part of a site opens as one relay or one station, at its addresses, in the order of the site: their places agree
 abbrev pub PlacesAgree : Type 0 → Type 0
-PlacesAgree A = (p : Parts A) → IsSound p → IsOnIp p →
+PlacesAgree A = (p : Parts A) → IsSound p →
     places (opening_relays p) (opening_stations p) ≡ map (λ s. addresses_of p.stations s.role) p.stations

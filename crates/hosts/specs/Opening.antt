@@ -1,21 +1,24 @@
 -- How a world opens: the devices of its site, with their objects, and its stations.
-use Rattle.std.specs.Prelude.{List, [], ◌∷◌, map, Option, Some, None, option_map, option_to_list}
+use Rattle.std.specs.Prelude.{Bool, List, [], ◌∷◌, map, Option, Some, None, option_map, option_to_list}
 use Rattle.std.specs.List.{flat_map}
 use Rattle.bbmd_manager.specs.State.{new_manager}
 use Rattle.bbmd_tables.specs.Tables.{others}
 use Rattle.client.specs.Client.{new_client}
 use Rattle.device.specs.Device.{new_device}
-use Rattle.headline_bacnet.specs.Refined.{ObjectSite}
+use Rattle.headline_site.specs.headline_bacnet.Refined.{ObjectSite}
 use Rattle.headline_site.specs.Placed.{Placed, site_of}
 use Rattle.hosts.specs.Stations.{WorldStation}
-use Rattle.link_ip.specs.Port.{IpPortState, new_port}
+use Rattle.link_bus.specs.Port as bus
 use Rattle.link_ip.specs.Port as ip
 use Rattle.link_ip.specs.declared.port.Reach.TheVariants as reach
+use Rattle.link_site.specs.Port as site
+use Rattle.link_site.specs.declared.port.SitePort.{SitePort}
+use Rattle.link_site.specs.declared.port.SitePort.TheVariants as port
 use Rattle.npdu.specs.declared.mac.Station as npdu
 use Rattle.object_model.specs.declared.site.SiteObjects.{SiteObjects}
-use Rattle.profile.specs.declared.link_kind.LinkKind.TheVariants.{BacnetIp}
-use Rattle.relays.specs.Laws.{IpRelay}
+use Rattle.relays.specs.Laws.{SiteRelay}
 use Rattle.relays.specs.declared.relay.Relay.TheVariants as relay
+use Rattle.site_parts.specs.Places.{kind_at}
 use Rattle.site_parts.specs.Roles.{objects_in}
 use Rattle.site_parts.specs.declared.parts.Parts.{Parts}
 use Rattle.site_parts.specs.declared.parts.Station.{Station}
@@ -41,34 +44,38 @@ placed p = map (λ d. record { station = d.station; objects = d.objects }) (devi
 abbrev pub object_site : {A : Type 0} → Parts A → ObjectSite A
 object_site p = site_of (placed p)
 
--- the port at a link, where that is on a subnet: it reaches all members but itself, in their order (J.4.5)
-abbrev pub port_at : {A : Type 0} → List (Station A) → Link → Option (IpPortState A)
+-- the port at a link: on a subnet it reaches all members but itself, in their order (J.4.5), and on a bus its node is as
+-- it is made at the first moment (9.5.6, Initialize)
+abbrev pub port_at : {A : Type 0} → List (Station A) → Link → SitePort A
 port_at all (link.Ip network subnet address) =
-    Some (new_port network address (reach.Members (others address (members (subnet_of network subnet) all))))
-port_at all (link.Bus network mac) = None
+    port.Ip (ip.new_port network address (reach.Members (others address (members (subnet_of network subnet) all))))
+port_at all (link.Bus network mac) = port.Bus (bus.new_port network mac 0)
 
 -- the port of a foreign device on the network of its manager, by which it reaches all of that (J.5)
-abbrev pub foreign_port : {A : Type 0} → Foreign A → Option Link → Option (IpPortState A)
+abbrev pub foreign_port : {A : Type 0} → Foreign A → Option Link → Option (SitePort A)
 foreign_port f None = None
 foreign_port f (Some (link.Ip network subnet address)) =
-    Some (new_port network f.address (reach.Foreign address f.seconds_to_live))
+    Some (port.Ip (ip.new_port network f.address (reach.Foreign address f.seconds_to_live)))
 foreign_port f (Some (link.Bus network mac)) = None
 
 -- the port of a device or a client
-abbrev pub place_port : {A : Type 0} → List (Station A) → Place A → Option (IpPortState A)
-place_port all (place.On l) = port_at all l
+abbrev pub place_port : {A : Type 0} → List (Station A) → Place A → Option (SitePort A)
+place_port all (place.On l) = Some (port_at all l)
 place_port all (place.Beyond f) = foreign_port f (host f.manager all)
 
--- a station with one port, and its entity there
-abbrev pub host_at : {A : Type 0} → (npdu.Station → Entity A) → IpPortState A → WorldStation A
-host_at entity port = record { ports = port ∷ []; entity = entity (ip.station_of port) }
+-- a client at a place that has asked nothing, and takes messages as long as its link does (5.4.4, 6.1)
+abbrev pub client_at : {A : Type 0} → Place A → (segmented : Bool) → npdu.Station → Entity A
+client_at p segmented x = Client (new_client x segmented (longest_apdu (kind_at p)))
 
--- a device has its objects (12), a client has asked nothing (5.4.4); any other station is a relay
+-- a station with one port, and its entity there
+abbrev pub host_at : {A : Type 0} → (npdu.Station → Entity A) → SitePort A → WorldStation A
+host_at entity port = record { ports = port ∷ []; entity = entity (site.station_of port) }
+
+-- a device has its objects (12); any other station than that or a client is a relay
 abbrev pub opens : {A : Type 0} → List (Station A) → Role A → List (WorldStation A)
 opens all (role.Device p objects) =
     option_to_list (option_map (host_at (λ x. Device (new_device objects x))) (place_port all p))
-opens all (role.Client p segmented) =
-    option_to_list (option_map (host_at (λ x. Client (new_client x segmented (longest_apdu BacnetIp)))) (place_port all p))
+opens all (role.Client p segmented) = option_to_list (option_map (host_at (client_at p segmented)) (place_port all p))
 opens all (role.Manager l) = []
 opens all (role.Router ports) = []
 
@@ -77,7 +84,7 @@ abbrev pub opening_stations : {A : Type 0} → Parts A → List (WorldStation A)
 opening_stations p = flat_map (λ s. opens p.stations s.role) p.stations
 
 -- a manager as it opens, on BACnet/IP: with the members of its subnet and the managers of its network (J.4.3)
-abbrev pub manager_at : {A : Type 0} → List (Station A) → Link → List (IpRelay A)
+abbrev pub manager_at : {A : Type 0} → List (Station A) → Link → List (SiteRelay A)
 manager_at all (link.Ip network subnet address) = relay.Manager (record {
   net = network;
   manager = new_manager address (members (subnet_of network subnet) all) (managers network all);
@@ -85,18 +92,18 @@ manager_at all (link.Ip network subnet address) = relay.Manager (record {
 manager_at all (link.Bus network mac) = []
 
 -- the ports of a router
-abbrev pub ports_at : {A : Type 0} → List (Station A) → List Link → List (IpPortState A)
-ports_at all ls = flat_map (λ l. option_to_list (port_at all l)) ls
+abbrev pub ports_at : {A : Type 0} → List (Station A) → List Link → List (SitePort A)
+ports_at all ls = flat_map (λ l. port_at all l ∷ []) ls
 
 -- a manager or a router as it opens: it knows no foreign device, and no route (6.6.2, J.4.3)
-abbrev pub relay_opens : {A : Type 0} → List (Station A) → Role A → List (IpRelay A)
+abbrev pub relay_opens : {A : Type 0} → List (Station A) → Role A → List (SiteRelay A)
 relay_opens all (role.Manager l) = manager_at all l
-relay_opens all (role.Router ls) = relay.Router (new_station ip.station_of (ports_at all ls)) ∷ []
+relay_opens all (role.Router ls) = relay.Router (new_station site.station_of (ports_at all ls)) ∷ []
 relay_opens all (role.Device p objects) = []
 relay_opens all (role.Client p segmented) = []
 
 -- the managers and routers of a site as they open, in its order
-abbrev pub opening_relays : {A : Type 0} → Parts A → List (IpRelay A)
+abbrev pub opening_relays : {A : Type 0} → Parts A → List (SiteRelay A)
 opening_relays p = flat_map (λ s. relay_opens p.stations s.role) p.stations
 
 -- the objects of the device that a station is, if there is one (12)

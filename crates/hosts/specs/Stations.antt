@@ -3,14 +3,14 @@ use Rattle.std.specs.Prelude.{List, [], ◌∷◌}
 use Rattle.std.specs.List.{flat_map}
 use Rattle.client.specs.Client.{ClientState}
 use Rattle.device.specs.Device.{DeviceState}
-use Rattle.link_ip.specs.Port.{IpPortState}
+use Rattle.link_site.specs.declared.port.SitePort.{SitePort}
 use Rattle.site_station.specs.Station.{StationState}
 use Rattle.site_station.specs.declared.entity.Entity.{Entity}
 use Rattle.site_station.specs.declared.entity.Entity.TheVariants.{Device, Client}
 
--- a station of a world: its entity, and its ports on BACnet/IP (J)
+-- a station of a world: its entity, and its ports on BACnet/IP (J) or on buses (9)
 abbrev pub WorldStation : Type 0 → Type 0
-WorldStation A = StationState A (IpPortState A)
+WorldStation A = StationState A (SitePort A)
 
 -- the client that an entity is, if it is one
 abbrev pub client_of : {A : Type 0} → Entity A → List (ClientState A)

@@ -7,7 +7,8 @@ ghost use Rattle.hosts.specs.Finding.{IsHostAt, IsNoHostAt};
 ghost use Rattle.relays.specs.Finding.{place_of};
 
 use crate::stations::WorldStation;
-use link_ip::IpPort;
+use link::Link;
+use link_site::SitePort;
 use npdu::Station;
 use std::alloc::Allocator;
 
@@ -33,14 +34,14 @@ pub fn part_named<A: Allocator>(name: &[u8], stations: &[site_parts::Station<A>]
     None
 }
 
-fn is_at<A: Allocator + Copy>(port: &IpPort<A>, address: Station) -> bool
+fn is_at<A: Allocator + Copy>(port: &SitePort<A>, address: Station) -> bool
     ensures { result ≡ spec.is_at address port.now }
 {
-    port.station() == address
+    SitePort::station(port) == address
 }
 
 /// The place of the first port at this address.
-fn port_at<A: Allocator + Copy>(ports: &[IpPort<A>], address: Station) -> Option<usize>
+fn port_at<A: Allocator + Copy>(ports: &[SitePort<A>], address: Station) -> Option<usize>
     ensures { result ≡ place_of (spec.is_at address) ports.now }
 {
     let mut left = ports;
@@ -56,7 +57,7 @@ fn port_at<A: Allocator + Copy>(ports: &[IpPort<A>], address: Station) -> Option
 }
 
 /// Whether one of these ports is at this address.
-fn is_any_at<A: Allocator + Copy>(ports: &[IpPort<A>], address: Station) -> bool
+fn is_any_at<A: Allocator + Copy>(ports: &[SitePort<A>], address: Station) -> bool
     ensures { result ≡ list_any (spec.is_at address) ports.now }
 {
     let mut left = ports;

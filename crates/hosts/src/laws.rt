@@ -27,7 +27,7 @@ pub fn relays_stand<A: Allocator>()
     ensures { RelaysStand A }
 {}
 
-/// Each part of a sound site without a bus opens as one relay or one station, at its addresses: their places agree.
+/// Each part of a sound site opens as one relay or one station, at its addresses: their places agree.
 pub fn places_agree<A: Allocator>()
     ensures { PlacesAgree A }
 {}

@@ -1,12 +1,12 @@
 //! The stations that a site makes: what a world begins with (ANSI/ASHRAE 135, clauses 5.4, 6.1, 6.6, 12 and J).
 //!
-//! To the layer above it promises: a site without a bus opens with one relay for each manager and router and one station
-//! for each device and client, in its order, each at its addresses, with ports that reach the other members of the subnet
-//! or the manager of a foreign device, and no other site is taken; the devices are a site of the promise, and these
+//! To the layer above it promises: a site opens with one relay for each manager and router and one station for each device
+//! and client, in its order, each at its addresses, with ports that reach the other members of the subnet or the manager
+//! of a foreign device, or whose node on a bus is as it is made; on each bus each of its stations hears; the devices are a site of the promise, and these
 //! stations are all that a fresh world asks of its clients and devices; and a device restarts with the objects that it
 //! opened with.
 //!
-//! - `buses`: whether a station is on a bus.
+//! - `buses`: buses, as they open.
 //! - `ports`: their ports, as they open.
 //! - `stations`: devices and clients, as they open.
 //! - `routing`: managers and routers, as they open.
@@ -23,6 +23,7 @@ mod ports;
 mod routing;
 mod stations;
 
+pub use buses::buses_of;
 pub use finding::{HostFound, host_at, part_named, station_at};
 pub use laws::{devices_are_site, places_agree, relays_stand, stations_are_fresh, stations_stand};
 pub use opening::opening_of;

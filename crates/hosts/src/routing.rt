@@ -9,7 +9,7 @@ ghost use Rattle.site_parts.specs.declared.role.Role.TheVariants as role;
 
 use crate::ports::ports_at;
 use bbmd::Bbmd;
-use link_ip::IpPort;
+use link_site::SitePort;
 use relays::Relay;
 use site::{Site, SubnetId};
 use site_manager::ManagerStation;
@@ -19,8 +19,8 @@ use site_views::{managers, members};
 use std::alloc::{AllocError, Allocator};
 use tags::Fault;
 
-/// A station of a world without an application entity: a router or a broadcast manager, and its ports on BACnet/IP.
-pub type WorldRelay<A> = Relay<IpPort<A>, A>;
+/// A station of a world without an application entity: a router or a broadcast manager, and its ports.
+pub type WorldRelay<A> = Relay<SitePort<A>, A>;
 
 /// The managers and routers of a site as they open, in its order, whose memory will be that of `alloc`. A manager knows
 /// the members of its subnet and the managers of its network, and serves no foreign device (J.4.3); a router knows its

@@ -1,50 +1,45 @@
 //! The devices and clients of a site, as they open.
 
-ghost use Rattle.std.specs.Prelude.{◌≡◌, ◌⊎◌, ◌++◌, ◌∷◌, [], IfOk, IfErr, OnOk};
+ghost use Rattle.std.specs.Prelude.{◌≡◌, ◌++◌, ◌∷◌, [], IfOk, IfErr, OnOk};
 ghost use Rattle.std.specs.List.{flat_map};
 ghost use Rattle.device.specs.Device.{new_device};
-ghost use Rattle.hosts.specs.Buses.{HasBus, IsOnIp};
 ghost use Rattle.hosts.specs.Opening.{opening_stations, opens};
 ghost use Rattle.object_model.specs.Site.{IsSite};
 ghost use Rattle.site.specs.Devices.{AreDevices, IsDeviceIn};
 ghost use Rattle.site.specs.Sound.{IsSound};
 ghost use Rattle.site_parts.specs.declared.role.Role.TheVariants as role;
 
-use crate::buses::on_ip;
 use crate::ports::place_port;
 use client::Client;
 use device::Device;
-use link_ip::IpPort;
+use link::Link;
+use link_site::SitePort;
 use object_model::SiteObjects;
-use profile::LinkKind;
 use site::Site;
 use site_parts::{Place, Role, Station};
 use site_station::{Entity, SiteStation};
 use std::alloc::{AllocError, Allocator};
 use tags::Fault;
 
-/// A station of a world with an application entity: a device or a client, and its ports on BACnet/IP.
-pub type WorldStation<A> = SiteStation<IpPort<A>, A>;
+/// A station of a world with an application entity: a device or a client, and its ports.
+pub type WorldStation<A> = SiteStation<SitePort<A>, A>;
 
 /// The devices and clients of a site as they open, in its order, whose memory will be that of `alloc`. Each has one port,
 /// which reaches the other members of its subnet in the order of the site (J.4.5), or all of its network by the manager
-/// at which it registers (J.5); a device has the objects that the site gives it (12), and a client is bound to no device
+/// at which it registers (J.5), or is on a bus, where its node has not yet heard anything (9.5.6); a device has the objects that the site gives it (12), and a client is bound to no device
 /// and has asked nothing (5.4.4).
 ///
 /// # Errors
-/// `BadSite` for a site with a station on a bus; or `Memory`.
+/// `Memory` alone.
 #[tactic(auto, using(crate::proofs::MakingLaws::making_rules))]
 pub fn stations_of<A: Allocator + Copy>(
     alloc: A,
     site: &Site<A>,
 ) -> Result<Vec<WorldStation<A>, A>, Fault>
     ensures stations { IfOk result (λ all. all.items ≡ opening_stations site.now) }
-    ensures on_ip { OnOk result (IsOnIp site.now) }
     ensures sound { OnOk result (IsSound site.now) }
-    ensures cause { IfErr result (λ fault. (fault ≡ Fault.Memory) ⊎
-        ((fault ≡ Fault.BadSite) × HasBus site.now)) }
+    ensures cause { IfErr result (λ fault. fault ≡ Fault.Memory) }
 {
-    on_ip(site)?;
     let stations = site.stations();
     let opened = opened(alloc, stations, stations)?;
     Ok(opened)
@@ -90,7 +85,7 @@ fn put_opening<A: Allocator + Copy>(
     }
 }
 
-/// Puts a device as it opens with these objects behind other stations, where it is on BACnet/IP.
+/// Puts a device as it opens with these objects behind other stations, where it has a port.
 #[tactic(auto, using(crate::proofs::MakingLaws::opening_rules))]
 fn put_device<A: Allocator + Copy>(
     out: &mut Vec<WorldStation<A>, A>,
@@ -106,12 +101,12 @@ fn put_device<A: Allocator + Copy>(
     let Some(port) = place_port(alloc, all, place)? else {
         return Ok(());
     };
-    let device = device_at(alloc, port.station(), objects)?;
+    let device = device_at(alloc, SitePort::station(&port), objects)?;
     put_station(out, alloc, port, Entity::Device(device))?;
     Ok(())
 }
 
-/// Puts a client as it opens behind other stations, where it is on BACnet/IP.
+/// Puts a client as it opens behind other stations, where it has a port.
 #[tactic(auto, using(crate::proofs::MakingLaws::opening_rules))]
 fn put_client<A: Allocator + Copy>(
     out: &mut Vec<WorldStation<A>, A>,
@@ -125,7 +120,8 @@ fn put_client<A: Allocator + Copy>(
     let Some(port) = place_port(alloc, all, place)? else {
         return Ok(());
     };
-    let client = Client::new(alloc, port.station(), segmented, LinkKind::BacnetIp);
+    let kind = place.link_kind();
+    let client = Client::new(alloc, SitePort::station(&port), segmented, kind);
     put_station(out, alloc, port, Entity::Client(client))?;
     Ok(())
 }
@@ -149,7 +145,7 @@ fn device_at<A: Allocator + Copy>(
 fn put_station<A: Allocator + Copy>(
     out: &mut Vec<WorldStation<A>, A>,
     alloc: A,
-    port: IpPort<A>,
+    port: SitePort<A>,
     entity: Entity<A>,
 ) -> Result<(), AllocError>
     ensures { OnOk result

@@ -1,13 +1,14 @@
 -- What a station did is what it planned, and all grew by what came of it.
-use Rattle.std.proofs.Common.{◌≡◌, ◌∙◌, refl, sym, ap, subst, ℕ, zero, suc, arith, ◌<◌, List, [], ◌∷◌, ◌++◌, length, Option, Some, None, Result, Ok, Err, OnOk, OnErr}
+use Rattle.std.proofs.Common.{◌≡◌, ◌∙◌, refl, sym, ap, subst, ℕ, zero, suc, List, [], ◌∷◌, ◌++◌, length, Option, Some, Result, Ok, Err, OnOk, OnErr}
 use Rattle.std.proofs.lemmas.List.{map-append}
 use Rattle.std.specs.Prelude.{option_to_list, slice_get, slice_set}
-use Rattle.carry_world.specs.PlainWorld as plain_world
+use Rattle.buses.specs.Puts.{BusesState, put_on}
 use Rattle.history.specs.declared.Entry.{Entry}
-use Rattle.hosts.specs.Hosts.{IsHost}
-use Rattle.hosts.specs.Stations.{WorldStation}
-use Rattle.inside.specs.Inside.{AreInside, Said}
-use Rattle.link_ip.specs.Port.{IpPortState}
+use Rattle.plans.specs.hosts.Hosts.{IsHost}
+use Rattle.plans.specs.hosts.Stations.{WorldStation}
+use Rattle.inside.specs.Inside.{AreInside}
+use Rattle.link_site.specs.Port.{station_of}
+use Rattle.link_site.specs.declared.port.SitePort.{SitePort}
 use Rattle.npdu.specs.declared.mac.Station.{Station}
 use Rattle.primitives.specs.declared.plain_data.Reply.{Reply}
 use Rattle.primitives.specs.declared.plain_data.Request.{Request}
@@ -16,14 +17,16 @@ use Rattle.site_station.specs.Entity as entity
 use Rattle.site_station.specs.Station.{left_by, told_by}
 use Rattle.site_station.specs.declared.entity.EntityTold.{EntityTold}
 use Rattle.site_station.specs.declared.station.StationPlan.{StationPlan}
+use Rattle.traffic.specs.declared.frame.FramePut.{FramePut}
 use Rattle.traffic.specs.declared.item.Item.{Item}
 use Rattle.chronicle.specs.Chronicle.{IsGrown, IsSame, IsTold}
 use Rattle.internetwork.proofs.Standing.{steady_set}
-use Rattle.internetwork.specs.Doing.{AtPlace, IsDone, MayBeDone, Tells}
-use Rattle.relays.specs.Laws.{IpRelay, RelayStands}
+use Rattle.plans.specs.Plans.{MayBeDone}
+use Rattle.internetwork.specs.Doing.{AtPlace, IsDone, Tells}
+use Rattle.relays.specs.Laws.{SiteRelay}
 use Rattle.internetwork.specs.Laws.{ArePassing, AreSteady}
 use Rattle.chronicle.specs.Kept.{all_keys, all_said, key_of, said_of}
-use Rattle.chronicle.specs.Growing.{AreFromMacs, items_of, told_in}
+use Rattle.chronicle.specs.Growing.{AreFromMacs, frames_of, items_of, told_in}
 use Rattle.chronicle.specs.Growing.{WorldHistory}
 use Rattle.internetwork.specs.World.{WorldState}
 use Rattle.chronicle.specs.declared.chronicle.Chronicle.{Chronicle}
@@ -37,12 +40,12 @@ all_said_both xs ys = map-append (λ m. said_of m) xs ys
 all_keys_both : (xs ys : List kept.Key) → all_keys (xs ++ ys) ≡ all_keys xs ++ all_keys ys
 all_keys_both xs ys = map-append (λ k. key_of k) xs ys
 
-module _ {A : Type 0} (now : ℕ) (plan : StationPlan (IpPortState A) A) (key : Option kept.Key)
+module _ {A : Type 0} (now : ℕ) (plan : StationPlan (SitePort A) A) (key : Option kept.Key)
     (entry : Option (Entry Station (Request A) (Reply A))) (s : WorldStation A) where
   -- room was taken, all grew, and it was told
   pub tells_so : (c0 c1 c2 c3 : Chronicle A) (g : Growth A) (x : Station) (told : EntityTold A) →
       x ≡ entity.station_of s.entity → IsSame c0 c1 → IsGrown g c1 c2 → IsTold x now told c2 c3 →
-      g.items.items ≡ items_of now s.ports (told_by plan).out → AreFromMacs g.items.items →
+      g.items.items ≡ items_of station_of now s.ports (told_by plan).out → AreFromMacs g.items.items →
       AreInside x.net (told_by plan).told.said (all_said g.said.items) → g.key ≡ key → g.entry ≡ entry →
       told ≡ (told_by plan).told → Tells now plan key entry s c0 c3
   tells_so c0 c1 c2 c3 g x told at same grown tells items from insides of_key of_entry is =
@@ -73,31 +76,46 @@ module _ {A : Type 0} (now : ℕ) (plan : StationPlan (IpPortState A) A) (key : 
             told_in (entity.station_of s.entity) now (all_keys c3.keys.items) (told_by plan).told h) kept_history;
       }
 
+-- what was to go out on the buses went out, behind so many items
+pub puts_so : {A : Type 0} (now n m : ℕ) (fs gs : List (FramePut A)) (b0 b1 b2 : BusesState A) → b1 ≡ b0 → n ≡ m →
+    fs ≡ gs → b2 ≡ put_on now n fs b1 → b2 ≡ put_on now m gs b0
+puts_so {A} now n m fs gs b0 b1 b2 same count frames put =
+    put ∙ ap (λ (b : BusesState A). put_on now n fs b) same ∙ ap (λ (k : ℕ). put_on now k fs b0) count
+    ∙ ap (λ (hs : List (FramePut A)). put_on now m hs b0) frames
+
 -- items in front of others, from link addresses as well
 pub from_both : {A : Type 0} (xs ys : List (Item A)) → AreFromMacs xs → AreFromMacs ys → AreFromMacs (xs ++ ys)
 from_both [] ys a b = b
 from_both (x ∷ xs) ys a b = (a.0, from_both xs ys a.1 b)
 
 -- an internetwork as it is seen
-abbrev pub seen : {A : Type 0} → Parts A → ℕ → List (IpRelay A) → List (WorldStation A) → Chronicle A → WorldState A
-seen site moment relays stations c = record {
+abbrev pub seen : {A : Type 0} → Parts A → ℕ → List (SiteRelay A) → List (WorldStation A) → Chronicle A → BusesState A →
+    WorldState A
+seen site moment relays stations c buses = record {
   site = site;
   moment = moment;
   relays = relays;
   stations = stations;
   items = c.items.items;
+  buses = buses;
   keys = all_keys c.keys.items;
   history = c.history.items;
   said = all_said c.said.items;
 }
 
+-- what a station puts out by a plan goes out on the buses
+abbrev pub PutsOn : {A : Type 0} → (now : ℕ) → StationPlan (SitePort A) A → WorldStation A → Chronicle A →
+    (old new : BusesState A) → Type 0
+PutsOn now plan s c old new = new ≡ put_on now (length c.items.items) (frames_of station_of s.ports plan.out) old
+
 -- the station at a place did so
-pub done_so : {A : Type 0} (site : Parts A) (moment : ℕ) (rs : List (IpRelay A)) (ss : List (WorldStation A)) (c0 c1 : Chronicle A) (place : ℕ)
-    (s next : WorldStation A) (plan : StationPlan (IpPortState A) A) (key : Option kept.Key)
-    (entry : Option (Entry Station (Request A) (Reply A))) → slice_get ss place ≡ Some s → next ≡ left_by moment plan s →
-    Tells moment plan key entry s c0 c1 →
-    IsDone (seen site moment rs ss c0) (seen site moment rs (slice_set ss place next) c1) place plan key entry s
-done_so {A} site moment rs ss c0 c1 place s next plan key entry there left tells = record {
+pub done_so : {A : Type 0} (site : Parts A) (moment : ℕ) (rs : List (SiteRelay A)) (ss : List (WorldStation A))
+    (c0 c1 : Chronicle A) (b0 b1 : BusesState A) (place : ℕ) (s next : WorldStation A)
+    (plan : StationPlan (SitePort A) A) (key : Option kept.Key) (entry : Option (Entry Station (Request A) (Reply A))) →
+    slice_get ss place ≡ Some s → next ≡ left_by moment plan s → Tells moment plan key entry s c0 c1 →
+    PutsOn moment plan s c0 b0 b1 →
+    IsDone (seen site moment rs ss c0 b0) (seen site moment rs (slice_set ss place next) c1 b1) place plan key entry s
+done_so {A} site moment rs ss c0 c1 b0 b1 place s next plan key entry there left tells puts = record {
   acts = record {
     there = there;
     fresh = tells.fresh;
@@ -107,6 +125,7 @@ done_so {A} site moment rs ss c0 c1 place s next plan key entry there left tells
     relays = refl;
     stations = ap (λ (x : WorldStation A). slice_set ss place x) left;
     items_are = tells.items;
+    buses_are = puts;
     said = tells.said;
   };
   keys = tells.keys;
@@ -114,17 +133,22 @@ done_so {A} site moment rs ss c0 c1 place s next plan key entry there left tells
 }
 
 -- what is kept is seen the same
-pub same_seen : {A : Type 0} (site : Parts A) (moment : ℕ) (rs : List (IpRelay A)) (ss : List (WorldStation A)) (c0 c1 : Chronicle A) →
-    IsSame c0 c1 → seen site moment rs ss c1 ≡ seen site moment rs ss c0
-same_seen {A} site moment rs ss c0 c1 same =
-    ap (λ (is : List (Item A)). record (seen site moment rs ss c1) { items = is }) same.items
-    ∙ ap (λ (ks : List kept.Key). record (seen site moment rs ss c1) { items = c0.items.items; keys = all_keys ks }) same.keys
-    ∙ ap (λ (h : WorldHistory A). record (seen site moment rs ss c1) {
+pub same_seen : {A : Type 0} (site : Parts A) (moment : ℕ) (rs : List (SiteRelay A)) (ss : List (WorldStation A))
+    (c0 c1 : Chronicle A) (b0 b1 : BusesState A) → IsSame c0 c1 → b1 ≡ b0 →
+    seen site moment rs ss c1 b1 ≡ seen site moment rs ss c0 b0
+same_seen {A} site moment rs ss c0 c1 b0 b1 same quiet =
+    ap (λ (b : BusesState A). seen site moment rs ss c1 b) quiet
+    ∙ ap (λ (is : List (Item A)). record (seen site moment rs ss c1 b0) { items = is }) same.items
+    ∙ ap (λ (ks : List kept.Key). record (seen site moment rs ss c1 b0) {
+      items = c0.items.items;
+      keys = all_keys ks;
+    }) same.keys
+    ∙ ap (λ (h : WorldHistory A). record (seen site moment rs ss c1 b0) {
       items = c0.items.items;
       keys = all_keys c0.keys.items;
       history = h;
     }) same.history
-    ∙ ap (λ (ms : List (SaidMessage A)). record (seen site moment rs ss c0) { said = all_said ms }) same.said
+    ∙ ap (λ (ms : List (SaidMessage A)). record (seen site moment rs ss c0 b0) { said = all_said ms }) same.said
 
 -- one put where it was changes nothing
 pub set_same : {X : Type 0} (xs : List X) (n : ℕ) (x : X) → slice_get xs n ≡ Some x → slice_set xs n x ≡ xs
@@ -132,8 +156,8 @@ set_same [] n x e = refl
 set_same (y ∷ ys) zero x e = ap (λ (z : _). z ∷ ys) (let s : x ≡ y = cc in s)
 set_same (y ∷ ys) (suc n) x e = ap (λ (zs : List _). y ∷ zs) (set_same ys n x e)
 
-module _ {A R E : Type 0} (r : Result R E) (site : Parts A) (moment : ℕ) (rs : List (IpRelay A))
-    (ss : List (WorldStation A)) (place : ℕ) (s x : WorldStation A) (plan : StationPlan (IpPortState A) A) (there : slice_get ss place ≡ Some s) where
+module _ {A R E : Type 0} (r : Result R E) (site : Parts A) (moment : ℕ) (rs : List (SiteRelay A))
+    (ss : List (WorldStation A)) (place : ℕ) (s x : WorldStation A) (plan : StationPlan (SitePort A) A) (there : slice_get ss place ≡ Some s) where
   -- the stations are steady, whether it was done or refused
   pub steady_act : OnOk r (x ≡ left_by moment plan s) → OnErr r (x ≡ s) → AreSteady site moment ss →
       MayBeDone moment plan s → AreSteady site moment (slice_set ss place x)
@@ -158,41 +182,41 @@ module _ {A R E : Type 0} (r : Result R E) (site : Parts A) (moment : ℕ) (rs :
       by_result (Ok u) tells kept = record {
         relays = steady.relays;
         from = subst (λ (is : List (Item A)). AreFromMacs is) (sym tells.items)
-            (from_both c0.items.items (items_of moment s.ports (told_by plan).out) steady.from tells.from);
+            (from_both c0.items.items (items_of station_of moment s.ports (told_by plan).out) steady.from tells.from);
       }
       by_result (Err e) tells kept = record {
         relays = steady.relays;
         from = subst (λ (is : List (Item A)). AreFromMacs is) (sym kept.items) steady.from;
       }
 
-  module _ (w : WorldState A) (c0 c1 : Chronicle A) (view : seen site moment rs ss c0 ≡ w) where
+  module _ (w : WorldState A) (c0 c1 : Chronicle A) (b0 b1 : BusesState A) (view : seen site moment rs ss c0 b0 ≡ w) where
     -- it was done
     pub done_act : (key : Option kept.Key) (entry : Option (Entry Station (Request A) (Reply A))) →
         OnOk r (x ≡ left_by moment plan s) → OnOk r (Tells moment plan key entry s c0 c1) →
-        OnOk r (AtPlace place w.stations
-        (IsDone w (seen site moment rs (slice_set ss place x) c1) place plan key entry))
-    done_act key entry left tells = by_result r left tells
+        OnOk r (PutsOn moment plan s c0 b0 b1) → OnOk r (AtPlace place w.stations
+        (IsDone w (seen site moment rs (slice_set ss place x) c1 b1) place plan key entry))
+    done_act key entry left tells puts = by_result r left tells puts
       where
         by_result : (q : Result R E) → OnOk q (x ≡ left_by moment plan s) → OnOk q (Tells moment plan key entry s c0 c1) →
-            OnOk q (AtPlace place w.stations
-            (IsDone w (seen site moment rs (slice_set ss place x) c1) place plan key entry))
-        by_result (Ok u) left tells = subst (λ (z : WorldState A). AtPlace place z.stations
-            (IsDone z (seen site moment rs (slice_set ss place x) c1) place plan key entry)) view (record {
+            OnOk q (PutsOn moment plan s c0 b0 b1) → OnOk q (AtPlace place w.stations
+            (IsDone w (seen site moment rs (slice_set ss place x) c1 b1) place plan key entry))
+        by_result (Ok u) left tells puts = subst (λ (z : WorldState A). AtPlace place z.stations
+            (IsDone z (seen site moment rs (slice_set ss place x) c1 b1) place plan key entry)) view (record {
               one = s;
               there = there;
-              holds = done_so site moment rs ss c0 c1 place s x plan key entry there left tells;
+              holds = done_so site moment rs ss c0 c1 b0 b1 place s x plan key entry there left tells puts;
             })
-        by_result (Err e) left tells = tt
+        by_result (Err e) left tells puts = tt
 
     -- or refused, and nothing changed
-    pub unchanged_act : OnErr r (x ≡ s) → OnErr r (IsSame c0 c1) →
-        OnErr r (seen site moment rs (slice_set ss place x) c1 ≡ w)
-    unchanged_act same kept = by_result r same kept
+    pub unchanged_act : OnErr r (x ≡ s) → OnErr r (IsSame c0 c1) → OnErr r (b1 ≡ b0) →
+        OnErr r (seen site moment rs (slice_set ss place x) c1 b1 ≡ w)
+    unchanged_act same kept quiet = by_result r same kept quiet
       where
-        by_result : (q : Result R E) → OnErr q (x ≡ s) → OnErr q (IsSame c0 c1) →
-            OnErr q (seen site moment rs (slice_set ss place x) c1 ≡ w)
-        by_result (Ok u) same kept = tt
-        by_result (Err e) same kept =
-            ap (λ (y : WorldStation A). seen site moment rs (slice_set ss place y) c1) same
-            ∙ ap (λ (xs : List (WorldStation A)). seen site moment rs xs c1) (set_same ss place s there)
-            ∙ same_seen site moment rs ss c0 c1 kept ∙ view
+        by_result : (q : Result R E) → OnErr q (x ≡ s) → OnErr q (IsSame c0 c1) → OnErr q (b1 ≡ b0) →
+            OnErr q (seen site moment rs (slice_set ss place x) c1 b1 ≡ w)
+        by_result (Ok u) same kept quiet = tt
+        by_result (Err e) same kept quiet =
+            ap (λ (y : WorldStation A). seen site moment rs (slice_set ss place y) c1 b1) same
+            ∙ ap (λ (xs : List (WorldStation A)). seen site moment rs xs c1 b1) (set_same ss place s there)
+            ∙ same_seen site moment rs ss c0 c1 b0 b1 kept quiet ∙ view

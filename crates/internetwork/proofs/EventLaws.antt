@@ -1,25 +1,26 @@
 -- What an event leaves, put together of the station that was found, of what it planned, and of what was done.
 use Rattle.std.proofs.Common.{◌≡◌, ◌∙◌, ◌⊎◌, inl, inr, refl, sym, ap, subst, arith, ℕ, zero, suc, ◌<◌, true, false, List, [], ◌∷◌, ◌++◌, length, Option, Some, None, Result, Ok, Err, IfErr, IfOk, OnOk, append-nil}
 use Rattle.std.proofs.lemmas.Option.{slice_get_read}
-use Rattle.std.specs.Prelude.{IfNone, is_some, option_to_list, slice_get, slice_index_or, slice_set}
+use Rattle.std.specs.Prelude.{IfNone, is_some, slice_get, slice_index_or, slice_set}
 use Rattle.apdu.specs.declared.unconfirmed.Limits.{Limits}
-use Rattle.carry_world.specs.PlainWorld as plain_world
+use Rattle.buses.specs.Puts.{BusesState, put_on}
+use Rattle.chronicle.specs.carry_world.PlainWorld as plain_world
 use Rattle.history.specs.declared.Entry.{Entry}
 use Rattle.history.specs.declared.Entry.TheVariants.{Issue}
-use Rattle.link_ip.specs.Hearing as ip_hearing
-use Rattle.link_ip.specs.Port as port
-use Rattle.link_ip.specs.Port.{IpPortState}
-use Rattle.link_ip.specs.Steps as ip
+use Rattle.link_site.specs.Port as port
+use Rattle.link_site.specs.Steps as site
+use Rattle.link_site.specs.declared.port.SitePort.{SitePort}
 use Rattle.headline_bacnet.specs.Refined.{ObjectSite}
-use Rattle.hosts.specs.Hosts.{IsOfSite}
-use Rattle.hosts.specs.Opening.{object_site}
+use Rattle.plans.specs.hosts.Hosts.{IsOfSite}
+use Rattle.plans.specs.hosts.Opening.{object_site}
+use Rattle.link_ports.specs.declared.ports.PortSent.{PortSent}
 use Rattle.npdu.specs.declared.mac.Station.{Station}
 use Rattle.object_model.specs.Objects.{PlainTable}
 use Rattle.primitives.specs.declared.plain_data.Reply.{Reply}
 use Rattle.primitives.specs.declared.plain_data.Request.{Request}
 use Rattle.site_station.specs.Entity as entity
 use Rattle.site_station.specs.Entity.{EntityAsks, EntityIssues, EntityRestarts, IsClient, IsDevice, says, silence}
-use Rattle.site_station.specs.Station.{AskingIsRefused, HearingIsRefused, IssueIsRefused, StationAsks, StationHears, StationIssues, StationRegisters, StationRestarts, StationWakes, left_by, told_by}
+use Rattle.site_station.specs.Station.{HearingIsRefused, StationAsks, StationHears, StationIssues, StationRegisters, StationRestarts, StationWakes, left_by, told_by}
 use Rattle.site_station.specs.declared.entity.Entity.{Entity}
 use Rattle.site_station.specs.declared.entity.Entity.TheVariants.{Client, Device}
 use Rattle.site_station.specs.declared.entity.EntityTold.{EntityTold}
@@ -28,20 +29,21 @@ use Rattle.tags.specs.declared.fault.Fault.{Fault}
 use Rattle.tags.specs.declared.fault.Fault.TheVariants.{Expired, Memory, NoSuch}
 use Rattle.traffic.specs.Seeking.{is_young}
 use Rattle.traffic.specs.declared.item.Item.{Item}
-use Rattle.internetwork.specs.Doing.{AtPlace, IsDone, MayBeDone}
-use Rattle.hosts.specs.Finding.{IsNoHostAt}
-use Rattle.relays.specs.Laws.{IpRelay, ip_places}
+use Rattle.plans.specs.Plans.{MayBeDone, WakeIsTooLong}
+use Rattle.internetwork.specs.Doing.{AtPlace, IsDone}
+use Rattle.plans.specs.hosts.Finding.{IsNoHostAt}
+use Rattle.relays.specs.Laws.{SiteRelay, site_places}
 use Rattle.relays.specs.Refusals as refusing
 use Rattle.relays.specs.Relay as passing
 use Rattle.relays.specs.Steps.{RelayHears, RelayWakes}
 use Rattle.relays.specs.declared.plan.RelayPlan.{RelayPlan}
 use Rattle.internetwork.specs.Passing.{HasPassed}
 use Rattle.internetwork.specs.Finding.{IsAddressee, IsNamed, IsNoRelay, IsNobody, IsRelayAddressee, IsRelayNamed, addressee_of}
-use Rattle.chronicle.specs.Kept.{all_keys}
-use Rattle.internetwork.specs.Refusals.{GoesToNoRelay, IsNowhere, IsRefused, IsTooOld, RefusesItem, RefusesNamed, RefusesWake, WakeIsTooLong, places_of}
-use Rattle.chronicle.specs.Growing.{items_at, items_of, told_in}
-use Rattle.internetwork.specs.Step.{Acts, Asks, Delivers, DeliversToRelay, Issues, Registers, RelayWakesUp, Restarts, Wakes, delivered, restarted}
-use Rattle.hosts.specs.Stations.{WorldStation}
+use Rattle.internetwork.specs.Refusals.{GoesToNoRelay, IsNowhere, IsRefused, IsTooOld, RefusesNamed, RefusesWake}
+use Rattle.chronicle.specs.Growing.{frames_at, frames_of, items_at, items_of, told_in}
+use Rattle.internetwork.specs.Acting.{Acts}
+use Rattle.internetwork.specs.Step.{Asks, Delivers, DeliversToRelay, Issues, Registers, RelayWakesUp, Restarts, Wakes, deafened, delivered, restarted}
+use Rattle.plans.specs.hosts.Stations.{WorldStation}
 use Rattle.chronicle.specs.Growing.{WorldHistory}
 use Rattle.internetwork.specs.World.{WorldState}
 use Rattle.internetwork.specs.declared.event.Event.TheVariants as event
@@ -60,7 +62,7 @@ pub the_one : {X : Type 0} (P : X → Type 0) (place : ℕ) (xs : List X) (x : X
     AtPlace place xs P → P x
 the_one {X} P place xs x e at = subst (λ (y : X). P y) (some_same at.one x (sym at.there ∙ e)) at.holds
 
-module _ {A : Type 0} (w v : WorldState A) (place : ℕ) (s : WorldStation A) (plan : StationPlan (IpPortState A) A)
+module _ {A : Type 0} (w v : WorldState A) (place : ℕ) (s : WorldStation A) (plan : StationPlan (SitePort A) A)
     (there : slice_get w.stations place ≡ Some s) where
   -- what it planned may be done
   pub may_at : (now : ℕ) → now ≡ w.moment → MayBeDone now plan s → AtPlace place w.stations (MayBeDone w.moment plan)
@@ -72,7 +74,7 @@ module _ {A : Type 0} (w v : WorldState A) (place : ℕ) (s : WorldStation A) (p
 
   -- where neither an issue nor a restart was told
   pub record Quiet : Type 0 where
-    pub acts : Acts w v place s (left_by w.moment plan s) (told_by plan) w.items
+    pub acts : Acts w v place s (left_by w.moment plan s) (told_by plan) w.items w.buses
     pub keys : v.keys ≡ w.keys
     pub history : v.history ≡ told_in (entity.station_of s.entity) w.moment w.keys (told_by plan).told w.history
 
@@ -91,8 +93,8 @@ module _ {A : Type 0} (w v : WorldState A) (place : ℕ) (s : WorldStation A) (p
 
 -- a station woke
 pub wakes_done : {A : Type 0} (name : List ℕ) (w v : WorldState A) (place : ℕ) (s : WorldStation A)
-    (plan : StationPlan (IpPortState A) A) (now : ℕ) → now ≡ w.moment → IsNamed name w place s →
-    StationWakes ip.is_due ip.Idles ip.Downs now s (told_by plan) (left_by now plan s) →
+    (plan : StationPlan (SitePort A) A) (now : ℕ) → now ≡ w.moment → IsNamed name w place s →
+    StationWakes site.is_due site.Wakes site.Downs now s (told_by plan) (left_by now plan s) →
     AtPlace place w.stations (IsDone w v place plan None None) → Wakes name w v
 wakes_done name w v place s plan now e named woke done =
     let q = quietly w v place s plan named.there done in record {
@@ -101,14 +103,14 @@ wakes_done name w v place s plan now e named woke done =
       next = left_by w.moment plan s;
       told = told_by plan;
       named = named;
-      wakes = subst (λ (m : ℕ). StationWakes ip.is_due ip.Idles ip.Downs m s (told_by plan) (left_by m plan s)) e woke;
+      wakes = subst (λ (m : ℕ). StationWakes site.is_due site.Wakes site.Downs m s (told_by plan) (left_by m plan s)) e woke;
       acts = q.acts;
       keys = q.keys;
       history = q.history;
     }
 
 -- a client asked who is there: nothing is told of it
-nothing_told : {A : Type 0} (x : Station) (now : ℕ) (keys : List plain_world.Key) (t : EntityTold A)
+pub nothing_told : {A : Type 0} (x : Station) (now : ℕ) (keys : List plain_world.Key) (t : EntityTold A)
     (h : WorldHistory A) → t ≡ says t.said → told_in x now keys t h ≡ h
 nothing_told x now keys t h e = ap (λ (u : EntityTold _). told_in x now keys u h) e
 
@@ -118,13 +120,13 @@ asking_says now limits (Client c) f t of = of.0 ∙ ap (λ (u : EntityTold _). s
 asking_says now limits (Device d) f t of = absurd of
 
 pub asks_done : {A : Type 0} (name : List ℕ) (limits : Option Limits) (w v : WorldState A) (place : ℕ)
-    (s : WorldStation A) (plan : StationPlan (IpPortState A) A) (now : ℕ) → now ≡ w.moment → IsNamed name w place s →
-    StationAsks ip.Downs now limits s (told_by plan) (left_by now plan s) →
+    (s : WorldStation A) (plan : StationPlan (SitePort A) A) (now : ℕ) → now ≡ w.moment → IsNamed name w place s →
+    StationAsks site.Downs now limits s (told_by plan) (left_by now plan s) →
     AtPlace place w.stations (IsDone w v place plan None None) → Asks name limits w v
 asks_done name limits w v place s plan now e named asked done =
     let q = quietly w v place s plan named.there done in
-    let asks : StationAsks ip.Downs w.moment limits s (told_by plan) (left_by w.moment plan s) =
-    subst (λ (m : ℕ). StationAsks ip.Downs m limits s (told_by plan) (left_by m plan s)) e asked in record {
+    let asks : StationAsks site.Downs w.moment limits s (told_by plan) (left_by w.moment plan s) =
+    subst (λ (m : ℕ). StationAsks site.Downs m limits s (told_by plan) (left_by m plan s)) e asked in record {
       place = place;
       s = s;
       next = left_by w.moment plan s;
@@ -145,15 +147,15 @@ issuing_says now instance request (Client c) (Device f) id t of = absurd of
 issuing_says now instance request (Device d) f id t of = absurd of
 
 pub issues_done : {A : Type 0} (name : List ℕ) (instance : ℕ) (request : Request A) (w v : WorldState A) (place : ℕ)
-    (s : WorldStation A) (plan : StationPlan (IpPortState A) A) (now id : ℕ) (key : kept.Key)
+    (s : WorldStation A) (plan : StationPlan (SitePort A) A) (now id : ℕ) (key : kept.Key)
     (entry : Entry Station (Request A) (Reply A)) → now ≡ w.moment → key.client ≡ entity.station_of s.entity →
     key.invoke_id ≡ id → entry ≡ Issue (length w.keys) key.client instance request w.moment → IsNamed name w place s →
-    StationIssues ip.Downs now instance request id s (told_by plan) (left_by now plan s) →
+    StationIssues site.Downs now instance request id s (told_by plan) (left_by now plan s) →
     AtPlace place w.stations (IsDone w v place plan (Some key) (Some entry)) → Issues name instance request w v
 issues_done {A} name instance request w v place s plan now id key entry e at of_id is named issued done =
     let d = the_one (IsDone w v place plan (Some key) (Some entry)) place w.stations s named.there done in
-    let issues : StationIssues ip.Downs w.moment instance request id s (told_by plan) (left_by w.moment plan s) =
-    subst (λ (m : ℕ). StationIssues ip.Downs m instance request id s (told_by plan) (left_by m plan s)) e issued in
+    let issues : StationIssues site.Downs w.moment instance request id s (told_by plan) (left_by w.moment plan s) =
+    subst (λ (m : ℕ). StationIssues site.Downs m instance request id s (told_by plan) (left_by m plan s)) e issued in
     let told = issuing_says w.moment instance request s.entity (left_by w.moment plan s).entity id (told_by plan).told
     issues.says.does in record {
       place = place;
@@ -202,14 +204,14 @@ before_end (y ∷ ys) (suc n) x e = let rest = before_end ys n x e in omega (ari
 
 -- an item was handed to its addressee, and is marked
 pub delivers_done : {A : Type 0} (number : ℕ) (w u v : WorldState A) (item : Item A) (place p : ℕ) (s : WorldStation A)
-    (plan : StationPlan (IpPortState A) A) (now : ℕ) → now ≡ w.moment → slice_get w.items number ≡ Some item →
+    (plan : StationPlan (SitePort A) A) (now : ℕ) → now ≡ w.moment → slice_get w.items number ≡ Some item →
     IsAddressee (addressee_of item) w place p s → is_young w.moment item ≡ true →
-    StationHears ip.Hears ip.Downs now p item.from item.octets item.stamp s (told_by plan) (left_by now plan s) →
+    StationHears site.Hears site.Downs now p item.from item.octets item.stamp s (told_by plan) (left_by now plan s) →
     AtPlace place w.stations (IsDone w u place plan None None) →
     AtPlace number u.items (λ i. v ≡ record u { items = delivered number i u.items }) → Delivers number w v
 delivers_done {A} number w u v item place p s plan now e there addressee young heard done marked =
     let q = quietly w u place s plan addressee.there done in
-    let fresh = items_of w.moment s.ports (told_by plan).out in
+    let fresh = items_of port.station_of w.moment s.ports (told_by plan).out in
     let still : slice_get u.items number ≡ Some item =
     ap (λ (is : List (Item A)). slice_get is number) q.acts.items_are ∙ get_front w.items fresh number item there in
     let is = the_one (λ i. v ≡ record u { items = delivered number i u.items }) number u.items item still marked in
@@ -224,7 +226,7 @@ delivers_done {A} number w u v item place p s plan now e there addressee young h
       addressee = addressee;
       young = young;
       hears = subst (λ (m : ℕ).
-          StationHears ip.Hears ip.Downs m p item.from item.octets item.stamp s (told_by plan) (left_by m plan s)) e heard;
+          StationHears site.Hears site.Downs m p item.from item.octets item.stamp s (told_by plan) (left_by m plan s)) e heard;
       acts = record {
         there = q.acts.there;
         fresh = q.acts.fresh;
@@ -235,6 +237,7 @@ delivers_done {A} number w u v item place p s plan now e there addressee young h
         stations = q.acts.stations;
         items_are = ap (λ (is : List (Item A)). delivered number item is) q.acts.items_are
             ∙ set_front w.items fresh number item (record item { is_delivered = true }) there;
+        buses_are = q.acts.buses_are;
         said = q.acts.said;
       };
       keys = q.keys;
@@ -268,34 +271,53 @@ restarting_says : {A : Type 0} (now : ℕ) (opening : PlainTable A) (e f : Entit
 restarting_says now opening (Device d) f t of = of.0
 restarting_says now opening (Client c) f t of = absurd of
 
-pub restarts_done : {A : Type 0} (name : List ℕ) (w v : WorldState A) (place : ℕ) (s : WorldStation A)
-    (plan : StationPlan (IpPortState A) A) (now : ℕ) (opening : PlainTable A) (entry : Entry Station (Request A) (Reply A)) →
-    now ≡ w.moment → opening ≡ (object_site w.site).opening (entity.station_of s.entity) →
+pub restarts_done : {A : Type 0} (name : List ℕ) (w u v : WorldState A) (place : ℕ) (s : WorldStation A)
+    (plan : StationPlan (SitePort A) A) (now : ℕ) (opening : PlainTable A) (entry : Entry Station (Request A) (Reply A))
+    (x : Station) → now ≡ w.moment → opening ≡ (object_site w.site).opening (entity.station_of s.entity) →
     restarted now s.entity ≡ entry ∷ [] → IsNamed name w place s →
-    StationRestarts port.at_moment now opening s (told_by plan) (left_by now plan s) →
-    AtPlace place w.stations (IsDone w v place plan None (Some entry)) → Restarts name w v
-restarts_done {A} name w v place s plan now opening entry e opens is named again done =
-    let d = the_one (IsDone w v place plan None (Some entry)) place w.stations s named.there done in
-    let here : StationRestarts port.at_moment w.moment ((object_site w.site).opening (entity.station_of s.entity)) s
+    StationRestarts port.restarted now opening s (told_by plan) (left_by now plan s) →
+    AtPlace place w.stations (IsDone w u place plan None (Some entry)) → x ≡ entity.station_of s.entity →
+    v ≡ record u { buses = deafened u.moment x u.buses } → Restarts name w v
+restarts_done {A} name w u v place s plan now opening entry x e opens is named again done at anew =
+    let d = the_one (IsDone w u place plan None (Some entry)) place w.stations s named.there done in
+    let here : StationRestarts port.restarted w.moment ((object_site w.site).opening (entity.station_of s.entity)) s
     (told_by plan) (left_by w.moment plan s) =
-    subst (λ (m : ℕ). StationRestarts port.at_moment m ((object_site w.site).opening (entity.station_of s.entity)) s
+    subst (λ (m : ℕ). StationRestarts port.restarted m ((object_site w.site).opening (entity.station_of s.entity)) s
     (told_by plan) (left_by m plan s)) e
-    (subst (λ (o : PlainTable A). StationRestarts port.at_moment now o s (told_by plan) (left_by now plan s)) opens again) in
+    (subst (λ (o : PlainTable A). StationRestarts port.restarted now o s (told_by plan) (left_by now plan s)) opens again) in
     let silent = restarting_says w.moment ((object_site w.site).opening (entity.station_of s.entity)) s.entity
-    (left_by w.moment plan s).entity (told_by plan).told here.entity in record {
+    (left_by w.moment plan s).entity (told_by plan).told here.entity in
+    let quiet : (b : BusesState A) → put_on w.moment (length w.items)
+    (frames_of port.station_of s.ports (told_by plan).out) b ≡ b = λ b. ap (λ (o : List (PortSent A)).
+    put_on w.moment (length w.items) (frames_of port.station_of s.ports o) b) here.silent in
+    subst (λ (z : WorldState A). Restarts name w z) (sym anew) (record {
       place = place;
       s = s;
       next = left_by w.moment plan s;
       told = told_by plan;
       named = named;
       restarts = here;
-      acts = d.acts;
+      acts = record {
+        there = d.acts.there;
+        fresh = d.acts.fresh;
+        insides = d.acts.insides;
+        site = d.acts.site;
+        moment = d.acts.moment;
+        relays = d.acts.relays;
+        stations = d.acts.stations;
+        items_are = d.acts.items_are;
+        buses_are = ap (λ (b : BusesState A). deafened u.moment x b) (d.acts.buses_are ∙ quiet w.buses)
+            ∙ ap (λ (m : ℕ). deafened m x w.buses) d.acts.moment
+            ∙ ap (λ (y : Station). deafened w.moment y w.buses) at
+            ∙ sym (quiet (deafened w.moment (entity.station_of s.entity) w.buses));
+        said = d.acts.said;
+      };
       keys = d.keys ∙ append-nil w.keys;
       history = d.history
-          ∙ ap (λ (t : EntityTold A). told_in (entity.station_of s.entity) w.moment v.keys t (w.history ++ entry ∷ [])) silent
+          ∙ ap (λ (t : EntityTold A). told_in (entity.station_of s.entity) w.moment u.keys t (w.history ++ entry ∷ [])) silent
           ∙ ap (λ (h : WorldHistory A). w.history ++ h) (sym is)
           ∙ ap (λ (m : ℕ). w.history ++ restarted m s.entity) e;
-    }
+    })
 
 -- what is read at a place where there is one
 pub read_there : {X : Type 0} (xs : List X) (n : ℕ) (one x : X) → slice_get xs n ≡ Some one → x ≡ slice_index_or xs n x →
@@ -348,7 +370,7 @@ module _ {A : Type 0} (number : ℕ) (w : WorldState A) (item : Item A) (place p
     (to : IsRecipient number w item place p s) where
   -- why its delivery is refused
   pub delivery_refused : (now : ℕ) (fault : Fault) → now ≡ w.moment →
-      (fault ≡ Memory) ⊎ HearingIsRefused ip.Hears ip_hearing.IsRefused port.station_of now p item.from item.octets
+      (fault ≡ Memory) ⊎ HearingIsRefused site.Hears site.IsRefused port.station_of now p item.from item.octets
       item.stamp s fault → IsRefused (event.Deliver number) w fault
   delivery_refused now fault e (inl m) = inl (
     m,
@@ -360,27 +382,27 @@ module _ {A : Type 0} (number : ℕ) (w : WorldState A) (item : Item A) (place p
   delivery_refused now fault e (inr h) = inr (inr (inl (record {
     goes = record { item = item; place = place; port = p; s = s; there = to.there; addressee = to.addressee };
     young = to.young;
-    refuses = subst (λ (m : ℕ). HearingIsRefused ip.Hears ip_hearing.IsRefused port.station_of m p item.from item.octets
+    refuses = subst (λ (m : ℕ). HearingIsRefused site.Hears site.IsRefused port.station_of m p item.from item.octets
         item.stamp s fault) e h;
   })))
 
   -- it stands among the items still, once it was heard
-  pub within : (u : WorldState A) (plan : StationPlan (IpPortState A) A) →
+  pub within : (u : WorldState A) (plan : StationPlan (SitePort A) A) →
       AtPlace place w.stations (IsDone w u place plan None None) → number < length u.items
   within u plan done =
       let q = quietly w u place s plan to.addressee.there done in
       before_end u.items number item (ap (λ (is : List (Item A)). slice_get is number) q.acts.items_are
-      ∙ get_front w.items (items_of w.moment s.ports (told_by plan).out) number item to.there)
+      ∙ get_front w.items (items_of port.station_of w.moment s.ports (told_by plan).out) number item to.there)
 
 -- a foreign station registered: nothing is told of it
 pub registers_done : {A : Type 0} (name : List ℕ) (w v : WorldState A) (place : ℕ) (s : WorldStation A)
-    (plan : StationPlan (IpPortState A) A) (now : ℕ) → now ≡ w.moment → IsNamed name w place s →
-    StationRegisters ip.Registers now s (told_by plan) (left_by now plan s) →
+    (plan : StationPlan (SitePort A) A) (now : ℕ) → now ≡ w.moment → IsNamed name w place s →
+    StationRegisters site.Registers now s (told_by plan) (left_by now plan s) →
     AtPlace place w.stations (IsDone w v place plan None None) → Registers name w v
 registers_done {A} name w v place s plan now e named registered done =
     let q = quietly w v place s plan named.there done in
-    let registers : StationRegisters ip.Registers w.moment s (told_by plan) (left_by w.moment plan s) =
-    subst (λ (m : ℕ). StationRegisters ip.Registers m s (told_by plan) (left_by m plan s)) e registered in record {
+    let registers : StationRegisters site.Registers w.moment s (told_by plan) (left_by w.moment plan s) =
+    subst (λ (m : ℕ). StationRegisters site.Registers m s (told_by plan) (left_by m plan s)) e registered in record {
       place = place;
       s = s;
       next = left_by w.moment plan s;
@@ -394,9 +416,9 @@ registers_done {A} name w v place s plan now e named registered done =
     }
 
 -- a relay woke
-pub relay_wakes_done : {A : Type 0} (name : List ℕ) (w v : WorldState A) (place : ℕ) (r : IpRelay A)
-    (plan : RelayPlan (IpPortState A) A) (now : ℕ) → now ≡ w.moment → IsRelayNamed name w place r →
-    RelayWakes ip.is_due ip.Idles ip.Downs now r (passing.out_of plan) (passing.left_by now plan r) →
+pub relay_wakes_done : {A : Type 0} (name : List ℕ) (w v : WorldState A) (place : ℕ) (r : SiteRelay A)
+    (plan : RelayPlan (SitePort A) A) (now : ℕ) → now ≡ w.moment → IsRelayNamed name w place r →
+    RelayWakes site.is_due site.Wakes site.Downs now r (passing.out_of plan) (passing.left_by now plan r) →
     AtPlace place w.relays (HasPassed w v place plan) → RelayWakesUp name w v
 relay_wakes_done {A} name w v place r plan now e named woke done = record {
   place = place;
@@ -405,22 +427,22 @@ relay_wakes_done {A} name w v place r plan now e named woke done = record {
   out = passing.out_of plan;
   named = named;
   wakes = subst (λ (m : ℕ).
-      RelayWakes ip.is_due ip.Idles ip.Downs m r (passing.out_of plan) (passing.left_by m plan r)) e woke;
+      RelayWakes site.is_due site.Wakes site.Downs m r (passing.out_of plan) (passing.left_by m plan r)) e woke;
   acts = the_one (HasPassed w v place plan) place w.relays r named.there done;
 }
 
 -- an item that may still be heard goes to this place of this relay
-pub record IsRelayRecipient {A : Type 0} (number : ℕ) (w : WorldState A) (item : Item A) (place p : ℕ) (r : IpRelay A) :
+pub record IsRelayRecipient {A : Type 0} (number : ℕ) (w : WorldState A) (item : Item A) (place p : ℕ) (r : SiteRelay A) :
     Type 0 where
   pub there : slice_get w.items number ≡ Some item
   pub addressee : IsRelayAddressee (addressee_of item) w place p r
   pub young : is_young w.moment item ≡ true
 
-module _ {A : Type 0} (number : ℕ) (w : WorldState A) (item : Item A) (place p : ℕ) (r : IpRelay A)
+module _ {A : Type 0} (number : ℕ) (w : WorldState A) (item : Item A) (place p : ℕ) (r : SiteRelay A)
     (to : IsRelayRecipient number w item place p r) where
   -- why it refuses it
   pub passing_refused : (now : ℕ) (fault : Fault) → now ≡ w.moment →
-      (fault ≡ Memory) ⊎ refusing.HearingIsRefused ip.Hears ip_hearing.IsRefused port.station_of now p item.from
+      (fault ≡ Memory) ⊎ refusing.HearingIsRefused site.Hears site.IsRefused port.station_of now p item.from
       item.octets item.stamp r fault → IsRefused (event.Deliver number) w fault
   passing_refused now fault e (inl m) = inl (
     m,
@@ -432,28 +454,28 @@ module _ {A : Type 0} (number : ℕ) (w : WorldState A) (item : Item A) (place p
   passing_refused now fault e (inr h) = inr (inr (inr (inr (record {
     goes = record { item = item; place = place; port = p; r = r; there = to.there; addressee = to.addressee };
     young = to.young;
-    refuses = subst (λ (m : ℕ). refusing.HearingIsRefused ip.Hears ip_hearing.IsRefused port.station_of m p item.from
+    refuses = subst (λ (m : ℕ). refusing.HearingIsRefused site.Hears site.IsRefused port.station_of m p item.from
         item.octets item.stamp r fault) e h;
   }))))
 
   -- it stands among the items still, once it was heard
-  pub passed_within : (u : WorldState A) (plan : RelayPlan (IpPortState A) A) →
+  pub passed_within : (u : WorldState A) (plan : RelayPlan (SitePort A) A) →
       AtPlace place w.relays (HasPassed w u place plan) → number < length u.items
   passed_within u plan done =
       let acts = the_one (HasPassed w u place plan) place w.relays r to.addressee.relay.there done in
-      let items : u.items ≡ w.items ++ items_at w.moment (ip_places r) (passing.out_of plan) =
+      let items : u.items ≡ w.items ++ items_at w.moment (site_places r) (passing.out_of plan) =
       ap (λ (x : WorldState A). x.items) acts.is in
       before_end u.items number item (ap (λ (is : List (Item A)). slice_get is number) items
-      ∙ get_front w.items (items_at w.moment (ip_places r) (passing.out_of plan)) number item to.there)
+      ∙ get_front w.items (items_at w.moment (site_places r) (passing.out_of plan)) number item to.there)
 
   -- it was handed over, and is marked
-  pub passing_done : (u v : WorldState A) (plan : RelayPlan (IpPortState A) A) (now : ℕ) → now ≡ w.moment →
-      RelayHears ip.Hears ip.Downs now p item.from item.octets item.stamp r (passing.out_of plan)
+  pub passing_done : (u v : WorldState A) (plan : RelayPlan (SitePort A) A) (now : ℕ) → now ≡ w.moment →
+      RelayHears site.Hears site.Downs now p item.from item.octets item.stamp r (passing.out_of plan)
       (passing.left_by now plan r) → AtPlace place w.relays (HasPassed w u place plan) →
       AtPlace number u.items (λ i. v ≡ record u { items = delivered number i u.items }) → DeliversToRelay number w v
   passing_done u v plan now e heard done marked =
       let acts = the_one (HasPassed w u place plan) place w.relays r to.addressee.relay.there done in
-      let fresh = items_at w.moment (ip_places r) (passing.out_of plan) in
+      let fresh = items_at w.moment (site_places r) (passing.out_of plan) in
       let items : u.items ≡ w.items ++ fresh = ap (λ (x : WorldState A). x.items) acts.is in
       let still : slice_get u.items number ≡ Some item =
       ap (λ (is : List (Item A)). slice_get is number) items ∙ get_front w.items fresh number item to.there in
@@ -468,7 +490,7 @@ module _ {A : Type 0} (number : ℕ) (w : WorldState A) (item : Item A) (place p
         there = to.there;
         addressee = to.addressee;
         young = to.young;
-        hears = subst (λ (m : ℕ). RelayHears ip.Hears ip.Downs m p item.from item.octets item.stamp r
+        hears = subst (λ (m : ℕ). RelayHears site.Hears site.Downs m p item.from item.octets item.stamp r
             (passing.out_of plan) (passing.left_by m plan r)) e heard;
         acts = record {
           there = acts.there;
@@ -476,12 +498,13 @@ module _ {A : Type 0} (number : ℕ) (w : WorldState A) (item : Item A) (place p
               ∙ ap (λ (ys : List (Item A)). record w {
                 relays = slice_set w.relays place (passing.left_by w.moment plan r);
                 items = ys;
+                buses = put_on w.moment (length w.items) (frames_at (site_places r) (passing.out_of plan)) w.buses;
               }) (set_front w.items fresh number item (record item { is_delivered = true }) to.there);
         };
       }
 
 -- .. is too old for it
-pub too_old_there : {A : Type 0} (number : ℕ) (w : WorldState A) (item : Item A) (place p : ℕ) (r : IpRelay A)
+pub too_old_there : {A : Type 0} (number : ℕ) (w : WorldState A) (item : Item A) (place p : ℕ) (r : SiteRelay A)
     (fault : Fault) → slice_get w.items number ≡ Some item → IsRelayAddressee (addressee_of item) w place p r →
     is_young w.moment item ≡ false → fault ≡ Expired → IsRefused (event.Deliver number) w fault
 too_old_there number w item place p r fault there to old is = inr (inr (inr (inl (
@@ -498,7 +521,7 @@ pub wake_refused : {A : Type 0} (w : WorldState A) (name : List ℕ) (fault : Fa
 wake_refused w name fault (inl n) no_relay = inl (n.0, record { station = n.1; relay = no_relay })
 wake_refused w name fault (inr so) no_relay = inr (inl so)
 
-pub relay_wake_refused : {A : Type 0} (w : WorldState A) (name : List ℕ) (place : ℕ) (r : IpRelay A) (fault : Fault)
+pub relay_wake_refused : {A : Type 0} (w : WorldState A) (name : List ℕ) (place : ℕ) (r : SiteRelay A) (fault : Fault)
     (now : ℕ) → now ≡ w.moment → IsRelayNamed name w place r →
     (fault ≡ Memory) ⊎ refusing.WakeIsRefused A port.station_of now r fault → IsRefused (event.Wake name) w fault
 relay_wake_refused w name place r fault now e named (inl m) = inl (m, tt)

@@ -1,12 +1,12 @@
 -- The stations and relays of a site stand as it opens.
-use Rattle.std.proofs.Common.{◌≡◌, sym, subst, arith, ℕ, ◌≤◌, List, []}
-use Rattle.hosts.proofs.FreshLaws.{stations_are_of_site}
-use Rattle.hosts.proofs.HostLaws.{relays_stand, stations_stand}
-use Rattle.hosts.specs.Opening.{opening_relays, opening_stations}
-use Rattle.hosts.specs.Stations.{WorldStation}
+use Rattle.std.proofs.Common.{◌≡◌, sym, subst, arith, ◌≤◌, List, []}
+use Rattle.plans.proofs.hosts.FreshLaws.{stations_are_of_site}
+use Rattle.plans.proofs.hosts.HostLaws.{relays_stand, stations_stand}
+use Rattle.plans.specs.hosts.Opening.{opening_relays, opening_stations}
+use Rattle.plans.specs.hosts.Stations.{WorldStation}
 use Rattle.internetwork.specs.Laws.{ArePassing, AreSteady}
 use Rattle.profile.specs.Times.{MAX_MOMENT_MS}
-use Rattle.relays.specs.Laws.{IpRelay}
+use Rattle.relays.specs.Laws.{SiteRelay}
 use Rattle.site.specs.Sound.{IsSound}
 use Rattle.site_parts.specs.declared.parts.Parts.{Parts}
 
@@ -18,9 +18,9 @@ steady_new {A} p ss sound is = subst (λ (xs : List (WorldStation A)). AreSteady
   of_site = stations_are_of_site p sound;
 })
 
-pub passing_new : {A : Type 0} (p : Parts A) (rs : List (IpRelay A)) → IsSound p → rs ≡ opening_relays p →
+pub passing_new : {A : Type 0} (p : Parts A) (rs : List (SiteRelay A)) → IsSound p → rs ≡ opening_relays p →
     ArePassing {A = A} 0 rs []
-passing_new {A} p rs sound is = subst (λ (xs : List (IpRelay A)). ArePassing {A = A} 0 xs []) (sym is) (record {
+passing_new {A} p rs sound is = subst (λ (xs : List (SiteRelay A)). ArePassing {A = A} 0 xs []) (sym is) (record {
   relays = relays_stand p sound;
   from = tt;
 })

@@ -1,66 +1,39 @@
 -- What a relay of a world plans may be done, and what it did is what it planned.
-use Rattle.std.proofs.Common.{◌≡◌, ◌∙◌, ◌≤◌, refl, sym, ap, subst, arith, append-nil, ℕ, zero, suc, List, [], ◌∷◌, ◌++◌, length, map, Option, Some, None, Result, Ok, Err, OnOk, OnErr}
+use Rattle.std.proofs.Common.{◌≡◌, ◌∙◌, refl, sym, ap, subst, append-nil, ℕ, List, [], ◌++◌, length, Option, Some, None, Result, Ok, Err, OnOk, OnErr}
 use Rattle.std.specs.Prelude.{option_to_list, slice_get, slice_set}
-use Rattle.std.specs.List.{AllByRecursion, flat_map}
+use Rattle.std.specs.List.{AllByRecursion}
+use Rattle.buses.specs.Puts.{BusesState, put_on}
 use Rattle.history.specs.declared.Entry.{Entry}
-use Rattle.link_ip.specs.Port as ip
-use Rattle.link_ip.specs.Port.{IpPortState}
-use Rattle.link_ip.specs.Steps.{Downs, Hears, Idles, is_due}
-use Rattle.link_ports.specs.declared.ports.PortSent.{PortSent}
-use Rattle.npdu.specs.declared.mac.Mac.{Mac}
+use Rattle.link_site.specs.declared.port.SitePort.{SitePort}
 use Rattle.npdu.specs.declared.mac.Station.{Station}
 use Rattle.primitives.specs.declared.plain_data.Reply.{Reply}
 use Rattle.primitives.specs.declared.plain_data.Request.{Request}
-use Rattle.relays.proofs.RelayLaws.{relay_stays_at_hearing, relay_stays_at_wake}
-use Rattle.relays.specs.Laws.{IpRelay, RelayStands, ip_places}
-use Rattle.relays.specs.Relay.{IsBefore, left_by, out_of, without_out}
-use Rattle.relays.specs.Steps.{RelayHears, RelayWakes}
+use Rattle.plans.proofs.RelayPlans.{seen_before}
+use Rattle.plans.specs.Plans.{MayPass}
+use Rattle.relays.specs.Laws.{RelayStands, SiteRelay, site_places}
+use Rattle.relays.specs.Relay.{left_by, out_of, without_out}
 use Rattle.relays.specs.declared.plan.RelayPlan.{RelayPlan}
 use Rattle.relays.specs.declared.plan.RelayPlan.TheVariants as plan
 use Rattle.relays.specs.declared.relay.Relay.TheVariants.{Router, Manager}
 use Rattle.site_parts.specs.declared.parts.Parts.{Parts}
 use Rattle.traffic.specs.declared.item.Item.{Item}
 use Rattle.chronicle.specs.Chronicle.{IsGrown, IsSame}
-use Rattle.chronicle.specs.Growing.{AreFromMacs, items_at}
+use Rattle.chronicle.specs.Growing.{AreFromMacs, frames_at, items_at}
 use Rattle.chronicle.specs.Kept.{all_keys, all_said}
 use Rattle.chronicle.specs.declared.chronicle.Chronicle.{Chronicle}
 use Rattle.chronicle.specs.declared.chronicle.Growth.{Growth}
 use Rattle.chronicle.specs.declared.key.Key as kept
 use Rattle.chronicle.specs.declared.saying.SaidMessage.{SaidMessage}
-use Rattle.hosts.specs.Stations.{WorldStation}
+use Rattle.plans.specs.hosts.Stations.{WorldStation}
 use Rattle.internetwork.proofs.ActingLaws.{from_both, same_seen, seen, set_same}
 use Rattle.internetwork.proofs.Standing.{all_set}
 use Rattle.internetwork.specs.Doing.{AtPlace}
 use Rattle.internetwork.specs.Laws.{ArePassing}
-use Rattle.internetwork.specs.Passing.{HasPassed, MayPass, Passes}
+use Rattle.internetwork.specs.Passing.{HasPassed, Passes}
 use Rattle.internetwork.specs.World.{WorldState}
 
-module _ {A : Type 0} (now : ℕ) (r : IpRelay A) (stands : RelayStands now r) where
-  -- a relay that stands has seen no later moment
-  pub seen_before : IsBefore ip.moment_of now r
-  seen_before = by_kind r stands
-    where
-      by_kind : (q : IpRelay A) → RelayStands now q → IsBefore ip.moment_of now q
-      by_kind (Router s) h = (h.stands.before, h.before)
-      by_kind (Manager s) h = h
-
-  -- what it plans leaves it so
-  pub may_pass_heard : (p : RelayPlan (IpPortState A) A) (port : ℕ) (from : Mac) (octets : List ℕ) (stamp : ℕ) →
-      RelayHears Hears Downs now port from octets stamp r (out_of p) (left_by now p r) → MayPass now p r
-  may_pass_heard p port from octets stamp h = record {
-    stands = (relay_stays_at_hearing A now port from octets stamp r (left_by now p r) (out_of p) stands h).stands;
-  }
-
-  pub may_pass_woken : (p : RelayPlan (IpPortState A) A) →
-      RelayWakes is_due Idles Downs now r (out_of p) (left_by now p r) → MayPass now p r
-  may_pass_woken p h = record {
-    stands = (relay_stays_at_wake A now r (left_by now p r) (out_of p) stands h).stands;
-  }
-
-pub ruleset plan_rules = (seen_before, may_pass_heard, may_pass_woken)
-
 -- what was taken out of a plan changes nothing of what it leaves
-pub left_without : {A : Type 0} (now : ℕ) (p : RelayPlan (IpPortState A) A) (r : IpRelay A) →
+pub left_without : {A : Type 0} (now : ℕ) (p : RelayPlan (SitePort A) A) (r : SiteRelay A) →
     left_by now (without_out p) r ≡ left_by now p r
 left_without now (plan.Router p) (Router s) = refl
 left_without now (plan.Manager p) (Manager s) = refl
@@ -68,8 +41,8 @@ left_without now (plan.Router p) (Manager s) = refl
 left_without now (plan.Manager p) (Router s) = refl
 
 -- room was taken, and the items grew
-pub passes_so : {A : Type 0} (now : ℕ) (p : RelayPlan (IpPortState A) A) (r : IpRelay A) (c0 c1 c2 : Chronicle A)
-    (g : Growth A) → IsSame c0 c1 → IsGrown g c1 c2 → g.items.items ≡ items_at now (ip_places r) (out_of p) →
+pub passes_so : {A : Type 0} (now : ℕ) (p : RelayPlan (SitePort A) A) (r : SiteRelay A) (c0 c1 c2 : Chronicle A)
+    (g : Growth A) → IsSame c0 c1 → IsGrown g c1 c2 → g.items.items ≡ items_at now (site_places r) (out_of p) →
     AreFromMacs g.items.items → g.said.items ≡ [] → g.key ≡ None → g.entry ≡ None → Passes now p r c0 c2
 passes_so {A} now p r c0 c1 c2 g same grown items from said key entry = record {
   items = grown.items ∙ ap (λ (is : List (Item A)). is ++ g.items.items) same.items
@@ -85,9 +58,9 @@ passes_so {A} now p r c0 c1 c2 g same grown items from said key entry = record {
 
 pub ruleset pass_rules = (seen_before, left_without, passes_so)
 
-module _ {A R E : Type 0} (r : Result R E) (site : Parts A) (moment : ℕ) (rs : List (IpRelay A))
-    (ss : List (WorldStation A)) (place : ℕ) (s x : IpRelay A) (p : RelayPlan (IpPortState A) A)
-    (there : slice_get rs place ≡ Some s) (c0 c1 : Chronicle A) where
+module _ {A R E : Type 0} (r : Result R E) (site : Parts A) (moment : ℕ) (rs : List (SiteRelay A))
+    (ss : List (WorldStation A)) (place : ℕ) (s x : SiteRelay A) (p : RelayPlan (SitePort A) A)
+    (there : slice_get rs place ≡ Some s) (c0 c1 : Chronicle A) (b0 b1 : BusesState A) where
   -- whether it was done or refused, all pass on
   pub steady_pass : OnOk r (x ≡ left_by moment p s) → OnErr r (x ≡ s) → OnOk r (Passes moment p s c0 c1) →
       OnErr r (IsSame c0 c1) → ArePassing moment rs c0.items.items → MayPass moment p s →
@@ -99,66 +72,80 @@ module _ {A R E : Type 0} (r : Result R E) (site : Parts A) (moment : ℕ) (rs :
           ArePassing moment (slice_set rs place x) c1.items.items
       by_result (Ok u) left same passes kept = record {
         relays = all_set (RelayStands moment) rs place x steady.relays
-            (subst (λ (y : IpRelay A). RelayStands moment y) (sym left) may.stands);
+            (subst (λ (y : SiteRelay A). RelayStands moment y) (sym left) may.stands);
         from = subst (λ (is : List (Item A)). AreFromMacs is) (sym passes.items)
-            (from_both c0.items.items (items_at moment (ip_places s) (out_of p)) steady.from passes.from);
+            (from_both c0.items.items (items_at moment (site_places s) (out_of p)) steady.from passes.from);
       }
       by_result (Err e) left same passes kept = record {
-        relays = subst (λ (ys : List (IpRelay A)). AllByRecursion (RelayStands moment) ys)
-            (sym (ap (λ (y : IpRelay A). slice_set rs place y) same ∙ set_same rs place s there)) steady.relays;
+        relays = subst (λ (ys : List (SiteRelay A)). AllByRecursion (RelayStands moment) ys)
+            (sym (ap (λ (y : SiteRelay A). slice_set rs place y) same ∙ set_same rs place s there)) steady.relays;
         from = subst (λ (is : List (Item A)). AreFromMacs is) (sym kept.items) steady.from;
       }
 
-  module _ (w : WorldState A) (view : seen site moment rs ss c0 ≡ w) where
+  -- what it puts out
+  abbrev fresh : List (Item A)
+  fresh = items_at moment (site_places s) (out_of p)
+
+  -- .. goes out on the buses
+  abbrev b2 : BusesState A
+  b2 = put_on moment (length c0.items.items) (frames_at (site_places s) (out_of p)) b0
+
+  abbrev pub PutsOn : Type 0
+  PutsOn = b1 ≡ put_on moment (length c0.items.items) (frames_at (site_places s) (out_of p)) b0
+
+  module _ (w : WorldState A) (view : seen site moment rs ss c0 b0 ≡ w) where
     -- it was done
-    pub done_pass : OnOk r (x ≡ left_by moment p s) → OnOk r (Passes moment p s c0 c1) → OnOk r (AtPlace place w.relays
-        (HasPassed w (seen site moment (slice_set rs place x) ss c1) place p))
-    done_pass left passes = by_result r left passes
+    pub done_pass : OnOk r (x ≡ left_by moment p s) → OnOk r (Passes moment p s c0 c1) → OnOk r PutsOn →
+        OnOk r (AtPlace place w.relays (HasPassed w (seen site moment (slice_set rs place x) ss c1 b1) place p))
+    done_pass left passes puts = by_result r left passes puts
       where
-        same_rest : Passes moment p s c0 c1 → x ≡ left_by moment p s →
-            seen site moment (slice_set rs place x) ss c1 ≡ record (seen site moment rs ss c0) {
+        same_rest : Passes moment p s c0 c1 → x ≡ left_by moment p s → PutsOn →
+            seen site moment (slice_set rs place x) ss c1 b1 ≡ record (seen site moment rs ss c0 b0) {
               relays = slice_set rs place (left_by moment p s);
-              items = c0.items.items ++ items_at moment (ip_places s) (out_of p);
+              items = c0.items.items ++ fresh;
+              buses = put_on moment (length c0.items.items) (frames_at (site_places s) (out_of p)) b0;
             }
-        same_rest h e =
-            ap (λ (y : IpRelay A). seen site moment (slice_set rs place y) ss c1) e
-            ∙ ap (λ (is : List (Item A)). record (seen site moment (slice_set rs place (left_by moment p s)) ss c1) {
+        same_rest h e q =
+            ap (λ (y : SiteRelay A). seen site moment (slice_set rs place y) ss c1 b1) e
+            ∙ ap (λ (b : BusesState A). seen site moment (slice_set rs place (left_by moment p s)) ss c1 b) q
+            ∙ ap (λ (is : List (Item A)). record (seen site moment (slice_set rs place (left_by moment p s)) ss c1 b2) {
               items = is;
             }) h.items
-            ∙ ap (λ (ks : List kept.Key). record (seen site moment (slice_set rs place (left_by moment p s)) ss c1) {
-              items = c0.items.items ++ items_at moment (ip_places s) (out_of p);
+            ∙ ap (λ (ks : List kept.Key). record (seen site moment (slice_set rs place (left_by moment p s)) ss c1 b2) {
+              items = c0.items.items ++ fresh;
               keys = all_keys ks;
             }) h.keys
             ∙ ap (λ (es : List (Entry Station (Request A) (Reply A))).
-            record (seen site moment (slice_set rs place (left_by moment p s)) ss c1) {
-              items = c0.items.items ++ items_at moment (ip_places s) (out_of p);
+            record (seen site moment (slice_set rs place (left_by moment p s)) ss c1 b2) {
+              items = c0.items.items ++ fresh;
               keys = all_keys c0.keys.items;
               history = es;
             }) h.history
-            ∙ ap (λ (ms : List (SaidMessage A)). record (seen site moment (slice_set rs place (left_by moment p s)) ss c0) {
-              items = c0.items.items ++ items_at moment (ip_places s) (out_of p);
+            ∙ ap (λ (ms : List (SaidMessage A)).
+            record (seen site moment (slice_set rs place (left_by moment p s)) ss c0 b2) {
+              items = c0.items.items ++ fresh;
               said = all_said ms;
             }) h.said
 
-        by_result : (q : Result R E) → OnOk q (x ≡ left_by moment p s) → OnOk q (Passes moment p s c0 c1) →
-            OnOk q (AtPlace place w.relays (HasPassed w (seen site moment (slice_set rs place x) ss c1) place p))
-        by_result (Ok u) left passes = subst (λ (z : WorldState A). AtPlace place z.relays
-            (HasPassed z (seen site moment (slice_set rs place x) ss c1) place p)) view (record {
+        by_result : (q : Result R E) → OnOk q (x ≡ left_by moment p s) → OnOk q (Passes moment p s c0 c1) → OnOk q PutsOn →
+            OnOk q (AtPlace place w.relays (HasPassed w (seen site moment (slice_set rs place x) ss c1 b1) place p))
+        by_result (Ok u) left passes puts = subst (λ (z : WorldState A). AtPlace place z.relays
+            (HasPassed z (seen site moment (slice_set rs place x) ss c1 b1) place p)) view (record {
               one = s;
               there = there;
-              holds = record { there = there; is = same_rest passes left };
+              holds = record { there = there; is = same_rest passes left puts };
             })
-        by_result (Err e) left passes = tt
+        by_result (Err e) left passes puts = tt
 
     -- or refused, and nothing changed
-    pub unchanged_pass : OnErr r (x ≡ s) → OnErr r (IsSame c0 c1) →
-        OnErr r (seen site moment (slice_set rs place x) ss c1 ≡ w)
-    unchanged_pass same kept = by_result r same kept
+    pub unchanged_pass : OnErr r (x ≡ s) → OnErr r (IsSame c0 c1) → OnErr r (b1 ≡ b0) →
+        OnErr r (seen site moment (slice_set rs place x) ss c1 b1 ≡ w)
+    unchanged_pass same kept quiet = by_result r same kept quiet
       where
-        by_result : (q : Result R E) → OnErr q (x ≡ s) → OnErr q (IsSame c0 c1) →
-            OnErr q (seen site moment (slice_set rs place x) ss c1 ≡ w)
-        by_result (Ok u) same kept = tt
-        by_result (Err e) same kept =
-            ap (λ (y : IpRelay A). seen site moment (slice_set rs place y) ss c1) same
-            ∙ ap (λ (ys : List (IpRelay A)). seen site moment ys ss c1) (set_same rs place s there)
-            ∙ same_seen site moment rs ss c0 c1 kept ∙ view
+        by_result : (q : Result R E) → OnErr q (x ≡ s) → OnErr q (IsSame c0 c1) → OnErr q (b1 ≡ b0) →
+            OnErr q (seen site moment (slice_set rs place x) ss c1 b1 ≡ w)
+        by_result (Ok u) same kept quiet = tt
+        by_result (Err e) same kept quiet =
+            ap (λ (y : SiteRelay A). seen site moment (slice_set rs place y) ss c1 b1) same
+            ∙ ap (λ (ys : List (SiteRelay A)). seen site moment ys ss c1 b1) (set_same rs place s there)
+            ∙ same_seen site moment rs ss c0 c1 b0 b1 kept quiet ∙ view

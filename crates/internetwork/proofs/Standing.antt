@@ -1,123 +1,29 @@
--- How a station stands once it did something: its port is where its entity is, and neither has seen a later moment.
-use Rattle.std.proofs.Common.{◌≡◌, ◌∙◌, refl, sym, ap, subst, arith, ℕ, zero, suc, ◌≤◌, true, List, [], ◌∷◌, Option, Some, None}
+-- How all stations of a world stand once one of them did something, or time went on.
+use Rattle.std.proofs.Common.{◌≡◌, sym, subst, arith, ℕ, zero, suc, ◌≤◌, true, List, [], ◌∷◌, Option, Some, None}
 use Rattle.std.specs.Prelude.{slice_get, slice_set}
 use Rattle.std.specs.List.{AllByRecursion}
-use Rattle.client.specs.Client.{ClientState}
-use Rattle.client.specs.Plan as client
-use Rattle.client.specs.declared.plan.ClientChange.{ClientChange}
-use Rattle.client.specs.declared.plan.ClientChange.TheVariants.{Binds, Refuses, Stays, Transacts}
-use Rattle.client_tsm.specs.Client as client_tsm
-use Rattle.client_tsm.specs.declared.plan.ClientTsmChange.{ClientTsmChange}
-use Rattle.client_tsm.specs.declared.plan.ClientTsmChange.TheVariants as client_change
-use Rattle.client_tsm.specs.Client.{ClientTsmState}
 use Rattle.device.specs.Device.{DeviceState}
 use Rattle.device.specs.Plan as device
-use Rattle.link_ip.specs.Port as ip
-use Rattle.link_ip.specs.Port.{IpPortState}
-use Rattle.link_ports.specs.declared.ports.PortSent.{PortSent}
-use Rattle.npdu.specs.declared.parcel.Parcel.{Parcel}
-use Rattle.server_answers.specs.Plan.{ServerChange, ServerPlan}
-use Rattle.server_answers.specs.Plan as server_change
-use Rattle.server_tsm.specs.Server.{ServerTsmState}
-use Rattle.server_tsm.specs.Server as server_tsm
-use Rattle.site_station.specs.Entity as entity
+use Rattle.link_site.specs.Port.{moment_of}
+use Rattle.link_site.specs.declared.port.SitePort.{SitePort}
+use Rattle.server_answers.specs.Plan.{ServerPlan}
 use Rattle.site_station.specs.Entity.{left_by}
 use Rattle.site_station.specs.declared.entity.Entity.{Entity}
 use Rattle.site_station.specs.declared.entity.Entity.TheVariants.{Client, Device}
 use Rattle.site_station.specs.declared.entity.EntityPlan.{EntityPlan}
 use Rattle.site_station.specs.declared.entity.EntityPlan.TheVariants as plan
-use Rattle.internetwork.proofs.Hosts.{OnlyThese, one_port}
 use Rattle.headline_bacnet.specs.Refined.{ObjectSite}
 use Rattle.headline_client.proofs.Places.{all_at}
-use Rattle.hosts.specs.Hosts.{IsHost, IsOfSite}
-use Rattle.hosts.specs.Opening.{object_site}
+use Rattle.plans.specs.hosts.Hosts.{IsHost, IsOfSite}
+use Rattle.plans.specs.hosts.Opening.{object_site}
 use Rattle.profile.specs.Times.{MAX_MOMENT_MS}
 use Rattle.link_ports.specs.Ports.{AreBefore}
-use Rattle.relays.specs.Laws.{IpRelay, IsMac, RelayStands}
+use Rattle.relays.specs.Laws.{IsMac, RelayStands, SiteRelay}
 use Rattle.relays.specs.declared.relay.Relay.TheVariants.{Router, Manager}
 use Rattle.internetwork.specs.Laws.{ArePassing, AreSteady}
 use Rattle.traffic.specs.declared.item.Item.{Item}
 use Rattle.site_parts.specs.declared.parts.Parts.{Parts}
-use Rattle.hosts.specs.Stations.{WorldStation}
-
-server_stays : {A : Type 0} (now : ℕ) (s : Option (ServerPlan A)) (d : DeviceState A) →
-    entity.station_of (Device (device.left_of now s d)) ≡ entity.station_of (Device d)
-server_stays now None d = refl
-server_stays now (Some s) d = refl
-
-change_stays : {A : Type 0} (now : ℕ) (x : ClientChange A) (c : ClientState A) →
-    entity.station_of (Client (client.left_of now x c)) ≡ entity.station_of (Client c)
-change_stays now Stays c = refl
-change_stays now (Refuses r) c = refl
-change_stays now (Binds b) c = refl
-change_stays now (Transacts t) c = refl
-
--- a plan leaves an entity where it was
-pub stays_there : {A : Type 0} (now : ℕ) (p : EntityPlan A) (e : Entity A) →
-    entity.station_of (left_by now p e) ≡ entity.station_of e
-stays_there now (plan.Device p) (Device d) = server_stays now p.server d
-stays_there now (plan.Client p) (Client c) = change_stays now p.change c
-stays_there now (plan.Restarts opening) (Device d) = refl
-stays_there now (plan.Says said) e = refl
-stays_there now (plan.Device p) (Client c) = refl
-stays_there now (plan.Client p) (Device d) = refl
-stays_there now (plan.Restarts opening) (Client c) = refl
-
-server_is_at : {A : Type 0} (now : ℕ) (x : ServerChange A) (st : ServerTsmState A) →
-    (server_tsm.committed now x st).moment ≡ now
-server_is_at now server_change.Stays st = refl
-server_is_at now (server_change.Says saying) st = refl
-server_is_at now (server_change.Gathers asked segment octets) st = refl
-server_is_at now (server_change.GivesUp asker) st = refl
-server_is_at now (server_change.Executes request r) st = refl
-server_is_at now (server_change.Wakes sayings) st = refl
-
-device_no_later : {A : Type 0} (now : ℕ) (s : Option (ServerPlan A)) (d : DeviceState A) → d.server.moment ≤ now →
-    (device.left_of now s d).server.moment ≤ now
-device_no_later now None d le = le
-device_no_later now (Some s) d le = omega (arith, server_is_at now s.change d.server)
-
-client_is_at : {A : Type 0} (now : ℕ) (x : ClientTsmChange A) (st : ClientTsmState A) →
-    (client_tsm.committed now x st).moment ≡ now
-client_is_at now client_change.Stays st = refl
-client_is_at now (client_change.Opens o) st = refl
-client_is_at now (client_change.Sends place sending) st = refl
-client_is_at now (client_change.Gathers place s octets) st = refl
-client_is_at now (client_change.Renews place) st = refl
-client_is_at now (client_change.Ends place) st = refl
-client_is_at now client_change.Wakes st = refl
-
-client_no_later : {A : Type 0} (now : ℕ) (x : ClientChange A) (c : ClientState A) → c.machine.moment ≤ now →
-    (client.left_of now x c).machine.moment ≤ now
-client_no_later now Stays c le = le
-client_no_later now (Refuses r) c le = le
-client_no_later now (Binds b) c le = le
-client_no_later now (Transacts t) c le = omega (arith, client_is_at now t c.machine)
-
--- .. and it has seen no later moment
-pub seen_no_later : {A : Type 0} (now : ℕ) (p : EntityPlan A) (e : Entity A) → entity.moment_of e ≤ now →
-    entity.moment_of (left_by now p e) ≤ now
-seen_no_later now (plan.Device p) (Device d) le = device_no_later now p.server d le
-seen_no_later now (plan.Client p) (Client c) le = client_no_later now p.change c le
-seen_no_later now (plan.Restarts opening) (Device d) le = omega arith
-seen_no_later now (plan.Says said) e le = le
-seen_no_later now (plan.Device p) (Client c) le = le
-seen_no_later now (plan.Client p) (Device d) le = le
-seen_no_later now (plan.Restarts opening) (Client c) le = le
-
--- it stands
-pub stands_then : {A : Type 0} (said : List (Parcel A)) (now : ℕ) (old : Entity A) (p : EntityPlan A)
-    (ports : List (IpPortState A)) (out : List (PortSent A)) → entity.moment_of old ≤ now →
-    OnlyThese said now (entity.station_of old) ports out →
-    IsHost now (record { ports = ports; entity = left_by now p old })
-stands_then said now old p ports out le only =
-    let one = one_port said now (entity.station_of old) ports out only in record {
-      port = one.0;
-      one = one.1;
-      place = one.2 ∙ sym (stays_there now p old);
-      port_before = one.3;
-      entity_before = seen_no_later now p old le;
-    }
+use Rattle.plans.specs.hosts.Stations.{WorldStation}
 
 -- what holds of all holds of them where one of which it holds is put in the place of another
 pub all_set : {X : Type 0} (P : X → Type 0) (xs : List X) (place : ℕ) (x : X) → AllByRecursion P xs → P x →
@@ -179,29 +85,29 @@ steady_later site now later ss le most steady = record {
 }
 
 -- and pass on
-relay_later : {A : Type 0} (now later : ℕ) (r : IpRelay A) → now ≤ later → RelayStands now r → RelayStands later r
+relay_later : {A : Type 0} (now later : ℕ) (r : SiteRelay A) → now ≤ later → RelayStands now r → RelayStands later r
 relay_later {A} now later (Router s) le h = record {
   stands = record { at_its_ports = h.stands.at_its_ports; before = ports_later s.ports h.stands.before };
   numbered = h.numbered;
   before = let before = h.before in omega (arith, le, before);
 }
   where
-    ports_later : (ls : List (IpPortState A)) → AreBefore ip.moment_of now ls → AreBefore ip.moment_of later ls
+    ports_later : (ls : List (SitePort A)) → AreBefore moment_of now ls → AreBefore moment_of later ls
     ports_later [] all = tt
     ports_later (l ∷ ls) all = (let before = all.0 in omega (arith, le, before), ports_later ls (all.1))
 relay_later now later (Manager s) le h = omega (arith, le, h)
 
-relays_later : {A : Type 0} (now later : ℕ) (rs : List (IpRelay A)) → now ≤ later →
+relays_later : {A : Type 0} (now later : ℕ) (rs : List (SiteRelay A)) → now ≤ later →
     AllByRecursion (RelayStands now) rs → AllByRecursion (RelayStands later) rs
 relays_later now later [] le all = tt
 relays_later now later (r ∷ rs) le all = (relay_later now later r le (all.0), relays_later now later rs le (all.1))
 
-pub passing_later : {A : Type 0} (now later : ℕ) (rs : List (IpRelay A)) (items : List (Item A)) → now ≤ later →
+pub passing_later : {A : Type 0} (now later : ℕ) (rs : List (SiteRelay A)) (items : List (Item A)) → now ≤ later →
     ArePassing now rs items → ArePassing later rs items
 passing_later now later rs items le h = record { relays = relays_later now later rs le h.relays; from = h.from }
 
 -- an item that is marked is from where it was
-pub passing_marked : {A : Type 0} (now : ℕ) (rs : List (IpRelay A)) (items : List (Item A)) (number : ℕ) (i : Item A) →
+pub passing_marked : {A : Type 0} (now : ℕ) (rs : List (SiteRelay A)) (items : List (Item A)) (number : ℕ) (i : Item A) →
     slice_get items number ≡ Some i → ArePassing now rs items →
     ArePassing now rs (slice_set items number (record i { is_delivered = true }))
 passing_marked now rs items number i there h = record {

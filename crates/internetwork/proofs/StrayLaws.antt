@@ -1,19 +1,16 @@
 -- What a datagram from outside leaves, put together of the station that was found, of what it planned, and of what was done.
-use Rattle.std.proofs.Common.{◌≡◌, ◌⊎◌, inl, inr, subst, ℕ, Option, None, Result, Ok, Err, IfErr}
-use Rattle.std.specs.Prelude.{IfNone}
-use Rattle.hosts.specs.Finding.{IsNoHostAt}
-use Rattle.hosts.specs.Stations.{WorldStation}
+use Rattle.std.proofs.Common.{◌≡◌, ◌⊎◌, inl, inr, subst, ℕ, None}
+use Rattle.plans.specs.hosts.Stations.{WorldStation}
 use Rattle.internetwork.proofs.EventLaws.{quietly, the_one}
 use Rattle.internetwork.specs.Doing.{AtPlace, IsDone}
-use Rattle.internetwork.specs.Finding.{HasNoRelay, IsAddressee, IsRelayAddressee, addressee_of}
+use Rattle.internetwork.specs.Finding.{IsAddressee, IsRelayAddressee, addressee_of}
 use Rattle.internetwork.specs.Passing.{HasPassed}
 use Rattle.internetwork.specs.Straying.{HostTakes, RelayTakes, StrayIsRefused, Strays}
 use Rattle.internetwork.specs.World.{WorldState}
-use Rattle.link_ip.specs.Hearing as ip_hearing
-use Rattle.link_ip.specs.Port as port
-use Rattle.link_ip.specs.Port.{IpPortState}
-use Rattle.link_ip.specs.Steps as ip
-use Rattle.relays.specs.Laws.{IpRelay}
+use Rattle.link_site.specs.Port as port
+use Rattle.link_site.specs.Steps as site
+use Rattle.link_site.specs.declared.port.SitePort.{SitePort}
+use Rattle.relays.specs.Laws.{SiteRelay}
 use Rattle.relays.specs.Refusals as refusing
 use Rattle.relays.specs.Relay as passing
 use Rattle.relays.specs.Steps.{RelayHears}
@@ -21,14 +18,14 @@ use Rattle.relays.specs.declared.plan.RelayPlan.{RelayPlan}
 use Rattle.site_station.specs.Station.{HearingIsRefused, StationHears, left_by, told_by}
 use Rattle.site_station.specs.declared.station.StationPlan.{StationPlan}
 use Rattle.tags.specs.declared.fault.Fault.{Fault}
-use Rattle.tags.specs.declared.fault.Fault.TheVariants.{Memory, NoSuch}
+use Rattle.tags.specs.declared.fault.Fault.TheVariants.{Memory}
 use Rattle.traffic.specs.declared.item.Item.{Item}
 
 -- the device or client there heard it
 pub host_took : {A : Type 0} (i : Item A) (w v : WorldState A) (place at : ℕ) (s : WorldStation A)
-    (plan : StationPlan (IpPortState A) A) (now : ℕ) → now ≡ w.moment →
+    (plan : StationPlan (SitePort A) A) (now : ℕ) → now ≡ w.moment →
     IsAddressee (addressee_of i) w place at s →
-    StationHears ip.Hears ip.Downs now at i.from i.octets i.stamp s (told_by plan) (left_by now plan s) →
+    StationHears site.Hears site.Downs now at i.from i.octets i.stamp s (told_by plan) (left_by now plan s) →
     AtPlace place w.stations (IsDone w v place plan None None) → HostTakes i w v
 host_took {A} i w v place at s plan now e to heard done =
     let q = quietly w v place s plan to.there done in record {
@@ -39,7 +36,7 @@ host_took {A} i w v place at s plan now e to heard done =
       told = told_by plan;
       addressee = to;
       hears = subst (λ (m : ℕ).
-          StationHears ip.Hears ip.Downs m at i.from i.octets i.stamp s (told_by plan) (left_by m plan s)) e heard;
+          StationHears site.Hears site.Downs m at i.from i.octets i.stamp s (told_by plan) (left_by m plan s)) e heard;
       acts = q.acts;
       keys = q.keys;
       history = q.history;
@@ -48,7 +45,7 @@ host_took {A} i w v place at s plan now e to heard done =
 -- .. or refuses it
 pub host_refuses : {A : Type 0} (i : Item A) (w : WorldState A) (place at : ℕ) (s : WorldStation A) (now : ℕ)
     (fault : Fault) → now ≡ w.moment → IsAddressee (addressee_of i) w place at s →
-    (fault ≡ Memory) ⊎ HearingIsRefused ip.Hears ip_hearing.IsRefused port.station_of now at i.from i.octets i.stamp s
+    (fault ≡ Memory) ⊎ HearingIsRefused site.Hears site.IsRefused port.station_of now at i.from i.octets i.stamp s
     fault → StrayIsRefused i w fault
 host_refuses i w place at s now fault e to (inl m) = inl m
 host_refuses {A} i w place at s now fault e to (inr h) = inr (inr (inl (record {
@@ -56,14 +53,14 @@ host_refuses {A} i w place at s now fault e to (inr h) = inr (inr (inl (record {
   at = at;
   s = s;
   addressee = to;
-  refuses = subst (λ (m : ℕ). HearingIsRefused ip.Hears ip_hearing.IsRefused port.station_of m at i.from i.octets
+  refuses = subst (λ (m : ℕ). HearingIsRefused site.Hears site.IsRefused port.station_of m at i.from i.octets
       i.stamp s fault) e h;
 })))
 
 -- the relay there heard it
-pub relay_took : {A : Type 0} (i : Item A) (w v : WorldState A) (place at : ℕ) (r : IpRelay A)
-    (plan : RelayPlan (IpPortState A) A) (now : ℕ) → now ≡ w.moment → IsRelayAddressee (addressee_of i) w place at r →
-    RelayHears ip.Hears ip.Downs now at i.from i.octets i.stamp r (passing.out_of plan) (passing.left_by now plan r) →
+pub relay_took : {A : Type 0} (i : Item A) (w v : WorldState A) (place at : ℕ) (r : SiteRelay A)
+    (plan : RelayPlan (SitePort A) A) (now : ℕ) → now ≡ w.moment → IsRelayAddressee (addressee_of i) w place at r →
+    RelayHears site.Hears site.Downs now at i.from i.octets i.stamp r (passing.out_of plan) (passing.left_by now plan r) →
     AtPlace place w.relays (HasPassed w v place plan) → RelayTakes i w v
 relay_took {A} i w v place at r plan now e to heard done = record {
   place = place;
@@ -72,21 +69,21 @@ relay_took {A} i w v place at r plan now e to heard done = record {
   next = passing.left_by w.moment plan r;
   out = passing.out_of plan;
   addressee = to;
-  hears = subst (λ (m : ℕ). RelayHears ip.Hears ip.Downs m at i.from i.octets i.stamp r (passing.out_of plan)
+  hears = subst (λ (m : ℕ). RelayHears site.Hears site.Downs m at i.from i.octets i.stamp r (passing.out_of plan)
       (passing.left_by m plan r)) e heard;
   acts = the_one (HasPassed w v place plan) place w.relays r to.relay.there done;
 }
 
-pub relay_strayed : {A : Type 0} (i : Item A) (w v : WorldState A) (place at : ℕ) (r : IpRelay A)
-    (plan : RelayPlan (IpPortState A) A) (now : ℕ) → now ≡ w.moment → IsRelayAddressee (addressee_of i) w place at r →
-    RelayHears ip.Hears ip.Downs now at i.from i.octets i.stamp r (passing.out_of plan) (passing.left_by now plan r) →
+pub relay_strayed : {A : Type 0} (i : Item A) (w v : WorldState A) (place at : ℕ) (r : SiteRelay A)
+    (plan : RelayPlan (SitePort A) A) (now : ℕ) → now ≡ w.moment → IsRelayAddressee (addressee_of i) w place at r →
+    RelayHears site.Hears site.Downs now at i.from i.octets i.stamp r (passing.out_of plan) (passing.left_by now plan r) →
     AtPlace place w.relays (HasPassed w v place plan) → Strays i w v
 relay_strayed i w v place at r plan now e to heard done = inr (relay_took i w v place at r plan now e to heard done)
 
 -- .. or refuses it
-pub relay_refuses : {A : Type 0} (i : Item A) (w : WorldState A) (place at : ℕ) (r : IpRelay A) (now : ℕ)
+pub relay_refuses : {A : Type 0} (i : Item A) (w : WorldState A) (place at : ℕ) (r : SiteRelay A) (now : ℕ)
     (fault : Fault) → now ≡ w.moment → IsRelayAddressee (addressee_of i) w place at r →
-    (fault ≡ Memory) ⊎ refusing.HearingIsRefused ip.Hears ip_hearing.IsRefused port.station_of now at i.from i.octets
+    (fault ≡ Memory) ⊎ refusing.HearingIsRefused site.Hears site.IsRefused port.station_of now at i.from i.octets
     i.stamp r fault → StrayIsRefused i w fault
 relay_refuses i w place at r now fault e to (inl m) = inl m
 relay_refuses {A} i w place at r now fault e to (inr h) = inr (inr (inr (record {
@@ -94,6 +91,6 @@ relay_refuses {A} i w place at r now fault e to (inr h) = inr (inr (inr (record 
   at = at;
   r = r;
   addressee = to;
-  refuses = subst (λ (m : ℕ). refusing.HearingIsRefused ip.Hears ip_hearing.IsRefused port.station_of m at i.from
+  refuses = subst (λ (m : ℕ). refusing.HearingIsRefused site.Hears site.IsRefused port.station_of m at i.from
       i.octets i.stamp r fault) e h;
 })))

@@ -1,20 +1,21 @@
 -- A plan of a station of a world, and that it was done.
 use Rattle.std.specs.Prelude.{◌≡◌, ℕ, List, ◌++◌, Option, Some, option_to_list, slice_get}
-use Rattle.carry_said.specs.Said.{HasInsides}
+use Rattle.chronicle.specs.carry_said.Said.{HasInsides}
 use Rattle.history.specs.declared.Entry.{Entry}
 use Rattle.npdu.specs.declared.mac.Station.{Station}
 use Rattle.primitives.specs.declared.plain_data.Reply.{Reply}
 use Rattle.primitives.specs.declared.plain_data.Request.{Request}
-use Rattle.link_ip.specs.Port.{IpPortState}
+use Rattle.link_site.specs.Port.{station_of}
+use Rattle.link_site.specs.declared.port.SitePort.{SitePort}
 use Rattle.site_station.specs.Entity as entity
 use Rattle.site_station.specs.Station.{IsPlanned, left_by, told_by}
 use Rattle.site_station.specs.declared.station.StationPlan.{StationPlan}
-use Rattle.hosts.specs.Hosts.{IsHost}
+use Rattle.plans.specs.hosts.Hosts.{IsHost}
 use Rattle.inside.specs.Inside.{AreInside, Said}
 use Rattle.chronicle.specs.Kept.{all_keys, all_said}
 use Rattle.chronicle.specs.Growing.{AreFromMacs, items_of, told_in}
-use Rattle.internetwork.specs.Step.{Acts}
-use Rattle.hosts.specs.Stations.{WorldStation}
+use Rattle.internetwork.specs.Acting.{Acts}
+use Rattle.plans.specs.hosts.Stations.{WorldStation}
 use Rattle.internetwork.specs.World.{WorldState}
 use Rattle.chronicle.specs.declared.chronicle.Chronicle.{Chronicle}
 use Rattle.chronicle.specs.declared.key.Key as kept
@@ -25,28 +26,22 @@ pub record AtPlace {X : Type 0} (place : ℕ) (xs : List X) (P : X → Type 0) :
   pub there : slice_get xs place ≡ Some one
   pub holds : P one
 
--- a station made this plan in this state at this moment, what it says can be told, and it stands once it is done
-pub record MayBeDone {A : Type 0} (now : ℕ) (plan : StationPlan (IpPortState A) A) (s : WorldStation A) : Type 0 where
-  pub planned : IsPlanned now s plan
-  pub insides : HasInsides (entity.station_of s.entity).net (told_by plan).told.said
-  pub stands : IsHost now (left_by now plan s)
-
 -- the plan was done, with this issue or restart before what it told
-pub record IsDone {A : Type 0} (w v : WorldState A) (place : ℕ) (plan : StationPlan (IpPortState A) A)
+pub record IsDone {A : Type 0} (w v : WorldState A) (place : ℕ) (plan : StationPlan (SitePort A) A)
     (key : Option kept.Key) (entry : Option (Entry Station (Request A) (Reply A))) (s : WorldStation A) : Type 0 where
-  pub acts : Acts w v place s (left_by w.moment plan s) (told_by plan) w.items
+  pub acts : Acts w v place s (left_by w.moment plan s) (told_by plan) w.items w.buses
   pub keys : v.keys ≡ w.keys ++ all_keys (option_to_list key)
   pub history : v.history ≡ told_in (entity.station_of s.entity) w.moment v.keys (told_by plan).told
       (w.history ++ option_to_list entry)
 
 -- .. and this is how a chronicle of all that happened grew by it
-pub record Tells {A : Type 0} (now : ℕ) (plan : StationPlan (IpPortState A) A) (key : Option kept.Key)
+pub record Tells {A : Type 0} (now : ℕ) (plan : StationPlan (SitePort A) A) (key : Option kept.Key)
     (entry : Option (Entry Station (Request A) (Reply A))) (s : WorldStation A) (old new : Chronicle A) : Type 0 where
   pub fresh : List Said
   pub insides : AreInside (entity.station_of s.entity).net (told_by plan).told.said fresh
   pub said : all_said new.said.items ≡ all_said old.said.items ++ fresh
-  pub items : new.items.items ≡ old.items.items ++ items_of now s.ports (told_by plan).out
-  pub from : AreFromMacs (items_of {A = A} now s.ports (told_by plan).out)
+  pub items : new.items.items ≡ old.items.items ++ items_of station_of now s.ports (told_by plan).out
+  pub from : AreFromMacs (items_of {A = A} station_of now s.ports (told_by plan).out)
   pub keys : all_keys new.keys.items ≡ all_keys old.keys.items ++ all_keys (option_to_list key)
   pub history : new.history.items ≡ told_in (entity.station_of s.entity) now (all_keys new.keys.items)
       (told_by plan).told (old.history.items ++ option_to_list entry)

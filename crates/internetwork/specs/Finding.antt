@@ -1,14 +1,15 @@
 -- Which station an event is for: that of a name, or that which is at an address.
 use Rattle.std.specs.Prelude.{◌≡◌, ℕ, ◌+◌, Bool, List, [], ◌∷◌, length, Some, None, bytes_eq, slice_get}
-use Rattle.hosts.specs.Finding.{IsHostAt, IsNoHostAt}
+use Rattle.plans.specs.hosts.Finding.{IsHostAt, IsNoHostAt}
 use Rattle.npdu.specs.declared.mac.Station.{Station}
 use Rattle.object_model.specs.Objects.{PlainTable}
 use Rattle.relays.specs.Finding.{IsRelayAt, place_of}
-use Rattle.relays.specs.Laws.{IpRelay}
+use Rattle.link_site.specs.Port.{station_of}
+use Rattle.relays.specs.Laws.{SiteRelay}
 use Rattle.site_station.specs.declared.entity.Entity.{Entity}
 use Rattle.site_station.specs.declared.entity.Entity.TheVariants.{Device, Client}
 use Rattle.traffic.specs.declared.item.Item.{Item}
-use Rattle.hosts.specs.Stations.{WorldStation}
+use Rattle.plans.specs.hosts.Stations.{WorldStation}
 use Rattle.internetwork.specs.World.{WorldState}
 
 -- this part of the site is the first of a name
@@ -25,27 +26,27 @@ pub record IsNobody {A : Type 0} (name : List ℕ) (w : WorldState A) : Type 0 w
   pub none : (place : ℕ) (s : WorldStation A) → IsNamed name w place s → ⊥
 
 -- this relay is the one of a name
-pub record IsRelayNamed {A : Type 0} (name : List ℕ) (w : WorldState A) (place : ℕ) (r : IpRelay A) : Type 0 where
+pub record IsRelayNamed {A : Type 0} (name : List ℕ) (w : WorldState A) (place : ℕ) (r : SiteRelay A) : Type 0 where
   pub named : IsPartNamed name w place
   pub there : slice_get w.relays place ≡ Some r
 
 -- no relay has this name
 pub record IsNoRelay {A : Type 0} (name : List ℕ) (w : WorldState A) : Type 0 where
-  pub none : (place : ℕ) (r : IpRelay A) → IsRelayNamed name w place r → ⊥
+  pub none : (place : ℕ) (r : SiteRelay A) → IsRelayNamed name w place r → ⊥
 
 -- this port of this device or client is at an address
 abbrev pub IsAddressee : {A : Type 0} → Station → WorldState A → (place port : ℕ) → WorldStation A → Type 0
 IsAddressee x w place port s = IsHostAt x w.stations place port s
 
 -- no device and no client is at an address, and this place of this relay is
-pub record IsRelayAddressee {A : Type 0} (x : Station) (w : WorldState A) (place port : ℕ) (r : IpRelay A) :
+pub record IsRelayAddressee {A : Type 0} (x : Station) (w : WorldState A) (place port : ℕ) (r : SiteRelay A) :
     Type 0 where
   pub no_station : IsNoHostAt x w.stations
-  pub relay : IsRelayAt x w.relays place port r
+  pub relay : IsRelayAt station_of x w.relays place port r
 
 -- a device or a client is at an address, or no relay is
 pub record HasNoRelay {A : Type 0} (x : Station) (w : WorldState A) : Type 0 where
-  pub none : (place port : ℕ) (r : IpRelay A) → IsRelayAddressee x w place port r → ⊥
+  pub none : (place port : ℕ) (r : SiteRelay A) → IsRelayAddressee x w place port r → ⊥
 
 -- the station that an item goes to (6.1)
 abbrev pub addressee_of : {A : Type 0} → Item A → Station

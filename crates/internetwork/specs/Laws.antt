@@ -2,12 +2,12 @@
 use Rattle.std.specs.Prelude.{◌≤◌, ℕ, List}
 use Rattle.std.specs.List.{AllByRecursion}
 use Rattle.chronicle.specs.Growing.{AreFromMacs}
-use Rattle.hosts.specs.Hosts.{IsHost, IsOfSite}
-use Rattle.hosts.specs.Opening.{object_site}
-use Rattle.hosts.specs.Stations.{WorldStation}
+use Rattle.plans.specs.hosts.Hosts.{IsHost, IsOfSite}
+use Rattle.plans.specs.hosts.Opening.{object_site}
+use Rattle.plans.specs.hosts.Stations.{WorldStation}
 use Rattle.internetwork.specs.World.{WorldState}
 use Rattle.profile.specs.Times.{MAX_MOMENT_MS}
-use Rattle.relays.specs.Laws.{IpRelay, RelayStands}
+use Rattle.relays.specs.Laws.{RelayStands, SiteRelay}
 use Rattle.site_parts.specs.declared.parts.Parts.{Parts}
 use Rattle.traffic.specs.declared.item.Item.{Item}
 
@@ -18,7 +18,7 @@ pub record AreSteady {A : Type 0} (site : Parts A) (moment : ℕ) (stations : Li
   pub of_site : AllByRecursion (λ s. IsOfSite (object_site site) s.entity) stations
 
 -- each relay stands as it must, and each item is from a link address
-pub record ArePassing {A : Type 0} (moment : ℕ) (rs : List (IpRelay A)) (items : List (Item A)) : Type 0 where
+pub record ArePassing {A : Type 0} (moment : ℕ) (rs : List (SiteRelay A)) (items : List (Item A)) : Type 0 where
   pub relays : AllByRecursion (RelayStands moment) rs
   pub from : AreFromMacs items
 

@@ -1,10 +1,10 @@
 -- Why an event is refused.
 use Rattle.std.specs.Prelude.{◌≡◌, ◌⊎◌, ◌<◌, ℕ, ◌+◌, true, false, List, [], ◌∷◌, map, Some, slice_get}
-use Rattle.link_ip.specs.Hearing as ip
-use Rattle.link_ip.specs.Port as port
-use Rattle.link_ip.specs.Steps as ip_steps
+use Rattle.link_site.specs.Port as port
+use Rattle.link_site.specs.Steps as site
 use Rattle.link_ports.specs.Ports.{IsTooLong}
 use Rattle.npdu.specs.declared.mac.Station.{Station}
+use Rattle.plans.specs.Plans.{WakeIsTooLong, places_of}
 use Rattle.profile.specs.Times.{MAX_MOMENT_MS}
 use Rattle.site_station.specs.Entity.{IsClient, told_awake}
 use Rattle.site_station.specs.Station.{AskingIsRefused, HearingIsRefused, ITS_PORT, IsNotForeign, IssueIsRefused}
@@ -12,18 +12,15 @@ use Rattle.tags.specs.declared.fault.Fault.{Fault}
 use Rattle.tags.specs.declared.fault.Fault.TheVariants.{Expired, Memory, NoSuch, TooLong}
 use Rattle.traffic.specs.Seeking.{is_young}
 use Rattle.traffic.specs.declared.item.Item.{Item}
-use Rattle.relays.specs.Laws.{IpRelay}
+use Rattle.relays.specs.Laws.{SiteRelay}
 use Rattle.relays.specs.Refusals as relay
 use Rattle.internetwork.specs.Finding.{HasNoRelay, IsAddressee, IsNamed, IsNoRelay, IsNobody, IsRelayAddressee, IsRelayNamed, addressee_of}
+use Rattle.internetwork.specs.Hearing.{HasListener, HasNoListener, RefusesOctets, Then}
 use Rattle.internetwork.specs.Step.{Steps}
-use Rattle.hosts.specs.Stations.{WorldStation}
+use Rattle.plans.specs.hosts.Stations.{WorldStation}
 use Rattle.internetwork.specs.World.{WorldState}
 use Rattle.internetwork.specs.declared.event.Event.{Event}
 use Rattle.internetwork.specs.declared.event.Event.TheVariants as event
-
--- the places of a station's ports (6.1)
-abbrev pub places_of : {A : Type 0} → WorldStation A → List Station
-places_of s = map (λ l. port.station_of l) s.ports
 
 -- the station of a name refuses so
 pub record OfNamed {A : Type 0} (name : List ℕ) (w : WorldState A) (Says : WorldStation A → Type 0) : Type 0 where
@@ -36,10 +33,6 @@ pub record OfNamed {A : Type 0} (name : List ℕ) (w : WorldState A) (Says : Wor
 abbrev pub RefusesNamed : {A : Type 0} → (name : List ℕ) → WorldState A → Fault → (WorldStation A → Type 0) → Type 0
 RefusesNamed name w fault Says = ((fault ≡ NoSuch) × IsNobody name w) ⊎ OfNamed name w Says
 
--- a wake is refused where what its entity says is too long for its port (9, J)
-abbrev pub WakeIsTooLong : {A : Type 0} → (now : ℕ) → Fault → WorldStation A → Type 0
-WakeIsTooLong now fault s = (fault ≡ TooLong) × IsTooLong (places_of s) ITS_PORT (told_awake now s.entity).said
-
 -- nobody has this name
 pub record HasNoName {A : Type 0} (name : List ℕ) (w : WorldState A) : Type 0 where
   pub station : IsNobody name w
@@ -48,7 +41,7 @@ pub record HasNoName {A : Type 0} (name : List ℕ) (w : WorldState A) : Type 0 
 -- the relay of a name refuses its wake: what it says is too long for its port (6.6.2)
 pub record OfRelay {A : Type 0} (name : List ℕ) (w : WorldState A) (fault : Fault) : Type 0 where
   pub place : ℕ
-  pub r : IpRelay A
+  pub r : SiteRelay A
   pub named : IsRelayNamed name w place r
   pub refuses : relay.WakeIsRefused A port.station_of w.moment r fault
 
@@ -85,7 +78,7 @@ pub record IsTooOld {A : Type 0} (number : ℕ) (w : WorldState A) : Type 0 wher
 pub record IsRefusedThere {A : Type 0} (number : ℕ) (w : WorldState A) (fault : Fault) : Type 0 where
   pub goes : GoesTo number w
   pub young : is_young w.moment goes.item ≡ true
-  pub refuses : HearingIsRefused ip_steps.Hears ip.IsRefused port.station_of w.moment goes.port goes.item.from
+  pub refuses : HearingIsRefused site.Hears site.IsRefused port.station_of w.moment goes.port goes.item.from
       goes.item.octets goes.item.stamp goes.s fault
 
 -- an item goes to a relay, which may still hear it or not
@@ -93,7 +86,7 @@ pub record GoesToRelay {A : Type 0} (number : ℕ) (w : WorldState A) : Type 0 w
   pub item : Item A
   pub place : ℕ
   pub port : ℕ
-  pub r : IpRelay A
+  pub r : SiteRelay A
   pub there : slice_get w.items number ≡ Some item
   pub addressee : IsRelayAddressee (addressee_of item) w place port r
 
@@ -106,7 +99,7 @@ pub record IsTooOldThere {A : Type 0} (number : ℕ) (w : WorldState A) : Type 0
 pub record RelayRefuses {A : Type 0} (number : ℕ) (w : WorldState A) (fault : Fault) : Type 0 where
   pub goes : GoesToRelay number w
   pub young : is_young w.moment goes.item ≡ true
-  pub refuses : relay.HearingIsRefused ip_steps.Hears ip.IsRefused port.station_of w.moment goes.port goes.item.from
+  pub refuses : relay.HearingIsRefused site.Hears site.IsRefused port.station_of w.moment goes.port goes.item.from
       goes.item.octets goes.item.stamp goes.r fault
 
 -- why an item that goes to a relay is refused
@@ -133,9 +126,10 @@ Refuses (event.Wake station) w fault = RefusesWake station w fault
 Refuses (event.Deliver number) w fault =
     RefusesItem number w fault ⊎ (IsRefusedThere number w fault ⊎ IsRefusedByRelay number w fault)
 Refuses (event.Restart station) w fault = RefusesNamed station w fault (λ s. (fault ≡ NoSuch) × IsClient s.entity)
-Refuses (event.Hear network station octets) w fault = fault ≡ NoSuch
+Refuses (event.Hear network station octets) w fault =
+    ((fault ≡ NoSuch) × HasNoListener network station w) ⊎ RefusesOctets network station octets w fault
 Refuses (event.Register station) w fault = RefusesNamed station w fault
-    (λ s. (fault ≡ NoSuch) × IsNotForeign ip_steps.Registers w.moment s)
+    (λ s. (fault ≡ NoSuch) × IsNotForeign site.Registers w.moment s)
 
 -- an item that may still be heard goes to a station
 pub record MayBeHeard {A : Type 0} (number : ℕ) (w : WorldState A) : Type 0 where
@@ -147,11 +141,12 @@ pub record RelayMayHear {A : Type 0} (number : ℕ) (w : WorldState A) : Type 0 
   pub goes : GoesToRelay number w
   pub young : is_young w.moment goes.item ≡ true
 
--- an event may want memory: not a tick, and no delivery that is refused for the item itself
+-- an event may want memory: not a tick, no delivery that is refused for the item itself, and no hearing of a station that
+-- isn't on that bus
 abbrev pub MayGrow : {A : Type 0} → Event A → WorldState A → Type 0
 MayGrow (event.Tick n) w = ⊥
 MayGrow (event.Deliver number) w = MayBeHeard number w ⊎ RelayMayHear number w
-MayGrow (event.Hear network station octets) w = ⊥
+MayGrow (event.Hear network station octets) w = HasListener network station w
 MayGrow e w = Unit {0}
 
 -- why an event is refused
@@ -166,12 +161,6 @@ pub record IsRefusedSo {A : Type 0} (e : Event A) (w v : WorldState A) : Type 0 
 
 abbrev pub Comes : {A : Type 0} → Event A → WorldState A → WorldState A → Type 0
 Comes e w v = Steps e w v ⊎ IsRefusedSo e w v
-
--- one event, and then others
-pub record Then {A : Type 0} (First Rest : WorldState A → Type 0) : Type 0 where
-  pub middle : WorldState A
-  pub first : First middle
-  pub rest : Rest middle
 
 -- what events leave, one after another: none is left out but the refused
 abbrev pub Runs : {A : Type 0} → List (Event A) → WorldState A → WorldState A → Type 0

@@ -3,10 +3,14 @@
 use Rattle.std.specs.Prelude.{◌≡◌, ◌≤◌, ◌⊎◌, ℕ, ◌+◌, true, List, [], ◌∷◌, ◌++◌, length, Option, Some, None, slice_get}
 use Rattle.std.specs.Prelude.{slice_set}
 use Rattle.apdu.specs.declared.unconfirmed.Limits.{Limits}
+use Rattle.buses.specs.Hearing.{ears_anew}
+use Rattle.buses.specs.Puts.{BusesState}
 use Rattle.history.specs.declared.Entry.TheVariants.{Issue, Restarted}
-use Rattle.inside.specs.Inside.{AreInside, Said}
-use Rattle.link_ip.specs.Port as port
-use Rattle.link_ip.specs.Steps as ip
+use Rattle.link_site.specs.Port as port
+use Rattle.link_site.specs.Steps as site
+use Rattle.npdu.specs.declared.mac.Mac.{Mac}
+use Rattle.npdu.specs.declared.mac.Mac.TheVariants.{One, Six}
+use Rattle.npdu.specs.declared.mac.Station.{Station}
 use Rattle.primitives.specs.Sound.{IsSoundRequest}
 use Rattle.primitives.specs.declared.plain_data.Request.{Request}
 use Rattle.profile.specs.Times.{MAX_MOMENT_MS}
@@ -18,12 +22,14 @@ use Rattle.site_station.specs.declared.entity.Entity.TheVariants.{Device, Client
 use Rattle.traffic.specs.Seeking.{is_young}
 use Rattle.traffic.specs.declared.item.Item.{Item}
 use Rattle.link_ports.specs.declared.ports.PortSent.{PortSent}
-use Rattle.relays.specs.Laws.{IpRelay, ip_places}
+use Rattle.relays.specs.Laws.{SiteRelay}
 use Rattle.relays.specs.Steps.{RelayHears, RelayWakes}
+use Rattle.internetwork.specs.Acting.{Acts, RelayActs}
+use Rattle.internetwork.specs.Hearing.{Hears}
 use Rattle.internetwork.specs.Finding.{IsAddressee, IsNamed, IsRelayAddressee, IsRelayNamed, addressee_of}
-use Rattle.hosts.specs.Opening.{object_site}
-use Rattle.hosts.specs.Stations.{WorldStation}
-use Rattle.chronicle.specs.Growing.{WorldHistory, items_at, items_of, told_in}
+use Rattle.plans.specs.hosts.Opening.{object_site}
+use Rattle.plans.specs.hosts.Stations.{WorldStation}
+use Rattle.chronicle.specs.Growing.{WorldHistory, told_in}
 use Rattle.internetwork.specs.World.{WorldState}
 use Rattle.internetwork.specs.declared.event.Event.{Event}
 use Rattle.internetwork.specs.declared.event.Event.TheVariants as event
@@ -31,29 +37,6 @@ use Rattle.internetwork.specs.declared.event.Event.TheVariants as event
 -- the item of this number was delivered
 abbrev pub delivered : {A : Type 0} → (number : ℕ) → Item A → List (Item A) → List (Item A)
 delivered number i items = slice_set items number (record i { is_delivered = true })
-
--- the station at a place did this: what it put out stands behind these items, and what its entity said behind all that
--- was said; no other station has changed, and the moment is as before
-pub record Acts {A : Type 0} (w v : WorldState A) (place : ℕ) (s next : WorldStation A) (t : StationTold A)
-    (items : List (Item A)) : Type 0 where
-  pub there : slice_get w.stations place ≡ Some s
-  pub fresh : List Said
-  pub insides : AreInside (entity.station_of s.entity).net t.told.said fresh
-  pub site : v.site ≡ w.site
-  pub moment : v.moment ≡ w.moment
-  pub relays : v.relays ≡ w.relays
-  pub stations : v.stations ≡ slice_set w.stations place next
-  pub items_are : v.items ≡ items ++ items_of w.moment s.ports t.out
-  pub said : v.said ≡ w.said ++ fresh
-
--- the relay at a place did this: what it put out stands behind these items, and nothing else has changed
-pub record RelayActs {A : Type 0} (w v : WorldState A) (place : ℕ) (r next : IpRelay A) (out : List (PortSent A))
-    (items : List (Item A)) : Type 0 where
-  pub there : slice_get w.relays place ≡ Some r
-  pub is : v ≡ record w {
-    relays = slice_set w.relays place next;
-    items = items ++ items_at w.moment (ip_places r) out;
-  }
 
 -- an item is handed to its addressee, which hears it
 pub record Delivers {A : Type 0} (number : ℕ) (w v : WorldState A) : Type 0 where
@@ -66,8 +49,8 @@ pub record Delivers {A : Type 0} (number : ℕ) (w v : WorldState A) : Type 0 wh
   pub there : slice_get w.items number ≡ Some item
   pub addressee : IsAddressee (addressee_of item) w place port s
   pub young : is_young w.moment item ≡ true
-  pub hears : StationHears ip.Hears ip.Downs w.moment port item.from item.octets item.stamp s told next
-  pub acts : Acts w v place s next told (delivered number item w.items)
+  pub hears : StationHears site.Hears site.Downs w.moment port item.from item.octets item.stamp s told next
+  pub acts : Acts w v place s next told (delivered number item w.items) w.buses
   pub keys : v.keys ≡ w.keys
   pub history : v.history ≡ told_in (entity.station_of s.entity) w.moment w.keys told.told w.history
 
@@ -76,14 +59,14 @@ pub record DeliversToRelay {A : Type 0} (number : ℕ) (w v : WorldState A) : Ty
   pub item : Item A
   pub place : ℕ
   pub port : ℕ
-  pub r : IpRelay A
-  pub next : IpRelay A
+  pub r : SiteRelay A
+  pub next : SiteRelay A
   pub out : List (PortSent A)
   pub there : slice_get w.items number ≡ Some item
   pub addressee : IsRelayAddressee (addressee_of item) w place port r
   pub young : is_young w.moment item ≡ true
-  pub hears : RelayHears ip.Hears ip.Downs w.moment port item.from item.octets item.stamp r out next
-  pub acts : RelayActs w v place r next out (delivered number item w.items)
+  pub hears : RelayHears site.Hears site.Downs w.moment port item.from item.octets item.stamp r out next
+  pub acts : RelayActs w v place r next out (delivered number item w.items) w.buses
 
 -- a station wakes
 pub record Wakes {A : Type 0} (name : List ℕ) (w v : WorldState A) : Type 0 where
@@ -92,20 +75,20 @@ pub record Wakes {A : Type 0} (name : List ℕ) (w v : WorldState A) : Type 0 wh
   pub next : WorldStation A
   pub told : StationTold A
   pub named : IsNamed name w place s
-  pub wakes : StationWakes ip.is_due ip.Idles ip.Downs w.moment s told next
-  pub acts : Acts w v place s next told w.items
+  pub wakes : StationWakes site.is_due site.Wakes site.Downs w.moment s told next
+  pub acts : Acts w v place s next told w.items w.buses
   pub keys : v.keys ≡ w.keys
   pub history : v.history ≡ told_in (entity.station_of s.entity) w.moment w.keys told.told w.history
 
 -- a relay wakes (6.6.2, J.5.2.3)
 pub record RelayWakesUp {A : Type 0} (name : List ℕ) (w v : WorldState A) : Type 0 where
   pub place : ℕ
-  pub r : IpRelay A
-  pub next : IpRelay A
+  pub r : SiteRelay A
+  pub next : SiteRelay A
   pub out : List (PortSent A)
   pub named : IsRelayNamed name w place r
-  pub wakes : RelayWakes ip.is_due ip.Idles ip.Downs w.moment r out next
-  pub acts : RelayActs w v place r next out w.items
+  pub wakes : RelayWakes site.is_due site.Wakes site.Downs w.moment r out next
+  pub acts : RelayActs w v place r next out w.items w.buses
 
 -- a foreign station registers at its manager (J.5.2)
 pub record Registers {A : Type 0} (name : List ℕ) (w v : WorldState A) : Type 0 where
@@ -114,8 +97,8 @@ pub record Registers {A : Type 0} (name : List ℕ) (w v : WorldState A) : Type 
   pub next : WorldStation A
   pub told : StationTold A
   pub named : IsNamed name w place s
-  pub registers : StationRegisters ip.Registers w.moment s told next
-  pub acts : Acts w v place s next told w.items
+  pub registers : StationRegisters site.Registers w.moment s told next
+  pub acts : Acts w v place s next told w.items w.buses
   pub keys : v.keys ≡ w.keys
   pub history : v.history ≡ w.history
 
@@ -127,8 +110,8 @@ pub record Issues {A : Type 0} (name : List ℕ) (instance : ℕ) (request : Req
   pub told : StationTold A
   pub id : ℕ
   pub named : IsNamed name w place s
-  pub issues : StationIssues ip.Downs w.moment instance request id s told next
-  pub acts : Acts w v place s next told w.items
+  pub issues : StationIssues site.Downs w.moment instance request id s told next
+  pub acts : Acts w v place s next told w.items w.buses
   pub keys : v.keys ≡ w.keys ++ record { client = entity.station_of s.entity; invoke_id = id } ∷ []
   pub history : v.history ≡
       w.history ++ Issue (length w.keys) (entity.station_of s.entity) instance request w.moment ∷ []
@@ -140,8 +123,8 @@ pub record Asks {A : Type 0} (name : List ℕ) (limits : Option Limits) (w v : W
   pub next : WorldStation A
   pub told : StationTold A
   pub named : IsNamed name w place s
-  pub asks : StationAsks ip.Downs w.moment limits s told next
-  pub acts : Acts w v place s next told w.items
+  pub asks : StationAsks site.Downs w.moment limits s told next
+  pub acts : Acts w v place s next told w.items w.buses
   pub keys : v.keys ≡ w.keys
   pub history : v.history ≡ w.history
 
@@ -150,6 +133,14 @@ abbrev pub restarted : {A : Type 0} → (now : ℕ) → Entity A → WorldHistor
 restarted now (Device d) = Restarted d.instance now ∷ []
 restarted now (Client c) = []
 
+abbrev pub deafened_at : {A : Type 0} → (now net : ℕ) → Mac → BusesState A → BusesState A
+deafened_at now net (One mac) buses = ears_anew now net mac buses
+deafened_at now net (Six octets) buses = buses
+
+-- the ears of a station on a bus are made anew at a moment: they keep nothing of a frame that was cut (9.5.4)
+abbrev pub deafened : {A : Type 0} → (now : ℕ) → Station → BusesState A → BusesState A
+deafened now x buses = deafened_at now x.net x.mac buses
+
 -- a device restarts, with the objects that the site gives it (12)
 pub record Restarts {A : Type 0} (name : List ℕ) (w v : WorldState A) : Type 0 where
   pub place : ℕ
@@ -157,9 +148,9 @@ pub record Restarts {A : Type 0} (name : List ℕ) (w v : WorldState A) : Type 0
   pub next : WorldStation A
   pub told : StationTold A
   pub named : IsNamed name w place s
-  pub restarts : StationRestarts port.at_moment w.moment
+  pub restarts : StationRestarts port.restarted w.moment
       ((object_site w.site).opening (entity.station_of s.entity)) s told next
-  pub acts : Acts w v place s next told w.items
+  pub acts : Acts w v place s next told w.items (deafened w.moment (entity.station_of s.entity) w.buses)
   pub keys : v.keys ≡ w.keys
   pub history : v.history ≡ w.history ++ restarted w.moment s.entity
 
@@ -182,7 +173,7 @@ Steps (event.Tick n) w v = Ticks n w v
 Steps (event.Wake station) w v = Wakes station w v ⊎ RelayWakesUp station w v
 Steps (event.Deliver number) w v = Delivers number w v ⊎ DeliversToRelay number w v
 Steps (event.Restart station) w v = Restarts station w v
-Steps (event.Hear network station octets) w v = ⊥
+Steps (event.Hear network station octets) w v = Hears network station octets w v
 Steps (event.Register station) w v = Registers station w v
 
 -- the requests of these events are sound (12, 15)

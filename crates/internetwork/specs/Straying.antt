@@ -1,18 +1,17 @@
 -- A datagram that no station of the site sent, at one of its addresses.
 use Rattle.std.specs.Prelude.{◌≡◌, ◌⊎◌, ℕ, false, List}
 use Rattle.chronicle.specs.Growing.{told_in}
-use Rattle.hosts.specs.Finding.{IsNoHostAt}
-use Rattle.hosts.specs.Stations.{WorldStation}
+use Rattle.plans.specs.hosts.Finding.{IsNoHostAt}
+use Rattle.plans.specs.hosts.Stations.{WorldStation}
 use Rattle.internetwork.specs.Finding.{HasNoRelay, IsAddressee, IsRelayAddressee, addressee_of}
-use Rattle.internetwork.specs.Step.{Acts, RelayActs}
+use Rattle.internetwork.specs.Acting.{Acts, RelayActs}
 use Rattle.internetwork.specs.World.{WorldState}
-use Rattle.link_ip.specs.Hearing as ip
-use Rattle.link_ip.specs.Port as port
-use Rattle.link_ip.specs.Steps as ip_steps
+use Rattle.link_site.specs.Port as port
+use Rattle.link_site.specs.Steps as site
 use Rattle.link_ports.specs.declared.ports.PortSent.{PortSent}
 use Rattle.npdu.specs.declared.mac.Mac.{Mac}
 use Rattle.npdu.specs.declared.mac.Station.{Station}
-use Rattle.relays.specs.Laws.{IpRelay}
+use Rattle.relays.specs.Laws.{SiteRelay}
 use Rattle.relays.specs.Refusals as relay
 use Rattle.relays.specs.Steps.{RelayHears}
 use Rattle.site_station.specs.Entity as entity
@@ -41,8 +40,8 @@ pub record HostTakes {A : Type 0} (i : Item A) (w v : WorldState A) : Type 0 whe
   pub next : WorldStation A
   pub told : StationTold A
   pub addressee : IsAddressee (addressee_of i) w place at s
-  pub hears : StationHears ip_steps.Hears ip_steps.Downs w.moment at i.from i.octets i.stamp s told next
-  pub acts : Acts w v place s next told w.items
+  pub hears : StationHears site.Hears site.Downs w.moment at i.from i.octets i.stamp s told next
+  pub acts : Acts w v place s next told w.items w.buses
   pub keys : v.keys ≡ w.keys
   pub history : v.history ≡ told_in (entity.station_of s.entity) w.moment w.keys told.told w.history
 
@@ -50,12 +49,12 @@ pub record HostTakes {A : Type 0} (i : Item A) (w v : WorldState A) : Type 0 whe
 pub record RelayTakes {A : Type 0} (i : Item A) (w v : WorldState A) : Type 0 where
   pub place : ℕ
   pub at : ℕ
-  pub r : IpRelay A
-  pub next : IpRelay A
+  pub r : SiteRelay A
+  pub next : SiteRelay A
   pub out : List (PortSent A)
   pub addressee : IsRelayAddressee (addressee_of i) w place at r
-  pub hears : RelayHears ip_steps.Hears ip_steps.Downs w.moment at i.from i.octets i.stamp r out next
-  pub acts : RelayActs w v place r next out w.items
+  pub hears : RelayHears site.Hears site.Downs w.moment at i.from i.octets i.stamp r out next
+  pub acts : RelayActs w v place r next out w.items w.buses
 
 -- what it leaves, where it is heard
 abbrev pub Strays : {A : Type 0} → Item A → (w v : WorldState A) → Type 0
@@ -72,15 +71,15 @@ pub record HostRefuses {A : Type 0} (i : Item A) (w : WorldState A) (fault : Fau
   pub at : ℕ
   pub s : WorldStation A
   pub addressee : IsAddressee (addressee_of i) w place at s
-  pub refuses : HearingIsRefused ip_steps.Hears ip.IsRefused port.station_of w.moment at i.from i.octets i.stamp s fault
+  pub refuses : HearingIsRefused site.Hears site.IsRefused port.station_of w.moment at i.from i.octets i.stamp s fault
 
 -- the relay at its address refuses it
 pub record RelayRefuses {A : Type 0} (i : Item A) (w : WorldState A) (fault : Fault) : Type 0 where
   pub place : ℕ
   pub at : ℕ
-  pub r : IpRelay A
+  pub r : SiteRelay A
   pub addressee : IsRelayAddressee (addressee_of i) w place at r
-  pub refuses : relay.HearingIsRefused ip_steps.Hears ip.IsRefused port.station_of w.moment at i.from i.octets i.stamp
+  pub refuses : relay.HearingIsRefused site.Hears site.IsRefused port.station_of w.moment at i.from i.octets i.stamp
       r fault
 
 -- why it is refused, other than for want of memory

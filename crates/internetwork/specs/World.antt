@@ -1,24 +1,34 @@
 -- A world as it is kept: a site, its stations, what is on its way, what was said, and the history.
-use Rattle.std.specs.Prelude.{ℕ, List, [], map}
-use Rattle.carry.specs.Things.{SentDatagram, Thing}
+use Rattle.std.specs.Prelude.{ℕ, List, [], ◌++◌, map}
+use Rattle.std.specs.List.{flat_map}
+use Rattle.bus_traffic.specs.Bus.{BusState}
+use Rattle.buses.specs.Puts.{BusesState}
+use Rattle.buses.specs.Laws.{all_known}
+use Rattle.carry.specs.Things.{SentFrame, Thing, Waiting}
 use Rattle.chronicle.specs.Growing.{WorldHistory}
-use Rattle.carry_world.specs.PlainWorld.{Key, PlainWorld}
-use Rattle.hosts.specs.Opening.{opening_relays, opening_stations}
-use Rattle.hosts.specs.Stations.{WorldStation, clients_of, devices_of}
+use Rattle.chronicle.specs.carry_world.PlainWorld.{Key, PlainWorld}
+use Rattle.plans.specs.hosts.Buses.{opening_buses}
+use Rattle.plans.specs.hosts.Opening.{opening_relays, opening_stations}
+use Rattle.plans.specs.hosts.Stations.{WorldStation, clients_of, devices_of}
 use Rattle.inside.specs.Inside.{Said}
-use Rattle.relays.specs.Laws.{IpRelay}
+use Rattle.link_site.specs.Port.{station_of, waiting_in}
+use Rattle.link_site.specs.Things.{thing_at}
+use Rattle.link_site.specs.declared.port.SitePort.{SitePort}
+use Rattle.relays.specs.Laws.{SiteRelay}
+use Rattle.relays.specs.declared.relay.Relay.TheVariants.{Router, Manager}
 use Rattle.site_parts.specs.declared.parts.Parts.{Parts}
 use Rattle.traffic.specs.declared.item.Item.{Item}
 
 -- relays: managers and routers, in the order of the site. stations: behind them devices and clients, in that order. items:
--- what was put out, numbered from 0 on. keys: who issued, and under which invoke ID, of each issue in order. moment: in
--- milliseconds
+-- what was put out on networks of BACnet/IP, numbered from 0 on. buses: in the order of the site. keys: who issued, and
+-- under which invoke ID, of each issue in order. moment: in milliseconds
 pub record WorldState (A : Type 0) : Type 0 where
   pub site : Parts A
   pub moment : ℕ
-  pub relays : List (IpRelay A)
+  pub relays : List (SiteRelay A)
   pub stations : List (WorldStation A)
   pub items : List (Item A)
+  pub buses : BusesState A
   pub keys : List Key
   pub history : WorldHistory A
   pub said : List Said
@@ -31,6 +41,7 @@ fresh_world p = record {
   relays = opening_relays p;
   stations = opening_stations p;
   items = [];
+  buses = record { buses = opening_buses p; frames = 0 };
   keys = [];
   history = [];
   said = [];
@@ -38,7 +49,25 @@ fresh_world p = record {
 
 -- an item as a thing on its way (J.2)
 abbrev pub thing_of : {A : Type 0} → Item A → Thing A
-thing_of i = SentDatagram i.net i.from i.to i.octets i.stamp
+thing_of i = thing_at i.net i.from i.to i.octets i.stamp
+
+-- the parcels that wait in these ports, as things on their way (9.5.6)
+abbrev pub waits_in : {A : Type 0} → List (SitePort A) → List (Thing A)
+waits_in ports = flat_map (λ l. map (λ p. Waiting (station_of l).net p) (waiting_in l)) ports
+
+-- the ports of a relay: a manager has none, since nothing of it waits
+abbrev pub relay_ports : {A : Type 0} → SiteRelay A → List (SitePort A)
+relay_ports (Router s) = s.ports
+relay_ports (Manager s) = []
+
+-- the frames that are known on these buses, as things on their way (9.3)
+abbrev pub frames_on : {A : Type 0} → List (BusState A) → List (Thing A)
+frames_on {A} bs = all_known {X = Thing A} SentFrame bs
+
+-- all things on their way: datagrams and frames that were put out, and parcels that wait
+abbrev pub things_of : {A : Type 0} → WorldState A → List (Thing A)
+things_of w = map (λ i. thing_of i) w.items ++ (frames_on w.buses.buses
+    ++ (flat_map (λ s. waits_in s.ports) w.stations ++ flat_map (λ r. waits_in (relay_ports r)) w.relays))
 
 -- a world by its clients, its devices and the things on their way alone
 abbrev pub plain : {A : Type 0} → WorldState A → PlainWorld A
@@ -48,6 +77,6 @@ plain w = record {
   devices = devices_of w.stations;
   keys = w.keys;
   history = w.history;
-  things = map (λ i. thing_of i) w.items;
+  things = things_of w;
   said = w.said;
 }

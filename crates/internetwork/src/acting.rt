@@ -1,20 +1,28 @@
 //! What a station of a world does: planned by it, and then done with all that grows by it.
 
-ghost use Rattle.std.specs.Prelude.{◌≡◌, ◌≤◌, IfErr, OnOk, OnErr};
+ghost use Rattle.std.specs.Prelude.{◌≡◌, ◌≤◌, IfErr, OnOk, OnErr, length};
+ghost use Rattle.buses.specs.Buses as on_buses;
+ghost use Rattle.buses.specs.Puts.{put_on};
 ghost use Rattle.profile.specs.Times.{MAX_MOMENT_MS};
 ghost use Rattle.chronicle.specs.Chronicle.{IsSame};
-ghost use Rattle.relays.specs.Laws.{RelayStands};
+ghost use Rattle.chronicle.specs.Growing.{frames_at, frames_of};
+ghost use Rattle.link_site.specs.Port as ports;
+ghost use Rattle.relays.specs.Laws.{RelayStands, site_places};
 ghost use Rattle.relays.specs.Relay as passing;
-ghost use Rattle.internetwork.specs.Doing.{AtPlace, IsDone, MayBeDone, Tells};
-ghost use Rattle.internetwork.specs.Passing.{HasPassed, MayPass, Passes};
-ghost use Rattle.hosts.specs.Hosts.{IsHost};
+ghost use Rattle.internetwork.specs.Doing.{AtPlace, IsDone, Tells};
+ghost use Rattle.plans.specs.Plans.{MayBeDone, MayPass};
+ghost use Rattle.internetwork.specs.Passing.{HasPassed, Passes};
+ghost use Rattle.plans.specs.hosts.Hosts.{IsHost};
 ghost use Rattle.site_station.specs.Entity as entity;
 ghost use Rattle.site_station.specs.Station.{left_by};
 
-use crate::internetwork::{Internetwork, WorldPlan, WorldRelayPlan, WorldStation};
+use crate::internetwork::Internetwork;
+use buses::Buses;
 use chronicle::{Chronicle, Key, WorldEntry, growth, outcomes_in, relay_growth};
-use hosts::WorldRelay;
+use link::Link;
+use link_site::SitePort;
 use npdu::Station;
+use plans::{WorldPlan, WorldRelay, WorldRelayPlan, WorldStation};
 use std::alloc::Allocator;
 use tags::Fault;
 
@@ -24,17 +32,19 @@ pub(crate) fn place_of<A: Allocator + Copy>(station: &WorldStation<A>, now: u64)
     ensures { result ≡ entity.station_of station.now.entity }
 {
     let _ = now;
-    station.ports()[0].station()
+    SitePort::station(&station.ports()[0])
 }
 
 /// A station does what it planned at the moment `now`, in milliseconds, and all grows by what comes of it: items, what
-/// was said, and the history, where an issue or a restart stands before what is told. What takes memory comes first.
+/// goes out on buses, what was said, and the history, where an issue or a restart stands before what is told. What takes
+/// memory comes first.
 ///
 /// # Errors
 /// `Memory` alone. All is then as it was.
 fn act<A: Allocator + Copy>(
     alloc: A,
     chronicle: &mut Chronicle<A>,
+    buses: &mut Buses<A>,
     station: &mut WorldStation<A>,
     plan: WorldPlan<A>,
     key: Option<Key>,
@@ -46,13 +56,16 @@ fn act<A: Allocator + Copy>(
     requires planned { MayBeDone now plan station.old }
     ensures left { OnOk result (station.new ≡ left_by now plan station.old) }
     ensures tells { OnOk result (Tells now plan key entry station.old chronicle.old chronicle.new) }
+    ensures puts { OnOk result (on_buses.buses_of buses.new ≡ put_on now (length chronicle.old.items.items)
+        (frames_of ports.station_of station.old.ports plan.out) (on_buses.buses_of buses.old)) }
     ensures cause { IfErr result (λ fault. fault ≡ Fault.Memory) }
     ensures unchanged { OnErr result (station.new ≡ station.old) }
     ensures same { OnErr result (IsSame chronicle.old chronicle.new) }
+    ensures quiet { OnErr result (on_buses.buses_of buses.new ≡ on_buses.buses_of buses.old) }
 {
     let mut plan = plan;
     let place = place_of(station, now);
-    let growth = growth(
+    let mut growth = growth(
         alloc,
         station.ports(),
         place.net,
@@ -62,8 +75,11 @@ fn act<A: Allocator + Copy>(
         now,
     )?;
     let outcomes = outcomes_in(&plan.entity);
+    let frames = std::mem::replace(&mut growth.frames, Vec::new(alloc));
+    let puts = buses.prepare(alloc, frames, chronicle.items.len() as u64)?;
     chronicle.reserve(&growth, outcomes)?;
     let told = station.commit(plan, now)?;
+    buses.put(puts, now);
     chronicle.grow(growth, outcomes);
     chronicle.tell(place, told, now);
     Ok(())
@@ -90,6 +106,7 @@ impl<A: Allocator + Copy> Internetwork<A> {
         act(
             alloc,
             &mut self.chronicle,
+            &mut self.buses,
             &mut self.stations[place],
             plan,
             key,
@@ -99,8 +116,8 @@ impl<A: Allocator + Copy> Internetwork<A> {
     }
 }
 
-/// A relay does what it planned at the moment `now`, in milliseconds, and the items grow by what it puts out. What takes
-/// memory comes first.
+/// A relay does what it planned at the moment `now`, in milliseconds, and the items grow by what it puts out, and the
+/// buses. What takes memory comes first.
 ///
 /// # Errors
 /// `Memory` alone. All is then as it was.
@@ -108,6 +125,7 @@ impl<A: Allocator + Copy> Internetwork<A> {
 fn pass<A: Allocator + Copy>(
     alloc: A,
     chronicle: &mut Chronicle<A>,
+    buses: &mut Buses<A>,
     relay: &mut WorldRelay<A>,
     plan: WorldRelayPlan<A>,
     now: u64,
@@ -116,14 +134,20 @@ fn pass<A: Allocator + Copy>(
     requires stands { RelayStands now relay.old }
     ensures left { OnOk result (relay.new ≡ passing.left_by now plan relay.old) }
     ensures passes { OnOk result (Passes now plan relay.old chronicle.old chronicle.new) }
+    ensures puts { OnOk result (on_buses.buses_of buses.new ≡ put_on now (length chronicle.old.items.items)
+        (frames_at (site_places relay.old) (passing.out_of plan)) (on_buses.buses_of buses.old)) }
     ensures cause { IfErr result (λ fault. fault ≡ Fault.Memory) }
     ensures unchanged { OnErr result (relay.new ≡ relay.old) }
     ensures same { OnErr result (IsSame chronicle.old chronicle.new) }
+    ensures quiet { OnErr result (on_buses.buses_of buses.new ≡ on_buses.buses_of buses.old) }
 {
     let mut plan = plan;
-    let growth = relay_growth(alloc, relay, &mut plan, now)?;
+    let mut growth = relay_growth(alloc, relay, &mut plan, now)?;
+    let frames = std::mem::replace(&mut growth.frames, Vec::new(alloc));
+    let puts = buses.prepare(alloc, frames, chronicle.items.len() as u64)?;
     chronicle.reserve(&growth, 0)?;
     relay.commit(plan, now);
+    buses.put(puts, now);
     chronicle.grow(growth, 0);
     Ok(())
 }
@@ -143,6 +167,7 @@ impl<A: Allocator + Copy> Internetwork<A> {
         pass(
             alloc,
             &mut self.chronicle,
+            &mut self.buses,
             &mut self.relays[place],
             plan,
             now,

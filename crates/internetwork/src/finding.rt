@@ -1,20 +1,21 @@
 //! Which station an event is for.
 
 ghost use Rattle.std.specs.Prelude.{◌≡◌, Some, true, IfOk, IfErr, OnErr, IfSome, IfNone, length, slice_get};
-ghost use Rattle.hosts.specs.Hosts.{IsHost, IsOfSite};
-ghost use Rattle.hosts.specs.Opening.{object_site};
+ghost use Rattle.plans.specs.hosts.Hosts.{IsHost, IsOfSite};
+ghost use Rattle.plans.specs.hosts.Opening.{object_site};
 ghost use Rattle.relays.specs.Laws.{RelayStands};
 ghost use Rattle.internetwork.specs.Finding.{HasNoRelay, HasNoTable, HasTable, IsAddressee, IsNamed, IsNoRelay};
 ghost use Rattle.internetwork.specs.Finding as spec;
 ghost use Rattle.internetwork.specs.Finding.{IsNobody, IsRelayAddressee, IsRelayNamed};
-ghost use Rattle.hosts.specs.Finding.{IsNoHostAt};
+ghost use Rattle.plans.specs.hosts.Finding.{IsNoHostAt};
 ghost use Rattle.internetwork.specs.Refusals.{GoesToNoRelay, RefusesItem};
 ghost use Rattle.traffic.specs.Seeking.{is_young};
 
-use crate::internetwork::{Internetwork, WorldStation};
-use hosts::{HostFound, WorldRelay, host_at, part_named, station_at};
+use crate::internetwork::Internetwork;
+use link_site::SitePort;
 use npdu::Station;
 use objects::Table;
+use plans::{HostFound, WorldRelay, WorldStation, host_at, part_named, station_at};
 use relays::{RelayFound, relay_at, relay_in};
 use site_station::Entity;
 use std::alloc::Allocator;
@@ -138,7 +139,7 @@ impl<A: Allocator + Copy> Internetwork<A> {
     }
 
     /// The relay at an address, if one is, and no device and no client.
-    pub(crate) fn relay_addressee(&self, address: Station) -> Option<RelayFound<'_, A>>
+    pub(crate) fn relay_addressee(&self, address: Station) -> Option<RelayFound<'_, SitePort<A>, A>>
         ensures addressee { IfSome result (λ p. IsRelayAddressee address self.now p.place p.port p.relay.now) }
         ensures stands { IfSome result (λ p. RelayStands self.now.moment p.relay.now) }
         ensures none { IfNone result (HasNoRelay address self.now) }

@@ -1,24 +1,13 @@
 //! The stations of a site, what is on its way between them, and what happened.
 
+use buses::Buses;
 use chronicle::{Chronicle, SaidMessage, WorldEntry};
-use hosts::{WorldRelay, relays_of, stations_of};
-use link_ip::IpPort;
-use relays::RelayPlan;
+use plans::{WorldRelay, WorldStation, buses_of, relays_of, stations_of};
 use site::Site;
-use site_station::{SiteStation, StationPlan};
 use std::alloc::Allocator;
 use std::marker::Model;
 use tags::Fault;
 use traffic::Item;
-
-/// A station of a world.
-pub(crate) type WorldStation<A> = SiteStation<IpPort<A>, A>;
-
-/// What a relay of a world plans.
-pub(crate) type WorldRelayPlan<A> = RelayPlan<IpPort<A>, A>;
-
-/// What a station of a world plans.
-pub(crate) type WorldPlan<A> = StationPlan<IpPort<A>, A>;
 
 /// The stations of a site, all that is on its way between them, and what happened, however it came about.
 #[derive(Drop)]
@@ -28,10 +17,12 @@ pub struct Internetwork<A: Allocator + Copy> {
     pub(crate) moment: u64,
     pub(crate) relays: Vec<WorldRelay<A>, A>,
     pub(crate) stations: Vec<WorldStation<A>, A>,
+    pub(crate) buses: Buses<A>,
     pub(crate) chronicle: Chronicle<A>,
 }
 
 impl<A: Allocator + Copy> Model for Internetwork<A> {
+    ghost use Rattle.buses.specs.Buses.{buses_of};
     ghost use Rattle.chronicle.specs.Kept.{all_keys, all_said};
     ghost use Rattle.internetwork.specs.Laws.{ArePassing, AreSteady};
     ghost use Rattle.internetwork.specs.World.{WorldState};
@@ -44,6 +35,7 @@ impl<A: Allocator + Copy> Model for Internetwork<A> {
       relays = w.relays.items;
       stations = w.stations.items;
       items = w.chronicle.items.items;
+      buses = buses_of w.buses;
       keys = all_keys w.chronicle.keys.items;
       history = w.chronicle.history.items;
       said = all_said w.chronicle.said.items;
@@ -54,8 +46,9 @@ impl<A: Allocator + Copy> Model for Internetwork<A> {
 }
 
 impl<A: Allocator + Copy> Internetwork<A> {
-    ghost use Rattle.std.specs.Prelude.{◌≡◌, ◌≤◌, ◌⊎◌, [], IfErr, IfOk, OnOk};
-    ghost use Rattle.hosts.specs.Buses.{HasBus, IsOnIp};
+    ghost use Rattle.std.specs.Prelude.{◌≡◌, ◌≤◌, [], IfErr, IfOk, OnOk};
+    ghost use Rattle.buses.specs.Buses as on_buses;
+    ghost use Rattle.buses.specs.Buses.{buses_of};
     ghost use Rattle.profile.specs.Times.{MAX_MOMENT_MS};
     ghost use Rattle.chronicle.specs.Kept.{all_said};
     ghost use Rattle.internetwork.specs.Laws.{ArePassing, AreSteady, Stands};
@@ -63,30 +56,30 @@ impl<A: Allocator + Copy> Internetwork<A> {
     ghost use Rattle.site.specs.Sound.{IsSound};
 
     /// A site as it opens: the moment is 0, each device has the objects that the site gives it, no client has asked
-    /// anything, no router and no manager has heard anything, and nothing is on its way. So far it runs sites without a
-    /// station on a bus: any number of networks of BACnet/IP, with routers, broadcast managers and foreign stations
-    /// (6.6, J).
+    /// anything, no router and no manager has heard anything, no node has heard a token, and nothing is on its way
+    /// (6.6, 9.5.6, J).
     ///
     /// # Errors
-    /// `BadSite` for any other site; or `Memory`.
+    /// `Memory` alone.
     #[tactic(auto, using(crate::proofs::FreshLaws::fresh_rules))]
     pub fn new(alloc: A, site: Site<A>) -> Result<Self, Fault>
         ensures fresh { IfOk result (λ world. world ≡ fresh_world site) }
         ensures sound { OnOk result (IsSound site) }
-        ensures on_ip { OnOk result (IsOnIp site) }
-        ensures cause { IfErr result (λ fault. (fault ≡ Fault.Memory) ⊎ ((fault ≡ Fault.BadSite) × HasBus site)) }
+        ensures cause { IfErr result (λ fault. fault ≡ Fault.Memory) }
     {
         let stations = stations_of(alloc, &site)?;
         let relays = relays_of(alloc, &site)?;
-        Ok(Internetwork::open(alloc, site, relays, stations))
+        let buses = Buses::new(buses_of(alloc, &site)?);
+        Ok(Internetwork::open(alloc, site, relays, stations, buses))
     }
 
-    /// These relays and stations of a site at the moment 0: nothing was put out, issued or said.
+    /// These relays, stations and buses of a site at the moment 0: nothing was put out, issued or said.
     fn open(
         alloc: A,
         site: Site<A>,
         relays: Vec<WorldRelay<A>, A>,
         stations: Vec<WorldStation<A>, A>,
+        buses: Buses<A>,
     ) -> Self
         requires steady { AreSteady site 0 stations.items }
         requires passing { ArePassing {A = A} 0 relays.items [] }
@@ -96,6 +89,7 @@ impl<A: Allocator + Copy> Internetwork<A> {
           relays = relays.items;
           stations = stations.items;
           items = [];
+          buses = on_buses.buses_of buses;
           keys = [];
           history = [];
           said = [];
@@ -107,9 +101,13 @@ impl<A: Allocator + Copy> Internetwork<A> {
             moment: 0,
             relays,
             stations,
+            buses,
             chronicle: Chronicle::new(alloc),
         }
     }
+
+    /// Lets go of a site at work. Whoever calls it, and drops none, need not prove anew how all its parts are let go.
+    pub fn close(self) {}
 
     /// The moment, in milliseconds: the sum of all ticks.
     pub fn moment(&self) -> u64
@@ -127,6 +125,18 @@ impl<A: Allocator + Copy> Internetwork<A> {
         self.moment
     }
 
+    /// The memory that it is in.
+    pub fn alloc(&self) -> A {
+        self.alloc
+    }
+
+    /// The buses, and what is on its way on them.
+    pub fn buses(&self) -> &Buses<A>
+        ensures { buses_of result.now ≡ self.now.buses }
+    {
+        &self.buses
+    }
+
     /// The site.
     pub fn site(&self) -> &Site<A>
         ensures { result.now ≡ self.now.site }
@@ -134,7 +144,7 @@ impl<A: Allocator + Copy> Internetwork<A> {
         &self.site
     }
 
-    /// All that was put out, in order: an item has its place in it as its number.
+    /// All that was put out on networks of BACnet/IP, in order: an item has its place in it as its number.
     pub fn items(&self) -> &[Item<A>]
         ensures { result.now ≡ self.now.items }
     {

@@ -2,8 +2,8 @@
 
 ghost use Rattle.std.specs.Prelude.{◌≡◌, ◌≤◌, ◌<◌, ◌⊎◌, ◌∷◌, [], IfOk, IfErr, OnOk, OnErr, length, true, false};
 ghost use Rattle.history.specs.declared.Entry.TheVariants as history;
-ghost use Rattle.hosts.specs.Hosts.{IsHost, IsOfSite};
-ghost use Rattle.hosts.specs.Opening.{object_site};
+ghost use Rattle.plans.specs.hosts.Hosts.{IsHost, IsOfSite};
+ghost use Rattle.plans.specs.hosts.Opening.{object_site};
 ghost use Rattle.primitives.specs.Sound.{IsSoundRequest};
 ghost use Rattle.profile.specs.Times as times;
 ghost use Rattle.internetwork.specs.Doing.{AtPlace};
@@ -12,7 +12,7 @@ ghost use Rattle.internetwork.specs.Refusals.{GoesToNoRelay, IsNoTick, IsRefused
 ghost use Rattle.internetwork.specs.Laws.{Stands};
 ghost use Rattle.internetwork.specs.Step.{Asks, Delivers, IsSoundEvent, Issues, PassesNow, Steps, Ticks};
 ghost use Rattle.internetwork.specs.Step.{DeliversToRelay, Registers, RelayWakesUp, Restarts, Wakes};
-ghost use Rattle.internetwork.specs.Step.{delivered, restarted};
+ghost use Rattle.internetwork.specs.Step.{deafened, delivered, restarted};
 ghost use Rattle.site_station.specs.Entity as entity;
 ghost use Rattle.site_station.specs.Entity.{IsClient, IsDevice};
 ghost use Rattle.internetwork.specs.declared.event.Event.TheVariants as event;
@@ -20,17 +20,16 @@ ghost use Rattle.internetwork.specs.declared.event.Event.TheVariants as event;
 use crate::acting::place_of;
 use crate::event::Event;
 use crate::finding::{Found, FoundRelay, Recipient, RelayRecipient};
-use crate::internetwork::{Internetwork, WorldStation};
-use crate::planning::{
-    plan_asks, plan_hears, plan_issues, plan_passing, plan_registers, plan_relay_wakes,
-    plan_restarts, plan_wakes,
-};
+use crate::internetwork::Internetwork;
 use apdu::Limits;
 use chronicle::{Key, WorldEntry};
 use history::Entry;
-use hosts::opening_of;
-use npdu::Station;
+use npdu::{Mac, Station};
 use objects::Table;
+use plans::{
+    WorldStation, opening_of, plan_asks, plan_hears, plan_issues, plan_passing, plan_registers,
+    plan_relay_wakes, plan_restarts, plan_wakes,
+};
 use primitives::Request;
 use profile::MAX_MOMENT_MS;
 use site_station::Entity;
@@ -193,8 +192,20 @@ impl<A: Allocator + Copy> Internetwork<A> {
         let Found { place, station } = self.named(name)?;
         let entry = restart_entry(station, now)?;
         let opening = self.opening_of(station)?;
+        let address = place_of(station, now);
         let plan = plan_restarts(station, opening, now)?;
-        self.carry_out(place, plan, None, Some(entry))
+        self.carry_out(place, plan, None, Some(entry))?;
+        self.deafen(address);
+        Ok(())
+    }
+
+    /// The ears of a station on a bus are made anew (9.5.4).
+    fn deafen(&mut self, station: Station)
+        ensures { self.new ≡ record self.old { buses = deafened self.old.moment station self.old.buses } }
+    {
+        if let Mac::One(mac) = station.mac {
+            self.buses.restart(station.net, mac, self.moment);
+        }
     }
 
     /// The item of a number was delivered.
@@ -288,7 +299,11 @@ impl<A: Allocator + Copy> Internetwork<A> {
             Event::Deliver(number) => self.deliver(*number),
             Event::Restart(station) => self.restart(station.as_slice()),
             Event::Register(station) => self.register(station.as_slice()),
-            Event::Hear { .. } => Err(Fault::NoSuch),
+            Event::Hear {
+                network,
+                station,
+                octets,
+            } => self.hear(*network, station.as_slice(), octets.as_slice()),
         }
     }
 }

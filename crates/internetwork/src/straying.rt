@@ -8,9 +8,8 @@ ghost use Rattle.internetwork.specs.Straying.{HostTakes, StrayIsRefused, Strays}
 
 use crate::finding::addressee_of;
 use crate::internetwork::Internetwork;
-use crate::planning::{plan_hears, plan_passing};
-use hosts::HostFound;
 use npdu::{Mac, Station};
+use plans::{HostFound, plan_hears, plan_passing};
 use relays::RelayFound;
 use std::alloc::{AllocError, Allocator};
 use tags::{Fault, Items};

@@ -1,5 +1,5 @@
 pub mod Relay
 pub mod Steps
 pub mod Refusals
-pub mod Laws
 pub mod Finding
+pub mod Laws

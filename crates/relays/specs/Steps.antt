@@ -28,8 +28,8 @@ module _ {A L : Type 0} where
   RelayCounts counts now port count (Manager s) out (Manager new) = (out ≡ []) × (new ≡ s)
   RelayCounts counts now port count r out new = ⊥
 
-  -- so many octets are heard on a port, and then the frame that they end (9.5.2); a manager hears no octets but those of
-  -- datagrams
+  -- so many octets are heard on a port, and then the frame that they end (9.5.2); a manager hears no octets but those
+  -- of datagrams
   abbrev pub RelayHearsFrame : (counts : ℕ → ℕ → L → LinkStep A → L → Type 0) →
       (hears : ℕ → Mac → List ℕ → ℕ → L → LinkStep A → L → Type 0) →
       (downs : ℕ → Parcel A → L → LinkStep A → L → Type 0) → (now port count : ℕ) → Mac → List ℕ → (stamp : ℕ) →

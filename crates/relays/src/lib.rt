@@ -2,13 +2,13 @@
 //! application entity and pass on what they hear.
 //!
 //! To the layer above it promises of each input what the relay's own kind promises, by cases: it is planned before
-//! anything changes, and its commit takes no memory. On BACnet/IP whatever is inside what a relay puts out is inside what
-//! was on its way before, with the same stamp, and a relay stays where it is.
+//! anything changes, and its commit takes no memory. Whatever is inside what a relay puts out, or what waits in its
+//! ports then, is inside what was on its way or waited before, with the same stamp, and a relay stays where it is.
 //!
 //! - `plan`: what a relay would do.
 //! - `relay`: the relay, its inputs and their commit.
 //! - `finding`: which relay is at an address.
-//! - `laws`: what holds of each relay on BACnet/IP, for the proofs of the layers above.
+//! - `laws`: what holds of each relay of a site, for the proofs of the layers above.
 #![tactic(auto)]
 
 mod finding;

@@ -78,8 +78,8 @@ impl<L: Link<A> + Drop, A: Allocator + Copy> Relay<L, A> {
     /// in milliseconds: `commit` does it. A manager hears all at its one address (6.5, J.4.5).
     ///
     /// # Errors
-    /// What a router's port refuses of octets; `TableFull` for an announcement behind which a router would know too many
-    /// routes; `TooLong` for what is too long to be passed on; or `Memory`.
+    /// What a router's port refuses of octets; `TableFull` for an announcement behind which a router would know too
+    /// many routes; `TooLong` for what is too long to be passed on; or `Memory`.
     pub fn plan_hears(
         &self,
         port: usize,
@@ -107,8 +107,8 @@ impl<L: Link<A> + Drop, A: Allocator + Copy> Relay<L, A> {
         }
     }
 
-    /// What it does where so many octets are heard on a port at the moment `now`, in milliseconds, and no frame ends with
-    /// them: `commit` does it. A manager is on no bus (9.5.2).
+    /// What it does where so many octets are heard on a port at the moment `now`, in milliseconds, and no frame ends
+    /// with them: `commit` does it. A manager is on no bus (9.5.2).
     ///
     /// # Errors
     /// `Memory` alone.
@@ -133,12 +133,12 @@ impl<L: Link<A> + Drop, A: Allocator + Copy> Relay<L, A> {
     }
 
     /// What it does where so many octets are heard on a port at the moment `now`, in milliseconds, and then the frame
-    /// that they end, from an address, said at the moment `stamp`: `commit` does it. A manager drops what comes from a bus
-    /// (6.5, 9.5.2).
+    /// that they end, from an address, said at the moment `stamp`: `commit` does it. A manager drops what comes from a
+    /// bus (6.5, 9.5.2).
     ///
     /// # Errors
-    /// What a router's port refuses of octets; `TableFull` for an announcement behind which a router would know too many
-    /// routes; `TooLong` for what is too long to be passed on; or `Memory`.
+    /// What a router's port refuses of octets; `TableFull` for an announcement behind which a router would know too
+    /// many routes; `TooLong` for what is too long to be passed on; or `Memory`.
     pub fn plan_frame(
         &self,
         port: usize,
@@ -150,8 +150,8 @@ impl<L: Link<A> + Drop, A: Allocator + Copy> Relay<L, A> {
     ) -> Result<RelayPlan<L, A>, Fault>
         requires greatest { now ≤ MAX_MOMENT_MS }
         requires before { IsBefore L.moment now self.now }
-        ensures hears { IfOk result (λ plan. RelayHearsFrame L.counts L.hears L.downs now port count from octets.now stamp
-            self.now (out_of plan) (left_by now plan self.now)) }
+        ensures hears { IfOk result (λ plan. RelayHearsFrame L.counts L.hears L.downs now port count from octets.now
+            stamp self.now (out_of plan) (left_by now plan self.now)) }
         ensures cause { IfErr result (λ fault. (fault ≡ Fault.Memory) ⊎ FrameIsRefused L.counts L.hears L.refuses
             L.station now port count from octets.now stamp self.now fault) }
     {
@@ -167,8 +167,8 @@ impl<L: Link<A> + Drop, A: Allocator + Copy> Relay<L, A> {
         }
     }
 
-    /// What it does where it wakes at the moment `now`, in milliseconds: a router first, and then its ports, in order; a
-    /// manager forgets the registrations that have ended (6.6.2, J.5.2.3). `commit` does it.
+    /// What it does where it wakes at the moment `now`, in milliseconds: a router first, and then its ports, in order;
+    /// a manager forgets the registrations that have ended (6.6.2, J.5.2.3). `commit` does it.
     ///
     /// # Errors
     /// `TooLong` where what a router says is too long for its port; or `Memory`.

@@ -6,8 +6,8 @@ ghost use Rattle.remembered.specs.Keeping.{HasNow, IsSet, IsSameMap};
 ghost use Rattle.remembered.specs.Keeping as map;
 
 use crate::record::Asker;
+use answers::Executor;
 use primitives::Request;
-use services::Executor;
 use std::alloc::{AllocError, Allocator};
 use std::collections::VecDeque;
 use std::marker::Model;

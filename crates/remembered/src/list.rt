@@ -7,11 +7,11 @@ ghost use Rattle.remembered.specs.Records.{later_or, some_if};
 
 use crate::record::{Asker, Record};
 use crate::records::Records;
+use answers::Executor;
 use npdu::Way;
 use primitives::Request;
 use profile::lives;
 use segments::Sender;
-use services::Executor;
 use std::alloc::{AllocError, Allocator};
 
 /// This place where it is one of the asker's, else the one before.

@@ -1,9 +1,9 @@
 -- What keeps a world led, and what is so of one that is.
 use Rattle.std.proofs.Common.{◌≡◌, sym, subst, true}
-use Rattle.carry_world.specs.Laws.{IsLegal}
-use Rattle.chronicle.specs.Growing.{WorldHistory}
-use Rattle.hosts.specs.Opening.{object_site}
-use Rattle.hosts.specs.Stations.{devices_of}
+use Rattle.simulator.specs.carry_world.Laws.{IsLegal}
+use Rattle.simulator.specs.chronicle.Growing.{WorldHistory}
+use Rattle.simulator.specs.hosts.Opening.{object_site}
+use Rattle.simulator.specs.hosts.Stations.{devices_of}
 use Rattle.runner.proofs.NotWire.{event_not_wire}
 use Rattle.runner.specs.Runner.{RunnerState}
 use Rattle.simulator.proofs.LedLaws.{led_on, legal_of}

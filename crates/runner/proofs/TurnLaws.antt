@@ -1,11 +1,11 @@
 -- What turns leave is what events leave, where no stray was heard.
 use Rattle.std.proofs.Common.{◌≡◌, ◌∙◌, inl, inr, refl, sym, ap, subst, Bool, true, false, List, [], ◌∷◌, Option, Some, None, Result, Ok, Err}
 use Rattle.std.specs.List.{AllByRecursion}
-use Rattle.internetwork.specs.Refusals.{Comes}
-use Rattle.internetwork.specs.Step.{IsSoundEvent, IsSoundIfAny}
-use Rattle.internetwork.specs.World.{WorldState}
-use Rattle.internetwork.specs.declared.event.Event.{Event}
-use Rattle.internetwork.specs.declared.event.Event.TheVariants.{Deliver}
+use Rattle.simulator.specs.internetwork.Refusals.{Comes}
+use Rattle.simulator.specs.internetwork.Step.{IsSoundEvent, IsSoundIfAny}
+use Rattle.simulator.specs.internetwork.World.{WorldState}
+use Rattle.simulator.specs.internetwork.declared.event.Event.{Event}
+use Rattle.simulator.specs.internetwork.declared.event.Event.TheVariants.{Deliver}
 use Rattle.tags.specs.declared.fault.Fault.{Fault}
 use Rattle.tags.specs.declared.fault.Fault.TheVariants.{Wire}
 use Rattle.runner.specs.Laws.{AreEvents, Turn, Turns}

@@ -1,10 +1,10 @@
 -- What any number of turns leaves.
 use Rattle.std.specs.Prelude.{◌≡◌, true, List, [], ◌∷◌, Option, Result}
 use Rattle.std.specs.List.{AllByRecursion}
-use Rattle.internetwork.specs.Refusals.{Runs}
-use Rattle.internetwork.specs.Step.{IsSoundEvent, IsSoundIfAny}
-use Rattle.internetwork.specs.World.{WorldState}
-use Rattle.internetwork.specs.declared.event.Event.{Event}
+use Rattle.simulator.specs.internetwork.Refusals.{Runs}
+use Rattle.simulator.specs.internetwork.Step.{IsSoundEvent, IsSoundIfAny}
+use Rattle.simulator.specs.internetwork.World.{WorldState}
+use Rattle.simulator.specs.internetwork.declared.event.Event.{Event}
 use Rattle.tags.specs.declared.fault.Fault.{Fault}
 use Rattle.wire.specs.Datagrams.{Datagram}
 use Rattle.runner.specs.Runner.{RunnerState}

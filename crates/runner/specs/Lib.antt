@@ -3,3 +3,8 @@ pub mod Seeking
 pub mod Strays
 pub mod Turns
 pub mod Laws
+-- What the layers above cite of those below.
+pub use Rattle.simulator.specs.internetwork as internetwork
+pub use Rattle.simulator.specs.chronicle as chronicle
+pub use Rattle.simulator.specs.carry_world as carry_world
+pub use Rattle.simulator.specs.hosts as hosts

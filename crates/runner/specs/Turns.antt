@@ -1,9 +1,9 @@
 -- What a turn of a runner leaves.
 use Rattle.std.specs.Prelude.{◌≡◌, ◌⊎◌, ℕ, true, false, Option, Some, None, Result, Ok, Err}
-use Rattle.internetwork.specs.Refusals.{IsRefused}
-use Rattle.internetwork.specs.Step.{Steps}
-use Rattle.internetwork.specs.declared.event.Event.{Event}
-use Rattle.internetwork.specs.declared.event.Event.TheVariants.{Deliver}
+use Rattle.simulator.specs.internetwork.Refusals.{IsRefused}
+use Rattle.simulator.specs.internetwork.Step.{Steps}
+use Rattle.simulator.specs.internetwork.declared.event.Event.{Event}
+use Rattle.simulator.specs.internetwork.declared.event.Event.TheVariants.{Deliver}
 use Rattle.tags.specs.declared.fault.Fault.{Fault}
 use Rattle.tags.specs.declared.fault.Fault.TheVariants.{Wire}
 use Rattle.wire.specs.Counts.{raised}

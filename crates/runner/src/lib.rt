@@ -4,7 +4,6 @@
 //! brought, and nothing else. One that a station of the site sent at most 1000 ms ago is delivered; any other is
 //! dropped, or, in an open runner, heard by its station. Whatever is put out is sent, all of it also where one sending
 //! fails. As long as no stranger's datagram was heard, what turns leave is what events leave, so the history is legal.
-//! No bus is run live so far: a site on BACnet/IP has none.
 //!
 //! - `runner`: what it keeps, and its turn.
 //! - `turned`: what a turn comes to.
@@ -23,4 +22,5 @@ mod turned;
 
 pub use laws::turns_are_steps;
 pub use runner::Runner;
+pub use simulator::{Event, Internetwork, World, WorldEntry};
 pub use turned::Turned;

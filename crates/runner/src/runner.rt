@@ -4,9 +4,7 @@ use crate::seeking::last_match;
 use crate::sending::{behind, send_all};
 use crate::straying::take_stray;
 use crate::turned::Turned;
-use chronicle::WorldEntry;
-use internetwork::{Event, Internetwork};
-use simulator::World;
+use simulator::{Event, Internetwork, World, WorldEntry};
 use std::alloc::Allocator;
 use std::marker::Model;
 use tags::Fault;
@@ -37,11 +35,11 @@ impl<A: Allocator + Copy> Model for Runner<A> {
 
 impl<A: Allocator + Copy> Runner<A> {
     ghost use Rattle.std.specs.Prelude.{◌≡◌, ◌≢◌, true, false, Some, None, IfErr, IfNone, IfOk, IfSome, OnErr, OnOk};
-    ghost use Rattle.carry_world.specs.Laws.{IsLegal};
-    ghost use Rattle.hosts.specs.Opening.{object_site};
-    ghost use Rattle.hosts.specs.Stations.{devices_of};
-    ghost use Rattle.internetwork.specs.Refusals.{IsRefused};
-    ghost use Rattle.internetwork.specs.Step.{IsSoundEvent, IsSoundIfAny};
+    ghost use Rattle.simulator.specs.carry_world.Laws.{IsLegal};
+    ghost use Rattle.simulator.specs.hosts.Opening.{object_site};
+    ghost use Rattle.simulator.specs.hosts.Stations.{devices_of};
+    ghost use Rattle.simulator.specs.internetwork.Refusals.{IsRefused};
+    ghost use Rattle.simulator.specs.internetwork.Step.{IsSoundEvent, IsSoundIfAny};
     ghost use Rattle.runner.specs.Runner.{put_out};
     ghost use Rattle.runner.specs.Seeking.{IsLastMatch, IsStray};
     ghost use Rattle.runner.specs.Strays.{IsRefusedStray, TakesStray};
@@ -78,6 +76,11 @@ impl<A: Allocator + Copy> Runner<A> {
             IsLegal (object_site self.now.world.site) result.now (devices_of self.now.world.stations) }
     {
         self.world.history()
+    }
+
+    /// Lets go of a site at a wire. Whoever calls it, and drops none, need not prove anew how all its parts are let go.
+    pub fn close(self) {
+        self.world.close()
     }
 
     /// Whether the latest turn had a stray that was heard, also where a sending failed then.

@@ -1,12 +1,12 @@
 //! What is done with a datagram that nobody of the site sent.
 
 ghost use Rattle.std.specs.Prelude.{◌≡◌, ◌<◌, IfErr, OnErr, OnOk, Some, length, slice_get};
-ghost use Rattle.internetwork.specs.Straying.{StrayIsRefused};
+ghost use Rattle.simulator.specs.internetwork.Straying.{StrayIsRefused};
 ghost use Rattle.runner.specs.Strays.{IsRefusedStray, RefusesAt, TakesStray, stray_on};
 ghost use Rattle.wire.specs.Datagrams.{datagram_of};
 
-use internetwork::Internetwork;
 use npdu::Station;
+use simulator::Internetwork;
 use site_parts::Network;
 use std::alloc::Allocator;
 use tags::Fault;

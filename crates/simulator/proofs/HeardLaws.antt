@@ -1,140 +1,236 @@
--- What a delivery brings was said, what is executed on it was issued, and what is told of it is of its issue.
-use Rattle.std.proofs.Common.{◌≡◌, ◌∙◌, refl, sym, ap, subst, ℕ, List, [], map, Option, Some, None}
-use Rattle.std.specs.Prelude.{slice_get}
+-- What a device or a client hears was said, what is executed on it was issued, and what is told of it is of its issue:
+-- on a delivery, and on each frame that octets on a bus end.
+use Rattle.std.proofs.Common.{◌≡◌, ◌∙◌, refl, sym, ap, subst, ℕ, List, [], ◌∷◌, Option, Some, None}
 use Rattle.std.specs.List.{AllByRecursion}
-use Rattle.apdu.specs.Apdu.{PlainApdu}
-use Rattle.carry_world.specs.Laws.{IsHeardAsSaid, IsIssuedTo, IsOfItsIssue}
-use Rattle.carry_world.specs.PlainWorld as plain_world
+use Rattle.bus_traffic.specs.declared.hearing.HeardFrame.{HeardFrame}
+use Rattle.buses.specs.Puts.{BusesState}
+use Rattle.carry.specs.Things.{Thing}
+use Rattle.internetwork.proofs.carry_world.Promised.{all_hear, executed_is_issued, outcomes_are_of_issues, steps_lead_on}
+use Rattle.internetwork.specs.carry_world.Laws.{IsExecuted, IsFresh, IsIssuedTo, IsOfItsIssue}
+use Rattle.internetwork.specs.carry_world.PlainSteps.{StepsTo}
+use Rattle.internetwork.specs.carry_world.PlainWorld as plain_world
+use Rattle.internetwork.specs.carry_world.PlainWorld.{PlainWorld}
 use Rattle.client.specs.Client.{ClientState}
 use Rattle.client_tsm.specs.declared.plan.TransactionOutcome.{TransactionOutcome}
 use Rattle.device.specs.Device.{DeviceState}
-use Rattle.hosts.specs.Opening.{object_site}
-use Rattle.link_ip.specs.Steps.{Downs, Hears}
-use Rattle.link_ports.specs.Ports.{HearsAt}
-use Rattle.npdu.specs.declared.mac.Station.{Station}
-use Rattle.npdu.specs.declared.parcel.Parcel.{Parcel}
-use Rattle.server_answers.specs.declared.plan.Executed.{Executed}
-use Rattle.site_station.specs.Entity as entity
-use Rattle.site_station.specs.Entity.{EntityHears, OfClient, OfDevice, silence}
-use Rattle.site_station.specs.Station.{AnswersIf, StationTold}
-use Rattle.site_station.specs.declared.entity.Entity.{Entity}
-use Rattle.site_station.specs.declared.entity.Entity.TheVariants.{Device, Client}
-use Rattle.site_station.specs.declared.entity.EntityTold.{EntityTold}
-use Rattle.unitdata.specs.Hearing.{Brings, Heard, says}
-use Rattle.simulator.proofs.ActLaws.{client_acts, device_acts}
-use Rattle.simulator.proofs.LeadLaws.{comes_up, host, same}
-use Rattle.simulator.proofs.LedLaws.{executed_of, heard_of, outcomes_of}
-use Rattle.simulator.specs.Heard.{AreOfIssues, ExecutedWasIssued, HeardWasSaid, OutcomesHaveIssues, WasIssued, WasSaid}
+use Rattle.headline.specs.Happenings.{Fails, Gives, Outcome}
+use Rattle.headline.specs.Protocol.{IsSite}
+use Rattle.headline_bacnet.specs.Protocol.{bacnet}
+use Rattle.headline_bacnet.specs.Refined.{ObjectSite}
+use Rattle.headline_client.proofs.Places.{all_weaken}
+use Rattle.headline_client.specs.Told.{outcome_of}
+use Rattle.history.proofs.Lists.{has, has_next}
+use Rattle.history.specs.Lists.{Has}
+use Rattle.internetwork.specs.hosts.Hosts.{IsHost}
+use Rattle.internetwork.specs.hosts.Opening.{object_site}
+use Rattle.internetwork.specs.hosts.Stations.{WorldStation}
+use Rattle.internetwork.specs.Acting.{Acts}
+use Rattle.internetwork.specs.Hearing.{Hears, TakesAs, TakesEach}
 use Rattle.internetwork.specs.Laws.{Stands}
-use Rattle.simulator.specs.Laws.{IsLed}
 use Rattle.internetwork.specs.Step.{Delivers, delivered}
 use Rattle.internetwork.specs.World.{WorldState, plain}
 use Rattle.internetwork.specs.declared.event.Event.{Event}
 use Rattle.internetwork.specs.declared.event.Event.TheVariants as event
+use Rattle.internetwork.specs.declared.listener.Listener.{Listener}
+use Rattle.internetwork.specs.declared.listener.Whom.{Whom}
+use Rattle.internetwork.specs.declared.listener.Whom.TheVariants.{Host, Relay}
+use Rattle.link_ports.specs.declared.ports.PortSent.{PortSent}
+use Rattle.link_site.specs.Steps.{Downs}
+use Rattle.link_site.specs.declared.port.SitePort.{SitePort}
+use Rattle.npdu.specs.declared.mac.Station.{Station}
+use Rattle.npdu.specs.declared.parcel.Parcel.{Parcel}
+use Rattle.primitives.specs.declared.plain_data.Reply.{Reply}
+use Rattle.server_answers.specs.declared.plan.Executed.{Executed}
+use Rattle.site_station.specs.Entity as entity
+use Rattle.site_station.specs.Entity.{EntityHears}
+use Rattle.site_station.specs.Station.{AnswersIf, StationTold}
+use Rattle.site_station.specs.declared.entity.Entity.{Entity}
+use Rattle.site_station.specs.declared.entity.Entity.TheVariants.{Device, Client}
+use Rattle.site_station.specs.declared.entity.EntityTold.{EntityTold}
+use Rattle.traffic.specs.declared.item.Item.{Item}
+use Rattle.simulator.proofs.ActLaws.{client_acts, device_acts, plain_with}
+use Rattle.simulator.proofs.BusLeads as bus
+use Rattle.simulator.proofs.BusLeads.{Here, IsComing, all_pass, begins, comes, takes_as}
+use Rattle.simulator.proofs.LeadLaws as item
+use Rattle.simulator.proofs.LeadLaws.{host, with_nothing}
+use Rattle.simulator.specs.Heard.{AreOfIssues, ExecutedWasIssued, HeardWasSaid, HoldsAtEach, HoldsAtFrame, HoldsBy, OutcomesHaveIssues, WasIssued, WasSaid}
+use Rattle.simulator.specs.Laws.{IsLed}
 
-module _ {A : Type 0} (w v : WorldState A) (stands : Stands w) (led : IsLed w) (number : ℕ) (d : Delivers number w v) where
+-- this world came about from a fresh one of a site
+record CameAbout {A : Type 0} (s0 : ObjectSite A) (q : PlainWorld A) : Type 0 where
+  is_site : IsSite (bacnet A) s0
+  fresh : PlainWorld A
+  begun : IsFresh s0 fresh
+  leads : StepsTo s0 fresh q
+
+came_about : {A : Type 0} (w : WorldState A) → IsLed w → CameAbout (object_site w.site) (plain_with [] w)
+came_about {A} w led = subst (λ (q : PlainWorld A). CameAbout (object_site w.site) q) (sym (with_nothing w))
+    (record { is_site = led.is_site; fresh = led.fresh; begun = led.begun; leads = led.leads })
+
+comes_further : {A : Type 0} (s0 : ObjectSite A) (q r : PlainWorld A) → CameAbout s0 q → StepsTo s0 q r → CameAbout s0 r
+comes_further s0 q r came steps = record {
+  is_site = came.is_site;
+  fresh = came.fresh;
+  begun = came.begun;
+  leads = steps_lead_on s0 came.fresh q r came.leads steps;
+}
+
+-- all that is promised where an entity hears
+record IsPromised {A : Type 0} (w : WorldState A) (e : Entity A) (up : Option (Parcel A)) (told : EntityTold A) :
+    Type 0 where
+  said : WasSaid w e up told
+  issued : WasIssued w e up told
+  of_issues : AreOfIssues w e up told
+
+-- a device or a client of a world that came about so, with more on its way, hears what is delivered to it
+module _ {A : Type 0} (s0 : ObjectSite A) (extra : List (Thing A)) (w v : WorldState A)
+    (came : CameAbout s0 (plain_with extra w)) (place : ℕ) (s next : WorldStation A) (t : StationTold A)
+    (items : List (Item A)) (buses : BusesState A) (acts : Acts w v place s next t items buses)
+    (host : IsHost w.moment s) (ports : List (SitePort A)) (so_far : List (PortSent A)) where
   abbrev x : Station
-  x = entity.station_of d.s.entity
+  x = entity.station_of s.entity
 
-  -- what comes up is delivered
-  brought : (p : Parcel A) → d.hears.up ≡ Some p → plain_world.Delivers (plain w) x.net x.mac p
-  brought p e = comes_up w v stands (object_site w.site) number d p
-      (subst (λ (up : Option (Parcel A)). HearsAt Hears w.moment d.port d.item.from d.item.octets d.item.stamp d.s.ports []
-      up d.hears.middle d.hears.middle_out) e d.hears.heard)
+  abbrev old : PlainWorld A
+  old = plain_with extra w
 
-  heard_so : (p : Parcel A) (h : Heard) (a : PlainApdu) → d.hears.up ≡ Some p → Brings x.net p.from p.to p.npdu h →
-      h.content ≡ says a → IsHeardAsSaid w.moment w.said x p h a
-  heard_so p h a e brings content = heard_of w led x p h a (brought p e) brings content
+  abbrev Brought : Option (Parcel A) → Type 0
+  Brought up = (p : Parcel A) → up ≡ Some p → plain_world.Delivers old x.net x.mac p
 
-  -- what an entity does on what comes up
-  answered : (p : Parcel A) → d.hears.up ≡ Some p → EntityHears w.moment p d.s.entity d.told.told d.next.entity
-  answered p e = does (subst (λ (up : Option (Parcel A)). AnswersIf Downs w.moment up d.hears.middle d.s.entity
-      d.hears.middle_out d.told d.next) e d.hears.answers)
+  executed_by : (p : Parcel A) (e : DeviceState A) (f : Entity A) (y : Executed A) → s.entity ≡ Device e →
+      next.entity ≡ f → plain_world.Delivers old x.net x.mac p → EntityHears w.moment p (Device e) t.told f →
+      t.told.executed ≡ Some y → IsIssuedTo (plain w) e y
+  executed_by p e (Device f) y is then delivers of some =
+      let part = device_acts w v place s next t items buses acts host e f is then in
+      let at : x ≡ record { net = e.net; mac = e.mac } = ap (λ (n : Entity A). entity.station_of n) is in
+      let issue : IsIssuedTo old e y = executed_is_issued s0 came.fresh old came.is_site came.begun came.leads
+      part.1.place e f p of.by y part.1.there
+      (subst (λ (z : Station). plain_world.Delivers old z.net z.mac p) at delivers) of.hears
+      (sym (ap (λ (u : EntityTold A). u.executed) of.told_is) ∙ some) in
+      record { i = issue.i; moment = issue.moment; last = issue.last; issue = issue.issue }
+  executed_by p e (Client f) y is then delivers of some = absurd of
+
+  executed_so : (up : Option (Parcel A)) → AnswersIf Downs w.moment up ports s.entity so_far t next → Brought up →
+      (e : DeviceState A) (y : Executed A) → s.entity ≡ Device e → t.told.executed ≡ Some y → IsIssuedTo (plain w) e y
+  executed_so None a brought e y is some =
+      absurd (no_some y (sym (ap (λ (u : StationTold A). u.told.executed) (a.0)) ∙ some))
     where
-      does : AnswersIf Downs w.moment (Some p) d.hears.middle d.s.entity d.hears.middle_out d.told d.next →
-          EntityHears w.moment p d.s.entity d.told.told d.next.entity
-      does a = a.does
+      no_some : (z : Executed A) → None ≡ Some z → ⊥
+      no_some z q = cc
+  executed_so (Some p) a brought e y is some = executed_by p e next.entity y is refl (brought p refl)
+      (subst (λ (n : Entity A). EntityHears w.moment p n t.told next.entity) is a.does) some
 
-  -- where nothing comes up, nothing is told
-  untold : d.hears.up ≡ None → d.told.told ≡ silence
-  untold e = quiet (subst (λ (up : Option (Parcel A)). AnswersIf Downs w.moment up d.hears.middle d.s.entity
-      d.hears.middle_out d.told d.next) e d.hears.answers)
-    where
-      quiet : AnswersIf Downs w.moment None d.hears.middle d.s.entity d.hears.middle_out d.told d.next →
-          d.told.told ≡ silence
-      quiet a = ap (λ (t : StationTold A). t.told) (a.0)
+  -- what more is on its way changes nothing of what was issued
+  executed_in : (i : ℕ) (o : Outcome (Reply A)) → IsExecuted old i o → IsExecuted (plain w) i o
+  executed_in i (Gives r) h = h
+  executed_in i (Fails why) h = tt
 
-  module _ (e : DeviceState A) (is : d.s.entity ≡ Device e) (y : Executed A) (some : d.told.told.executed ≡ Some y) where
-    executed_by : (p : Parcel A) (f : Entity A) → d.hears.up ≡ Some p → d.next.entity ≡ f →
-        EntityHears w.moment p (Device e) d.told.told f → IsIssuedTo (plain w) e y
-    executed_by p (Device f) up then of =
-        let part = device_acts w v d.place d.s d.next d.told (delivered number d.item w.items) d.acts
-        (host w v stands (object_site w.site) number d) (same w v stands (object_site w.site) number d) e f is then in
-        let at : x ≡ record { net = e.net; mac = e.mac } = ap (λ (n : Entity A). entity.station_of n) is in
-        executed_of w led part.1.place e f p of.by y part.1.there
-        (subst (λ (z : Station). plain_world.Delivers (plain w) z.net z.mac p) at (brought p up)) of.hears
-        (sym (ap (λ (t : EntityTold A). t.executed) of.told_is) ∙ some)
-    executed_by p (Client f) up then of = absurd of
+  of_issue_in : (c : ClientState A) (o : TransactionOutcome A) → IsOfItsIssue old c o → IsOfItsIssue (plain w) c o
+  of_issue_in c o k = record {
+    transaction = k.transaction;
+    there = k.there;
+    id = k.id;
+    i = k.i;
+    instance = k.instance;
+    moment = k.moment;
+    last = k.last;
+    issue = k.issue;
+    executed = executed_in k.i (outcome_of o.outcome) k.executed;
+  }
 
-    executed_so : (up : Option (Parcel A)) → d.hears.up ≡ up → IsIssuedTo (plain w) e y
-    executed_so None up = absurd (no_some y (sym (ap (λ (t : EntityTold A). t.executed) (untold up)) ∙ some))
-      where
-        no_some : (z : Executed A) → None ≡ Some z → ⊥
-        no_some z q = cc
-    executed_so (Some p) up = executed_by p d.next.entity up refl
-        (subst (λ (n : Entity A). EntityHears w.moment p n d.told.told d.next.entity) is (answered p up))
+  told_by : (p : Parcel A) (c : ClientState A) (f : Entity A) → s.entity ≡ Client c → next.entity ≡ f →
+      plain_world.Delivers old x.net x.mac p → EntityHears w.moment p (Client c) t.told f →
+      AllByRecursion (λ o. IsOfItsIssue (plain w) c o) t.told.outcomes
+  told_by p c (Client f) is then delivers of =
+      let part = client_acts w v place s next t items buses acts host c f is then in
+      let at : x ≡ record { net = c.net; mac = c.mac } = ap (λ (n : Entity A). entity.station_of n) is in
+      subst (λ (os : List (TransactionOutcome A)). AllByRecursion (λ o. IsOfItsIssue (plain w) c o) os)
+      (sym (ap (λ (u : EntityTold A). u.outcomes) of.told_is))
+      (all_weaken (λ o. IsOfItsIssue old c o) (λ o. IsOfItsIssue (plain w) c o) of.by.outcomes (of_issue_in c)
+      (outcomes_are_of_issues s0 came.fresh old came.is_site came.begun came.leads part.1.place c f p of.by part.1.there
+      (subst (λ (z : Station). plain_world.Delivers old z.net z.mac p) at delivers) of.hears))
+  told_by p c (Device f) is then delivers of = absurd of
 
-  module _ (c : ClientState A) (is : d.s.entity ≡ Client c) where
-    told_by : (p : Parcel A) (f : Entity A) → d.hears.up ≡ Some p → d.next.entity ≡ f →
-        EntityHears w.moment p (Client c) d.told.told f →
-        AllByRecursion (λ t. IsOfItsIssue (plain w) c t) d.told.told.outcomes
-    told_by p (Client f) up then of =
-        let part = client_acts w v d.place d.s d.next d.told (delivered number d.item w.items) d.acts
-        (host w v stands (object_site w.site) number d) (same w v stands (object_site w.site) number d) c f is then in
-        let at : x ≡ record { net = c.net; mac = c.mac } = ap (λ (n : Entity A). entity.station_of n) is in
-        subst (λ (ts : List (TransactionOutcome A)). AllByRecursion (λ t. IsOfItsIssue (plain w) c t) ts)
-        (sym (ap (λ (t : EntityTold A). t.outcomes) of.told_is))
-        (outcomes_of w led part.1.place c f p of.by part.1.there
-        (subst (λ (z : Station). plain_world.Delivers (plain w) z.net z.mac p) at (brought p up)) of.hears)
-    told_by p (Device f) up then of = absurd of
+  told_so : (up : Option (Parcel A)) → AnswersIf Downs w.moment up ports s.entity so_far t next → Brought up →
+      (c : ClientState A) → s.entity ≡ Client c → AllByRecursion (λ o. IsOfItsIssue (plain w) c o) t.told.outcomes
+  told_so None a brought c is =
+      subst (λ (os : List (TransactionOutcome A)). AllByRecursion (λ o. IsOfItsIssue (plain w) c o) os)
+      (sym (ap (λ (u : StationTold A). u.told.outcomes) (a.0))) tt
+  told_so (Some p) a brought c is = told_by p c next.entity is refl (brought p refl)
+      (subst (λ (n : Entity A). EntityHears w.moment p n t.told next.entity) is a.does)
 
-    told_so : (up : Option (Parcel A)) → d.hears.up ≡ up →
-        AllByRecursion (λ t. IsOfItsIssue (plain w) c t) d.told.told.outcomes
-    told_so None up = subst (λ (ts : List (TransactionOutcome A)). AllByRecursion (λ t. IsOfItsIssue (plain w) c t) ts)
-        (sym (ap (λ (t : EntityTold A). t.outcomes) (untold up))) tt
-    told_so (Some p) up = told_by p d.next.entity up refl
-        (subst (λ (n : Entity A). EntityHears w.moment p n d.told.told d.next.entity) is (answered p up))
+  is_promised : (up : Option (Parcel A)) → AnswersIf Downs w.moment up ports s.entity so_far t next → Brought up →
+      IsPromised w s.entity up t.told
+  is_promised up a brought = record {
+    said = record {
+      said = λ p h b e brings content.
+          all_hear s0 came.fresh old came.is_site came.begun came.leads x p h b (brought p e) brings content;
+    };
+    issued = record { issued = λ e y is some. executed_so up a brought e y is some };
+    of_issues = record { issues = λ c is. told_so up a brought c is };
+  }
 
--- so it is of each event
+-- what is promised holds wherever an entity hears
+module _ {A : Type 0} (Holds : WorldState A → Entity A → Option (Parcel A) → EntityTold A → Type 0)
+    (so : (w : WorldState A) (e : Entity A) (up : Option (Parcel A)) (told : EntityTold A) → IsPromised w e up told →
+    Holds w e up told) where
+  holds_at_delivery : (number : ℕ) (w v : WorldState A) → Stands w → IsLed w → (d : Delivers number w v) →
+      Holds w d.s.entity d.hears.up d.told.told
+  holds_at_delivery number w v stands led d = so w d.s.entity d.hears.up d.told.told
+      (is_promised (object_site w.site) [] w v (came_about w led) d.place d.s d.next d.told
+      (delivered number d.item w.items) w.buses d.acts (host w v stands [] (object_site w.site) number d) d.hears.middle
+      d.hears.middle_out d.hears.up d.hears.answers (item.brings w v stands [] (object_site w.site) number d))
+
+  module _ (s0 : ObjectSite A) (l : Listener) (x : Station) (now : ℕ) (extra : List (Thing A)) where
+    holds_at_frame : (whom : Whom) (f : HeardFrame A) (u v : WorldState A) → CameAbout s0 (plain_with extra u) →
+        IsComing l x now extra s0 f → Here l x now extra s0 whom u → (t : TakesAs whom l f u v) →
+        HoldsAtFrame Holds whom l f u v t
+    holds_at_frame Host f u v came coming here t = so u t.s.entity t.hears.heard.up t.told.told
+        (is_promised s0 extra u v came l.place t.s t.next t.told u.items u.buses t.acts t.host t.hears.heard.middle
+        t.hears.heard.middle_out t.hears.heard.up t.hears.heard.answers
+        (bus.brings l x now extra s0 f u v t coming here))
+    holds_at_frame Relay f u v came coming here t = tt
+
+    holds_at_each : (fs : List (HeardFrame A)) (u v : WorldState A) → CameAbout s0 (plain_with extra u) →
+        ((f : HeardFrame A) → Has fs f → IsComing l x now extra s0 f) → Here l x now extra s0 l.whom u →
+        (t : TakesEach l fs u v) → HoldsAtEach Holds l fs u v t
+    holds_at_each [] u v came coming here t = tt
+    holds_at_each (f ∷ fs) u v came coming here t =
+        let comes = coming f (has 0 refl) in
+        let first = takes_as l x now extra s0 l.whom f u t.middle comes here t.first in (
+          holds_at_frame l.whom f u t.middle came comes here t.first,
+          holds_at_each fs t.middle v
+              (comes_further s0 (plain_with extra u) (plain_with extra t.middle) came first.steps)
+              (λ g among. coming g (has_next f fs among)) first.here t.rest,
+        )
+
+  holds_at_hearing : (network : ℕ) (name octets : List ℕ) (w v : WorldState A) → Stands w → IsLed w →
+      (d : Hears network name octets w v) → HoldsAtEach Holds d.listener d.at.hearing.frames w
+      d.settles.does.first.middle d.settles.does.first.first
+  holds_at_hearing network name octets w v stands led d =
+      let s0 = object_site w.site in
+      let more = bus.all w v stands [] s0 network name octets d in
+      holds_at_each s0 d.listener (bus.x w v stands [] s0 network name octets d) w.moment more d.at.hearing.frames w
+      d.settles.does.first.middle (comes_further s0 (plain_with [] w) (plain_with more w) (came_about w led)
+      (all_pass w v stands [] s0 network name octets d)) (comes w v stands [] s0 network name octets d)
+      (begins w v stands [] s0 network name octets d) d.settles.does.first.first
+
+  -- so it is of each event
+  by_event : (e : Event A) (w v : WorldState A) → Stands w → IsLed w → HoldsBy Holds e w v
+  by_event (event.Deliver number) w v stands led = record { holds = λ d. holds_at_delivery number w v stands led d }
+  by_event (event.Hear network name octets) w v stands led =
+      record { holds = λ d. holds_at_hearing network name octets w v stands led d }
+  by_event (event.Issue client instance request) w v stands led = tt
+  by_event (event.WhoIs client limits) w v stands led = tt
+  by_event (event.Tick n) w v stands led = tt
+  by_event (event.Wake station) w v stands led = tt
+  by_event (event.Restart station) w v stands led = tt
+  by_event (event.Register station) w v stands led = tt
+
 pub heard_was_said : {A : Type 0} (e : Event A) (w v : WorldState A) → Stands w → IsLed w → HeardWasSaid e w v
-heard_was_said (event.Deliver number) w v stands led =
-    record { said = λ d p h a up brings content. heard_so w v stands led number d p h a up brings content }
-heard_was_said (event.Issue client instance request) w v stands led = tt
-heard_was_said (event.WhoIs client limits) w v stands led = tt
-heard_was_said (event.Tick n) w v stands led = tt
-heard_was_said (event.Wake station) w v stands led = tt
-heard_was_said (event.Restart station) w v stands led = tt
-heard_was_said (event.Hear network station octets) w v stands led = tt
-heard_was_said (event.Register station) w v stands led = tt
+heard_was_said e w v stands led = by_event WasSaid (λ w e up told all. all.said) e w v stands led
 
 pub executed_was_issued : {A : Type 0} (e : Event A) (w v : WorldState A) → Stands w → IsLed w → ExecutedWasIssued e w v
-executed_was_issued (event.Deliver number) w v stands led =
-    record { issued = λ d e y is some. executed_so w v stands led number d e is y some d.hears.up refl }
-executed_was_issued (event.Issue client instance request) w v stands led = tt
-executed_was_issued (event.WhoIs client limits) w v stands led = tt
-executed_was_issued (event.Tick n) w v stands led = tt
-executed_was_issued (event.Wake station) w v stands led = tt
-executed_was_issued (event.Restart station) w v stands led = tt
-executed_was_issued (event.Hear network station octets) w v stands led = tt
-executed_was_issued (event.Register station) w v stands led = tt
+executed_was_issued e w v stands led = by_event WasIssued (λ w e up told all. all.issued) e w v stands led
 
 pub outcomes_have_issues : {A : Type 0} (e : Event A) (w v : WorldState A) → Stands w → IsLed w → OutcomesHaveIssues e w v
-outcomes_have_issues (event.Deliver number) w v stands led =
-    record { issues = λ d c is. told_so w v stands led number d c is d.hears.up refl }
-outcomes_have_issues (event.Issue client instance request) w v stands led = tt
-outcomes_have_issues (event.WhoIs client limits) w v stands led = tt
-outcomes_have_issues (event.Tick n) w v stands led = tt
-outcomes_have_issues (event.Wake station) w v stands led = tt
-outcomes_have_issues (event.Restart station) w v stands led = tt
-outcomes_have_issues (event.Hear network station octets) w v stands led = tt
-outcomes_have_issues (event.Register station) w v stands led = tt
+outcomes_have_issues e w v stands led = by_event AreOfIssues (λ w e up told all. all.of_issues) e w v stands led

@@ -1,240 +1,163 @@
 -- What an event leaves of a world is steps of its clients and devices.
-use Rattle.std.proofs.Common.{◌≡◌, ◌∙◌, ◌⊎◌, inl, inr, refl, sym, ap, subst, arith, ℕ, zero, suc, ◌+◌, ◌≤◌, true, List, [], ◌∷◌, ◌++◌, length, map, Option, Some, None, append-nil}
+use Rattle.std.proofs.Common.{◌≡◌, ◌∙◌, inl, inr, refl, sym, ap, subst, arith, ℕ, ◌≤◌, ◌+◌, true, List, [], ◌∷◌, ◌++◌, length, map, Option, Some, append-nil}
 use Rattle.std.proofs.lemmas.Bool.{leb-true}
 use Rattle.std.specs.Prelude.{nat_le, slice_get, slice_set}
-use Rattle.carry.specs.Datagrams.{IsDatagramOf}
-use Rattle.carry.specs.Things.{Thing}
-use Rattle.carry_world.proofs.Promised.{step_leads}
-use Rattle.carry_world.specs.PlainSteps.{PlainStep, StepsTo, client_asks, client_hears, client_issues, client_wakes, device_hears, device_restarts, device_wakes, something_passes, time_passes}
-use Rattle.carry_world.specs.PlainWorld as plain_world
-use Rattle.client.specs.Client.{ClientState}
 use Rattle.apdu.specs.declared.unconfirmed.Limits.{Limits}
+use Rattle.buses.proofs.KnownLaws.{ears_anew_known}
+use Rattle.buses.specs.Puts.{BusesState}
+use Rattle.carry.specs.Things.{SentFrame, Thing}
+use Rattle.carry_stations.specs.Within.{IsWithin}
+use Rattle.internetwork.proofs.carry_world.Promised.{step_leads}
+use Rattle.internetwork.specs.carry_world.PlainSteps.{PlainStep, StepsTo, client_asks, client_issues, client_wakes, device_restarts, device_wakes, time_passes}
+use Rattle.internetwork.specs.carry_world.PlainWorld as plain_world
+use Rattle.internetwork.specs.carry_world.PlainWorld.{PlainWorld}
+use Rattle.internetwork.specs.chronicle.Growing.{told_in}
 use Rattle.client.specs.Saying.{who_is_parcel}
-use Rattle.device.specs.Device.{DeviceState, restarts}
+use Rattle.device.specs.Device.{restarts}
 use Rattle.headline_bacnet.specs.Refined.{ObjectSite}
 use Rattle.history.proofs.HasLaws.{all_has, has_map}
-use Rattle.history.proofs.Lists.{has}
+use Rattle.history.proofs.Lists.{has, has_front, none_has}
 use Rattle.history.specs.Lists.{Has}
 use Rattle.history.specs.declared.Entry.TheVariants as history
-use Rattle.inside.specs.Inside.{AreInside, Reaches, Said}
-use Rattle.link.specs.Carrying.{HandsUp}
-use Rattle.link_ip.specs.CarryLaws.{carries_down, carries_on, carries_registering, carries_up, keeps_stamp}
-use Rattle.link_ip.specs.Port as ip
-use Rattle.link_ip.specs.Port.{IpPortState}
-use Rattle.link_ip.specs.Steps.{Downs, Hears, Idles, is_due}
-use Rattle.link_ip.specs.Steps as ip_steps
-use Rattle.link_ports.proofs.Keeping.{ComesUp, heard_comes_up, registers_keep}
+use Rattle.internetwork.specs.hosts.Finding.{is_at}
+use Rattle.internetwork.specs.hosts.Hosts.{IsHost}
+use Rattle.internetwork.specs.hosts.Opening.{object_site}
+use Rattle.internetwork.specs.hosts.Stations.{WorldStation, clients_of, devices_of}
+use Rattle.internetwork.proofs.plans.Hosts.{Kept, nothing_yet}
+use Rattle.internetwork.specs.Finding.{addressee_of}
+use Rattle.internetwork.specs.Laws.{Stands}
+use Rattle.internetwork.specs.Step.{Asks, Delivers, IsSoundEvent, Issues, Registers, Restarts, Steps, Ticks, Wakes, deafened, deafened_at, delivered, restarted}
+use Rattle.internetwork.specs.World.{WorldState, frames_on, plain, thing_of, things_of}
+use Rattle.internetwork.specs.declared.event.Event.{Event}
+use Rattle.internetwork.specs.declared.event.Event.TheVariants as event
+use Rattle.link.specs.Carrying as link
+use Rattle.link_ports.proofs.Keeping.{registers_keep}
 use Rattle.link_ports.specs.Ports.{HearsAt}
 use Rattle.link_ports.specs.declared.ports.PortSent.{PortSent}
+use Rattle.link_site.specs.CarryLaws.{carries_down, carries_on, carries_registering, carries_up, forgets}
+use Rattle.link_site.specs.Port as port
+use Rattle.link_site.specs.Port.{moment_of, station_of, waiting_in}
+use Rattle.link_site.specs.Steps as site
+use Rattle.link_site.specs.Steps.{Downs, Hears, is_due}
+use Rattle.link_site.specs.Things.{Carries, thing_at}
+use Rattle.link_site.specs.declared.port.SitePort.{SitePort}
 use Rattle.npdu.proofs.Stations.{one_station}
 use Rattle.npdu.specs.declared.mac.Mac.{Mac}
+use Rattle.npdu.specs.declared.mac.Mac.TheVariants.{One, Six}
 use Rattle.npdu.specs.declared.mac.Station.{Station}
 use Rattle.npdu.specs.declared.parcel.Parcel.{Parcel}
 use Rattle.primitives.specs.Sound.{IsSoundRequest}
 use Rattle.primitives.specs.declared.plain_data.Request.{Request}
 use Rattle.profile.specs.Times.{LIFE_MS}
+use Rattle.relays.specs.Finding.{place_of}
 use Rattle.site_station.proofs.StationKeeping.{hears_keep, says_keep, station_wakes_keep}
 use Rattle.site_station.specs.Entity as entity
-use Rattle.site_station.specs.Entity.{EntityAsks, EntityHears, EntityIssues, EntityRestarts, IssuesIt, OfClient, OfDevice, awake, by_client, by_device, silence, told_awake}
-use Rattle.site_station.specs.Station.{AnswersIf, ITS_PORT, SaysDown, StationTold}
+use Rattle.site_station.specs.Entity.{EntityAsks, EntityIssues, EntityRestarts, awake, told_awake}
+use Rattle.site_station.specs.Station.{ITS_PORT}
 use Rattle.site_station.specs.declared.entity.Entity.{Entity}
 use Rattle.site_station.specs.declared.entity.Entity.TheVariants.{Device, Client}
 use Rattle.site_station.specs.declared.entity.EntityTold.{EntityTold}
-use Rattle.traffic.specs.declared.item.Item.{Item}
-use Rattle.simulator.proofs.ActLaws.{acts_passes, acts_puts, client_acts, device_acts, marked_same, nobody_acts}
-use Rattle.internetwork.proofs.Hosts.{OnlyThese, nothing_yet}
+use Rattle.simulator.proofs.ActLaws.{acts_puts, and_said, client_acts, device_acts, marked_same, mid, nobody_acts, passes_then, plain_with, quiet, said_waits, two_steps}
+use Rattle.simulator.proofs.BusLeads.{hears_lead}
+use Rattle.simulator.proofs.HearLeads.{AreComing, answer_step, comes_up, silent_step}
 use Rattle.simulator.proofs.Parts.{one_passes}
-use Rattle.hosts.specs.Finding.{is_at}
-use Rattle.relays.specs.Finding.{place_of}
 use Rattle.simulator.proofs.PassLeads.{relay_hears_leads, relay_wakes_leads}
-use Rattle.internetwork.specs.Finding.{addressee_of}
-use Rattle.hosts.specs.Hosts.{IsHost}
-use Rattle.internetwork.specs.Laws.{Stands}
-use Rattle.hosts.specs.Opening.{object_site}
-use Rattle.chronicle.specs.Growing.{items_of, told_in}
-use Rattle.internetwork.specs.Step.{Acts, Asks, Delivers, IsSoundEvent, Issues, Registers, Restarts, Steps, Ticks, Wakes, delivered, restarted}
-use Rattle.hosts.specs.Stations.{WorldStation, clients_of, devices_of}
-use Rattle.internetwork.specs.World.{WorldState, plain, thing_of}
-use Rattle.internetwork.specs.declared.event.Event.{Event}
-use Rattle.internetwork.specs.declared.event.Event.TheVariants as event
-
-some_same : {X : Type 0} (x y : X) → Some x ≡ Some y → x ≡ y
-some_same x y e = cc
 
 le_of : (m n : ℕ) → nat_le m n ≡ true → m ≤ n
 le_of m n e = leb-true m n e
 
--- nothing is said of no parcel
-none_said : {A : Type 0} (net : ℕ) (ps : List (Parcel A)) (fresh : List Said) → ps ≡ [] → AreInside net ps fresh →
-    fresh ≡ []
-none_said {A} net ps fresh e inside = by_list fresh (subst (λ (qs : List (Parcel A)). AreInside net qs fresh) e inside)
+-- the ears of a station make nothing known
+deafened_knows : {A : Type 0} (now : ℕ) (x : Station) (b : BusesState A) →
+    frames_on {A = A} (deafened now x b).buses ≡ frames_on b.buses
+deafened_knows {A} now x b = by_mac x.mac
   where
-    by_list : (ss : List Said) → AreInside {A = A} net [] ss → ss ≡ []
-    by_list [] i = refl
-    by_list (s ∷ ss) i = absurd i
+    by_mac : (m : Mac) → frames_on {A = A} (deafened_at now x.net m b).buses ≡ frames_on b.buses
+    by_mac (One mac) = ears_anew_known SentFrame now x.net mac b
+    by_mac (Six octets) = refl
 
-module _ {A : Type 0} (w v : WorldState A) (stands : Stands w) where
+module _ {A : Type 0} (w v : WorldState A) (stands : Stands w) (extra : List (Thing A)) where
   host_of : (place : ℕ) (s : WorldStation A) → slice_get w.stations place ≡ Some s → IsHost w.moment s
   host_of place s e = all_has (IsHost w.moment) w.stations s stands.stations.hosts (has place e)
 
-  -- before it does something, a station puts out nothing
-  quiet : (said : List (Parcel A)) (s : WorldStation A) → IsHost w.moment s →
-      OnlyThese said w.moment (entity.station_of s.entity) s.ports []
-  quiet said s host = subst (λ (ps : List (IpPortState A)). OnlyThese said w.moment (entity.station_of s.entity) ps [])
-      (sym host.one) (nothing_yet said w.moment (entity.station_of s.entity) host.port host.place host.port_before)
+  abbrev pub old : PlainWorld A
+  old = plain_with extra w
+
+  abbrev pub new : PlainWorld A
+  new = plain_with extra v
+
+  -- all that waits, once these parcels do
+  abbrev Good : (net : ℕ) → List (Parcel A) → Station → Parcel A → Type 0
+  Good net said = IsWithin (and_said extra net said w)
 
   -- an item is handed to its addressee
   module _ (s0 : ObjectSite A) (number : ℕ) (d : Delivers number w v) where
     pub host : IsHost w.moment d.s
     host = host_of d.place d.s d.acts.there
 
-    abbrev x : Station
+    abbrev pub x : Station
     x = entity.station_of d.s.entity
 
     is_addressee : x ≡ addressee_of d.item
     is_addressee =
         let passes = one_passes (is_at (addressee_of d.item)) host.port d.port
-        (subst (λ (ps : List (IpPortState A)). place_of (is_at (addressee_of d.item)) ps ≡ Some d.port) host.one
+        (subst (λ (ps : List (SitePort A)). place_of (is_at (addressee_of d.item)) ps ≡ Some d.port) host.one
         d.addressee.port_is) in
-        sym host.place ∙ (one_station (ip.station_of host.port) (addressee_of d.item)).same (passes.0)
+        sym host.place ∙ (one_station (station_of host.port) (addressee_of d.item)).same (passes.0)
 
-    only : OnlyThese d.told.told.said w.moment x d.next.ports d.told.out
-    only = hears_keep IsDatagramOf ip.station_of ip.moment_of ip.waiting_in Downs Hears Idles carries_down carries_up
-        carries_on (λ y p. Has d.told.told.said p) (x ∷ []) w.moment d.port d.item.from d.item.octets d.item.stamp d.s
-        d.told d.next (quiet d.told.told.said d.s host) (λ p there y e. there) d.hears
+    coming : AreComing old x d.item.from d.item.octets d.item.stamp
+    coming = record {
+      there = has_front (things_of w) extra (has_front (map (λ i. thing_of i) w.items) _
+          (subst (λ (y : Station). Has (map (λ i. thing_of i) w.items)
+          (thing_at y.net d.item.from y.mac d.item.octets d.item.stamp)) (sym is_addressee)
+          (has_map (λ i. thing_of i) w.items d.item (has number d.there))));
+      young = le_of w.moment (d.item.stamp + LIFE_MS) d.young;
+    }
 
-    pub same : map (λ i. thing_of i) (delivered number d.item w.items) ≡ map (λ i. thing_of i) w.items
-    same = marked_same w.items number d.item d.there
+    places : map station_of d.s.ports ≡ x ∷ []
+    places = ap (λ (ps : List (SitePort A)). map station_of ps) host.one ∙ ap (λ (y : Station). y ∷ []) host.place
 
-    pub comes_up : (p : Parcel A) → HearsAt Hears w.moment d.port d.item.from d.item.octets d.item.stamp d.s.ports [] (Some p)
-        d.hears.middle d.hears.middle_out → plain_world.Delivers (plain w) x.net x.mac p
-    comes_up p heard =
-        let places : map (λ l. ip.station_of l) d.s.ports ≡ x ∷ [] =
-        ap (λ (ps : List (IpPortState A)). map (λ l. ip.station_of l) ps) host.one
-        ∙ ap (λ (y : Station). y ∷ []) host.place in
-        let up = heard_comes_up IsDatagramOf ip.station_of ip.moment_of ip.waiting_in Downs Hears Idles carries_down
-        carries_up carries_on (λ y p. Has d.told.told.said p) (x ∷ []) w.moment d.port d.item.from d.item.octets
-        d.item.stamp d.s.ports d.hears.middle [] d.hears.middle_out p places heard in
-        let here : up.place ≡ x = place_is up.place d.port up.at_port in
-        let to : up.place.mac ≡ d.item.to = ap (λ (y : Station). y.mac) (here ∙ is_addressee) in
-        record {
-          thing = thing_of d.item;
-          there = has_map (λ i. thing_of i) w.items d.item (has number d.there);
-          on = ap (λ (y : Station). y.net) (sym is_addressee);
-          bears = subst (λ (m : Mac). IsDatagramOf d.item.from m d.item.octets d.item.stamp p) to up.handed.carried;
-          reaches = subst (λ (y : Station). Reaches p.to y.mac) here up.handed.reaches;
-          young = omega (
-            arith,
-            le_of w.moment (d.item.stamp + LIFE_MS) d.young,
-            keeps_stamp d.item.from up.place.mac d.item.octets d.item.stamp p up.handed.carried,
-          );
-        }
-      where
-        place_is : (y : Station) (n : ℕ) → slice_get (x ∷ []) n ≡ Some y → y ≡ x
-        place_is y zero e = sym (some_same x y e)
-        place_is y (suc n) e = absurd (cc e)
+    -- what comes up of the item is delivered
+    pub brings : (p : Parcel A) → d.hears.up ≡ Some p → plain_world.Delivers old x.net x.mac p
+    brings p is = comes_up old x d.item.from d.item.octets d.item.stamp d.port d.s.ports d.hears.middle []
+        d.hears.middle_out p coming places (subst (λ (up : Option (Parcel A)). HearsAt Hears w.moment d.port d.item.from
+        d.item.octets d.item.stamp d.s.ports [] up d.hears.middle d.hears.middle_out) is d.hears.heard)
 
-    nothing_comes : d.told ≡ record { told = silence; out = d.hears.middle_out } →
-        d.next ≡ record { ports = d.hears.middle; entity = d.s.entity } → PlainStep s0 (plain w) (plain v)
-    nothing_comes told_is next_is =
-        let silent : d.told.told ≡ silence = ap (λ (t : StationTold A). t.told) told_is in
-        let said : d.told.told.said ≡ [] = ap (λ (t : EntityTold A). t.said) silent in
-        let nobody = nobody_acts w v d.place d.s d.next d.told (delivered number d.item w.items) d.acts host same
-        (ap (λ (n : WorldStation A). n.entity) next_is) in
-        something_passes (record {
-          moment = d.acts.moment;
-          clients = nobody.0;
-          devices = nobody.1;
-          keys = d.keys;
-          history = d.history ∙ ap (λ (t : EntityTold A). told_in x w.moment w.keys t w.history) silent;
-          said = d.acts.said ∙ ap (λ (ss : List Said). w.said ++ ss)
-              (none_said x.net d.told.told.said d.acts.fresh said d.acts.insides) ∙ append-nil w.said;
-          grows = acts_passes w v d.place d.s d.next d.told (delivered number d.item w.items) d.acts host same said only;
-        })
+    kept : Kept (Good x.net d.told.told.said) w.moment x d.next.ports d.told.out
+    kept = hears_keep Carries station_of moment_of waiting_in Downs Hears site.Wakes carries_down carries_up carries_on
+        (Good x.net d.told.told.said) (x ∷ []) w.moment d.port d.item.from d.item.octets d.item.stamp d.s d.told d.next
+        (quiet w v d.place d.s d.next d.told (delivered number d.item w.items) w.buses d.acts host extra)
+        (said_waits w v d.place d.s d.next d.told (delivered number d.item w.items) w.buses d.acts host extra) d.hears
 
-    device_hears_it : (p : Parcel A) (e f : DeviceState A) → d.s.entity ≡ Device e → d.next.entity ≡ Device f →
-        plain_world.Delivers (plain w) x.net x.mac p → OfDevice w.moment p e d.told.told f → PlainStep s0 (plain w) (plain v)
-    device_hears_it p e f is then delivers of =
-        let part = device_acts w v d.place d.s d.next d.told (delivered number d.item w.items) d.acts host same e f is
-        then in
-        let at : x ≡ record { net = e.net; mac = e.mac } = ap (λ (n : Entity A). entity.station_of n) is in
-        device_hears (record {
-          place = part.1.place;
-          d = e;
-          left = f;
-          p = p;
-          told = of.by;
-          there = part.1.there;
-          delivered = subst (λ (y : Station). plain_world.Delivers (plain w) y.net y.mac p) at delivers;
-          hears = of.hears;
-          moment = d.acts.moment;
-          clients = part.0;
-          devices = ap (λ (ss : List (WorldStation A)). devices_of ss) d.acts.stations ∙ part.1.set;
-          keys = d.keys;
-          history = d.history ∙ ap (λ (t : EntityTold A). told_in x w.moment w.keys t w.history) of.told_is;
-          puts = subst (λ (y : Station). plain_world.Puts (plain w) (plain v) y.net of.by.said) at
-              (subst (λ (t : EntityTold A). plain_world.Puts (plain w) (plain v) x.net t.said) of.told_is
-              (acts_puts w v d.place d.s d.next d.told (delivered number d.item w.items) d.acts host same only));
-        })
-
-    client_hears_it : (p : Parcel A) (e f : ClientState A) → d.s.entity ≡ Client e → d.next.entity ≡ Client f →
-        plain_world.Delivers (plain w) x.net x.mac p → OfClient w.moment p e d.told.told f → PlainStep s0 (plain w) (plain v)
-    client_hears_it p e f is then delivers of =
-        let part = client_acts w v d.place d.s d.next d.told (delivered number d.item w.items) d.acts host same e f is
-        then in
-        let at : x ≡ record { net = e.net; mac = e.mac } = ap (λ (n : Entity A). entity.station_of n) is in
-        client_hears (record {
-          place = part.1.place;
-          c = e;
-          next = f;
-          p = p;
-          told = of.by;
-          there = part.1.there;
-          delivered = subst (λ (y : Station). plain_world.Delivers (plain w) y.net y.mac p) at delivers;
-          hears = of.hears;
-          moment = d.acts.moment;
-          clients = ap (λ (ss : List (WorldStation A)). clients_of ss) d.acts.stations ∙ part.1.set;
-          devices = part.0;
-          keys = d.keys;
-          history = d.history ∙ ap (λ (t : EntityTold A). told_in x w.moment w.keys t w.history) of.told_is
-              ∙ ap (λ (y : Station). told_in y w.moment w.keys (by_client of.by) w.history) at;
-          puts = subst (λ (y : Station). plain_world.Puts (plain w) (plain v) y.net of.by.said) at
-              (subst (λ (t : EntityTold A). plain_world.Puts (plain w) (plain v) x.net t.said) of.told_is
-              (acts_puts w v d.place d.s d.next d.told (delivered number d.item w.items) d.acts host same only));
-        })
-
-    by_entity : (p : Parcel A) (e f : Entity A) → d.s.entity ≡ e → d.next.entity ≡ f →
-        plain_world.Delivers (plain w) x.net x.mac p → EntityHears w.moment p e d.told.told f → PlainStep s0 (plain w) (plain v)
-    by_entity p (Device e) (Device f) is then delivers of = device_hears_it p e f is then delivers of
-    by_entity p (Client e) (Client f) is then delivers of = client_hears_it p e f is then delivers of
-    by_entity p (Device e) (Client f) is then delivers of = absurd of
-    by_entity p (Client e) (Device f) is then delivers of = absurd of
-
-    by_up : (up : Option (Parcel A)) → HearsAt Hears w.moment d.port d.item.from d.item.octets d.item.stamp d.s.ports []
-        up d.hears.middle d.hears.middle_out → AnswersIf Downs w.moment up d.hears.middle d.s.entity d.hears.middle_out
-        d.told d.next → PlainStep s0 (plain w) (plain v)
-    by_up None heard a = nothing_comes (a.0) (a.1)
-    by_up (Some p) heard a = by_entity p d.s.entity d.next.entity refl refl (comes_up p heard) a.does
-
-    delivers_lead : PlainStep s0 (plain w) (plain v)
-    delivers_lead = by_up d.hears.up d.hears.heard d.hears.answers
+    delivers_lead : StepsTo s0 old new
+    delivers_lead = two_steps s0 old
+        (mid w v d.place d.s d.next d.told (delivered number d.item w.items) w.buses d.acts host extra) new
+        (answer_step w v d.place d.s d.next d.told (delivered number d.item w.items) w.buses d.acts host extra d.keys
+        d.history s0 d.hears.up d.hears.middle d.hears.middle_out d.hears.answers brings)
+        (passes_then w v d.place d.s d.next d.told (delivered number d.item w.items) w.buses d.acts host extra s0
+        (marked_same w.items number d.item d.there) refl kept)
 
   -- a station wakes
   module _ (s0 : ObjectSite A) (name : List ℕ) (d : Wakes name w v) where
     waking : IsHost w.moment d.s
     waking = host_of d.place d.s d.acts.there
 
-    wakes_only : OnlyThese d.told.told.said w.moment (entity.station_of d.s.entity) d.next.ports d.told.out
-    wakes_only = station_wakes_keep IsDatagramOf ip.station_of ip.moment_of ip.waiting_in Downs Hears Idles carries_down
-        carries_up carries_on (λ y p. Has d.told.told.said p) is_due (entity.station_of d.s.entity ∷ []) w.moment d.s
-        d.told d.next (quiet d.told.told.said d.s waking) (λ p there y e. there) d.wakes
+    abbrev woken_at : Station
+    woken_at = entity.station_of d.s.entity
+
+    abbrev between_wakes : PlainWorld A
+    between_wakes = mid w v d.place d.s d.next d.told w.items w.buses d.acts waking extra
+
+    wakes_kept : Kept (Good woken_at.net d.told.told.said) w.moment woken_at d.next.ports d.told.out
+    wakes_kept = station_wakes_keep Carries station_of moment_of waiting_in Downs Hears site.Wakes carries_down carries_up
+        carries_on (Good woken_at.net d.told.told.said) is_due (woken_at ∷ []) w.moment d.s d.told d.next
+        (quiet w v d.place d.s d.next d.told w.items w.buses d.acts waking extra)
+        (said_waits w v d.place d.s d.next d.told w.items w.buses d.acts waking extra) d.wakes
 
     wakes_by : (e : Entity A) → d.s.entity ≡ e → d.told.told ≡ told_awake w.moment e →
-        d.next.entity ≡ awake w.moment e → PlainStep s0 (plain w) (plain v)
+        d.next.entity ≡ awake w.moment e → PlainStep s0 old between_wakes
     wakes_by (Device e) is told_is then =
-        let part = device_acts w v d.place d.s d.next d.told w.items d.acts waking refl e _ is then in
-        let at : entity.station_of d.s.entity ≡ record { net = e.net; mac = e.mac } =
-        ap (λ (n : Entity A). entity.station_of n) is in
+        let part = device_acts w v d.place d.s d.next d.told w.items w.buses d.acts waking e _ is then in
+        let at : woken_at ≡ record { net = e.net; mac = e.mac } = ap (λ (n : Entity A). entity.station_of n) is in
         device_wakes (record {
           place = part.1.place;
           d = e;
@@ -243,16 +166,15 @@ module _ {A : Type 0} (w v : WorldState A) (stands : Stands w) where
           clients = part.0;
           devices = ap (λ (ss : List (WorldStation A)). devices_of ss) d.acts.stations ∙ part.1.set;
           keys = d.keys;
-          history = d.history
-              ∙ ap (λ (t : EntityTold A). told_in (entity.station_of d.s.entity) w.moment w.keys t w.history) told_is;
-          puts = subst (λ (y : Station). plain_world.Puts (plain w) (plain v) y.net (told_awake w.moment (Device e)).said) at
-              (subst (λ (t : EntityTold A). plain_world.Puts (plain w) (plain v) (entity.station_of d.s.entity).net t.said) told_is
-              (acts_puts w v d.place d.s d.next d.told w.items d.acts waking refl wakes_only));
+          history = d.history ∙ ap (λ (t : EntityTold A). told_in woken_at w.moment w.keys t w.history) told_is;
+          puts = subst (λ (y : Station).
+              plain_world.Puts old between_wakes y.net (told_awake w.moment (Device e)).said) at
+              (subst (λ (t : EntityTold A). plain_world.Puts old between_wakes woken_at.net t.said) told_is
+              (acts_puts w v d.place d.s d.next d.told w.items w.buses d.acts waking extra));
         })
     wakes_by (Client e) is told_is then =
-        let part = client_acts w v d.place d.s d.next d.told w.items d.acts waking refl e _ is then in
-        let at : entity.station_of d.s.entity ≡ record { net = e.net; mac = e.mac } =
-        ap (λ (n : Entity A). entity.station_of n) is in
+        let part = client_acts w v d.place d.s d.next d.told w.items w.buses d.acts waking e _ is then in
+        let at : woken_at ≡ record { net = e.net; mac = e.mac } = ap (λ (n : Entity A). entity.station_of n) is in
         client_wakes (record {
           place = part.1.place;
           c = e;
@@ -261,16 +183,17 @@ module _ {A : Type 0} (w v : WorldState A) (stands : Stands w) where
           clients = ap (λ (ss : List (WorldStation A)). clients_of ss) d.acts.stations ∙ part.1.set;
           devices = part.0;
           keys = d.keys;
-          history = d.history
-              ∙ ap (λ (t : EntityTold A). told_in (entity.station_of d.s.entity) w.moment w.keys t w.history) told_is
+          history = d.history ∙ ap (λ (t : EntityTold A). told_in woken_at w.moment w.keys t w.history) told_is
               ∙ ap (λ (y : Station). told_in y w.moment w.keys (told_awake w.moment (Client e)) w.history) at;
-          puts = subst (λ (y : Station). plain_world.Puts (plain w) (plain v) y.net (told_awake w.moment (Client e)).said) at
-              (subst (λ (t : EntityTold A). plain_world.Puts (plain w) (plain v) (entity.station_of d.s.entity).net t.said) told_is
-              (acts_puts w v d.place d.s d.next d.told w.items d.acts waking refl wakes_only));
+          puts = subst (λ (y : Station).
+              plain_world.Puts old between_wakes y.net (told_awake w.moment (Client e)).said) at
+              (subst (λ (t : EntityTold A). plain_world.Puts old between_wakes woken_at.net t.said) told_is
+              (acts_puts w v d.place d.s d.next d.told w.items w.buses d.acts waking extra));
         })
 
-    wakes_lead : PlainStep s0 (plain w) (plain v)
-    wakes_lead = wakes_by d.s.entity refl d.wakes.told d.wakes.entity
+    wakes_lead : StepsTo s0 old new
+    wakes_lead = two_steps s0 old between_wakes new (wakes_by d.s.entity refl d.wakes.told d.wakes.entity)
+        (passes_then w v d.place d.s d.next d.told w.items w.buses d.acts waking extra s0 refl refl wakes_kept)
 
   -- a client issues a request
   module _ (s0 : ObjectSite A) (name : List ℕ) (instance : ℕ) (request : Request A) (sound : IsSoundRequest request)
@@ -278,19 +201,24 @@ module _ {A : Type 0} (w v : WorldState A) (stands : Stands w) where
     issuing : IsHost w.moment d.s
     issuing = host_of d.place d.s d.acts.there
 
-    issues_only : OnlyThese d.told.told.said w.moment (entity.station_of d.s.entity) d.next.ports d.told.out
-    issues_only = says_keep IsDatagramOf ip.station_of ip.moment_of ip.waiting_in Downs Hears Idles carries_down
-        carries_up carries_on (λ y p. Has d.told.told.said p)
-        (λ told left. EntityIssues w.moment instance request d.s.entity d.id told left)
-        (entity.station_of d.s.entity ∷ []) w.moment d.s.ports [] d.told d.next (quiet d.told.told.said d.s issuing)
-        (λ p there y e. there) d.issues.says
+    abbrev issued_at : Station
+    issued_at = entity.station_of d.s.entity
+
+    abbrev between_issues : PlainWorld A
+    between_issues = mid w v d.place d.s d.next d.told w.items w.buses d.acts issuing extra
+
+    issues_kept : Kept (Good issued_at.net d.told.told.said) w.moment issued_at d.next.ports d.told.out
+    issues_kept = says_keep Carries station_of moment_of waiting_in Downs Hears site.Wakes carries_down carries_up
+        carries_on (Good issued_at.net d.told.told.said)
+        (λ told left. EntityIssues w.moment instance request d.s.entity d.id told left) (issued_at ∷ []) w.moment
+        d.s.ports [] d.told d.next (quiet w v d.place d.s d.next d.told w.items w.buses d.acts issuing extra)
+        (said_waits w v d.place d.s d.next d.told w.items w.buses d.acts issuing extra) d.issues.says
 
     issues_by : (e f : Entity A) → d.s.entity ≡ e → d.next.entity ≡ f →
-        EntityIssues w.moment instance request e d.id d.told.told f → PlainStep s0 (plain w) (plain v)
+        EntityIssues w.moment instance request e d.id d.told.told f → PlainStep s0 old between_issues
     issues_by (Client e) (Client f) is then of =
-        let part = client_acts w v d.place d.s d.next d.told w.items d.acts issuing refl e f is then in
-        let at : entity.station_of d.s.entity ≡ record { net = e.net; mac = e.mac } =
-        ap (λ (n : Entity A). entity.station_of n) is in
+        let part = client_acts w v d.place d.s d.next d.told w.items w.buses d.acts issuing e f is then in
+        let at : issued_at ≡ record { net = e.net; mac = e.mac } = ap (λ (n : Entity A). entity.station_of n) is in
         client_issues (record {
           place = part.1.place;
           instance = instance;
@@ -308,34 +236,41 @@ module _ {A : Type 0} (w v : WorldState A) (stands : Stands w) where
           keys = d.keys ∙ ap (λ (y : Station). w.keys ++ record { client = y; invoke_id = d.id } ∷ []) at;
           history = d.history ∙ ap (λ (y : Station).
               w.history ++ history.Issue (length w.keys) y instance request w.moment ∷ []) at;
-          puts = subst (λ (y : Station). plain_world.Puts (plain w) (plain v) y.net d.told.told.said) at
-              (acts_puts w v d.place d.s d.next d.told w.items d.acts issuing refl issues_only);
+          puts = subst (λ (y : Station). plain_world.Puts old between_issues y.net d.told.told.said) at
+              (acts_puts w v d.place d.s d.next d.told w.items w.buses d.acts issuing extra);
         })
     issues_by (Client e) (Device f) is then of = absurd of
     issues_by (Device e) f is then of = absurd of
 
-    issues_lead : PlainStep s0 (plain w) (plain v)
-    issues_lead = issues_by d.s.entity d.next.entity refl refl d.issues.says.does
+    issues_lead : StepsTo s0 old new
+    issues_lead = two_steps s0 old between_issues new
+        (issues_by d.s.entity d.next.entity refl refl d.issues.says.does)
+        (passes_then w v d.place d.s d.next d.told w.items w.buses d.acts issuing extra s0 refl refl issues_kept)
 
   -- a client asks who is there
   module _ (s0 : ObjectSite A) (name : List ℕ) (limits : Option Limits) (d : Asks name limits w v) where
     asking : IsHost w.moment d.s
     asking = host_of d.place d.s d.acts.there
 
-    asks_only : OnlyThese d.told.told.said w.moment (entity.station_of d.s.entity) d.next.ports d.told.out
-    asks_only = says_keep IsDatagramOf ip.station_of ip.moment_of ip.waiting_in Downs Hears Idles carries_down
-        carries_up carries_on (λ y p. Has d.told.told.said p)
-        (λ told left. EntityAsks w.moment limits d.s.entity told left)
-        (entity.station_of d.s.entity ∷ []) w.moment d.s.ports [] d.told d.next (quiet d.told.told.said d.s asking)
-        (λ p there y e. there) d.asks.says
+    abbrev asked_at : Station
+    asked_at = entity.station_of d.s.entity
+
+    abbrev between_asks : PlainWorld A
+    between_asks = mid w v d.place d.s d.next d.told w.items w.buses d.acts asking extra
+
+    asks_kept : Kept (Good asked_at.net d.told.told.said) w.moment asked_at d.next.ports d.told.out
+    asks_kept = says_keep Carries station_of moment_of waiting_in Downs Hears site.Wakes carries_down carries_up
+        carries_on (Good asked_at.net d.told.told.said)
+        (λ told left. EntityAsks w.moment limits d.s.entity told left) (asked_at ∷ []) w.moment d.s.ports [] d.told
+        d.next (quiet w v d.place d.s d.next d.told w.items w.buses d.acts asking extra)
+        (said_waits w v d.place d.s d.next d.told w.items w.buses d.acts asking extra) d.asks.says
 
     asks_by : (e : Entity A) → d.s.entity ≡ e → EntityAsks w.moment limits e d.told.told d.next.entity →
-        PlainStep s0 (plain w) (plain v)
+        PlainStep s0 old between_asks
     asks_by (Client e) is of =
-        let part = client_acts w v d.place d.s d.next d.told w.items d.acts asking refl e e is (of.1) in
-        let nobody = nobody_acts w v d.place d.s d.next d.told w.items d.acts asking refl (of.1 ∙ sym is) in
-        let at : entity.station_of d.s.entity ≡ record { net = e.net; mac = e.mac } =
-        ap (λ (n : Entity A). entity.station_of n) is in
+        let part = client_acts w v d.place d.s d.next d.told w.items w.buses d.acts asking e e is (of.1) in
+        let nobody = nobody_acts w v d.place d.s d.next d.told w.items w.buses d.acts asking (of.1 ∙ sym is) in
+        let at : asked_at ≡ record { net = e.net; mac = e.mac } = ap (λ (n : Entity A). entity.station_of n) is in
         client_asks (record {
           place = part.1.place;
           c = e;
@@ -346,28 +281,52 @@ module _ {A : Type 0} (w v : WorldState A) (stands : Stands w) where
           devices = nobody.1;
           keys = d.keys;
           history = d.history;
-          puts = subst (λ (y : Station). plain_world.Puts (plain w) (plain v) y.net (who_is_parcel w.moment e.mac limits ∷ [])) at
-              (subst (λ (t : EntityTold A). plain_world.Puts (plain w) (plain v) (entity.station_of d.s.entity).net t.said) (of.0)
-              (acts_puts w v d.place d.s d.next d.told w.items d.acts asking refl asks_only));
+          puts = subst (λ (y : Station).
+              plain_world.Puts old between_asks y.net (who_is_parcel w.moment e.mac limits ∷ [])) at
+              (subst (λ (t : EntityTold A). plain_world.Puts old between_asks asked_at.net t.said) (of.0)
+              (acts_puts w v d.place d.s d.next d.told w.items w.buses d.acts asking extra));
         })
     asks_by (Device e) is of = absurd of
 
-    asks_lead : PlainStep s0 (plain w) (plain v)
-    asks_lead = asks_by d.s.entity refl d.asks.says.does
+    asks_lead : StepsTo s0 old new
+    asks_lead = two_steps s0 old between_asks new (asks_by d.s.entity refl d.asks.says.does)
+        (passes_then w v d.place d.s d.next d.told w.items w.buses d.acts asking extra s0 refl refl asks_kept)
 
   -- a device restarts
   module _ (name : List ℕ) (d : Restarts name w v) where
     restarting : IsHost w.moment d.s
     restarting = host_of d.place d.s d.acts.there
 
+    abbrev restarted_at : Station
+    restarted_at = entity.station_of d.s.entity
+
+    abbrev anew : BusesState A
+    anew = deafened w.moment restarted_at w.buses
+
+    abbrev between_restarts : PlainWorld A
+    between_restarts = mid w v d.place d.s d.next d.told w.items anew d.acts restarting extra
+
+    restarts_kept : Kept (Good restarted_at.net d.told.told.said) w.moment restarted_at d.next.ports d.told.out
+    restarts_kept = subst (λ (o : List (PortSent A)).
+        Kept (Good restarted_at.net d.told.told.said) w.moment restarted_at d.next.ports o) (sym d.restarts.silent)
+        (subst (λ (ps : List (SitePort A)). Kept (Good restarted_at.net d.told.told.said) w.moment restarted_at ps [])
+        (sym d.restarts.ports)
+        (subst (λ (ps : List (SitePort A)).
+        Kept (Good restarted_at.net d.told.told.said) w.moment restarted_at (map (port.restarted w.moment) ps) [])
+        (sym restarting.one) (nothing_yet (Good restarted_at.net d.told.told.said) w.moment restarted_at
+        (port.restarted w.moment restarting.port) (again.place ∙ restarting.place) (omega (arith, again.at))
+        (λ p there. absurd (none_has (subst (λ (ps : List (Parcel A)). Has ps p) again.none there))))))
+      where
+        again : link.Restarts station_of moment_of waiting_in w.moment restarting.port (port.restarted w.moment restarting.port)
+        again = forgets w.moment restarting.port
+
     restarts_by : (e : Entity A) → d.s.entity ≡ e →
-        EntityRestarts w.moment ((object_site w.site).opening (entity.station_of d.s.entity)) e d.told.told d.next.entity →
-        PlainStep (object_site w.site) (plain w) (plain v)
+        EntityRestarts w.moment ((object_site w.site).opening restarted_at) e d.told.told d.next.entity →
+        PlainStep (object_site w.site) old between_restarts
     restarts_by (Device e) is of =
         let silent : d.told.told.said ≡ [] = ap (λ (t : EntityTold A). t.said) (of.0) in
-        let at : entity.station_of d.s.entity ≡ record { net = e.net; mac = e.mac } =
-        ap (λ (n : Entity A). entity.station_of n) is in
-        let part = device_acts w v d.place d.s d.next d.told w.items d.acts restarting refl e _ is (of.1) in
+        let at : restarted_at ≡ record { net = e.net; mac = e.mac } = ap (λ (n : Entity A). entity.station_of n) is in
+        let part = device_acts w v d.place d.s d.next d.told w.items anew d.acts restarting e _ is (of.1) in
         device_restarts (record {
           place = part.1.place;
           d = e;
@@ -379,51 +338,42 @@ module _ {A : Type 0} (w v : WorldState A) (stands : Stands w) where
               (restarts w.moment ((object_site w.site).opening y) e)) at;
           keys = d.keys;
           history = d.history ∙ ap (λ (n : Entity A). w.history ++ restarted w.moment n) is;
-          puts = record {
-            fresh = [];
-            insides = tt;
-            said = d.acts.said ∙ ap (λ (ss : List Said). w.said ++ ss)
-                (none_said (entity.station_of d.s.entity).net d.told.told.said d.acts.fresh silent d.acts.insides);
-            grows = λ u h. inl (subst (λ (is : List (Item A)). Has (map (λ i. thing_of i) is) u)
-                (d.acts.items_are ∙ ap (λ (o : List (PortSent A)). w.items ++ items_of w.moment d.s.ports o) d.restarts.silent
-                ∙ append-nil w.items) h);
-          };
+          puts = subst (λ (y : Station). plain_world.Puts old between_restarts y.net []) at
+              (subst (λ (ps : List (Parcel A)). plain_world.Puts old between_restarts restarted_at.net ps) silent
+              (acts_puts w v d.place d.s d.next d.told w.items anew d.acts restarting extra));
         })
     restarts_by (Client e) is of = absurd of
 
-    restarts_lead : PlainStep (object_site w.site) (plain w) (plain v)
-    restarts_lead = restarts_by d.s.entity refl d.restarts.entity
+    restarts_lead : StepsTo (object_site w.site) old new
+    restarts_lead = two_steps (object_site w.site) old between_restarts new
+        (restarts_by d.s.entity refl d.restarts.entity)
+        (passes_then w v d.place d.s d.next d.told w.items anew d.acts restarting extra (object_site w.site) refl
+        (deafened_knows w.moment restarted_at w.buses) restarts_kept)
 
   -- a foreign station registers
   module _ (s0 : ObjectSite A) (name : List ℕ) (d : Registers name w v) where
     registering : IsHost w.moment d.s
     registering = host_of d.place d.s d.acts.there
 
-    registers_only : OnlyThese d.told.told.said w.moment (entity.station_of d.s.entity) d.next.ports d.told.out
-    registers_only = registers_keep IsDatagramOf ip.station_of ip.moment_of ip.waiting_in Downs Hears Idles carries_down
-        carries_up carries_on (λ y p. Has d.told.told.said p) ip_steps.Registers carries_registering
-        (entity.station_of d.s.entity ∷ []) w.moment ITS_PORT d.s.ports d.next.ports [] d.told.out
-        (quiet d.told.told.said d.s registering) d.registers.ports
+    abbrev registered_at : Station
+    registered_at = entity.station_of d.s.entity
 
-    registers_lead : PlainStep s0 (plain w) (plain v)
-    registers_lead =
-        let silent : d.told.told.said ≡ [] = ap (λ (t : EntityTold A). t.said) d.registers.silent in
-        let nobody = nobody_acts w v d.place d.s d.next d.told w.items d.acts registering refl d.registers.same in
-        something_passes (record {
-          moment = d.acts.moment;
-          clients = nobody.0;
-          devices = nobody.1;
-          keys = d.keys;
-          history = d.history;
-          said = d.acts.said ∙ ap (λ (ss : List Said). w.said ++ ss)
-              (none_said (entity.station_of d.s.entity).net d.told.told.said d.acts.fresh silent d.acts.insides)
-              ∙ append-nil w.said;
-          grows = acts_passes w v d.place d.s d.next d.told w.items d.acts registering refl silent registers_only;
-        })
+    registers_kept : Kept (Good registered_at.net d.told.told.said) w.moment registered_at d.next.ports d.told.out
+    registers_kept = registers_keep Carries station_of moment_of waiting_in Downs Hears site.Wakes carries_down carries_up
+        carries_on (Good registered_at.net d.told.told.said) site.Registers carries_registering (registered_at ∷ [])
+        w.moment ITS_PORT d.s.ports d.next.ports [] d.told.out
+        (quiet w v d.place d.s d.next d.told w.items w.buses d.acts registering extra) d.registers.ports
+
+    registers_lead : StepsTo s0 old new
+    registers_lead = two_steps s0 old (mid w v d.place d.s d.next d.told w.items w.buses d.acts registering extra) new
+        (silent_step w v d.place d.s d.next d.told w.items w.buses d.acts registering extra d.keys
+        (d.history ∙ sym (ap (λ (t : EntityTold A). told_in registered_at w.moment w.keys t w.history) d.registers.silent))
+        s0 d.registers.silent d.registers.same)
+        (passes_then w v d.place d.s d.next d.told w.items w.buses d.acts registering extra s0 refl refl registers_kept)
 
   -- time passes
-  ticks_lead : (s0 : ObjectSite A) (n : ℕ) → Ticks n w v → PlainStep s0 (plain w) (plain v)
-  ticks_lead s0 n d = subst (λ (u : WorldState A). PlainStep s0 (plain w) (plain u)) (sym d.is) (time_passes (record {
+  ticks_lead : (s0 : ObjectSite A) (n : ℕ) → Ticks n w v → PlainStep s0 old new
+  ticks_lead s0 n d = subst (λ (u : WorldState A). PlainStep s0 old (plain_with extra u)) (sym d.is) (time_passes (record {
     n = n;
     moment = refl;
     clients = refl;
@@ -433,22 +383,36 @@ module _ {A : Type 0} (w v : WorldState A) (stands : Stands w) where
     puts = record { fresh = []; insides = tt; said = sym (append-nil w.said); grows = λ t there. inl there };
   }))
 
--- what an event leaves of a world that stands is a step of its clients and devices
-event_leads : {A : Type 0} (e : Event A) (w v : WorldState A) → Stands w → IsSoundEvent e → Steps e w v →
-    PlainStep (object_site w.site) (plain w) (plain v)
-event_leads (event.Issue client instance request) w v stands sound d =
-    issues_lead w v stands (object_site w.site) client instance request sound d
-event_leads (event.WhoIs client limits) w v stands sound d = asks_lead w v stands (object_site w.site) client limits d
-event_leads (event.Tick n) w v stands sound d = ticks_lead w v stands (object_site w.site) n d
-event_leads (event.Wake station) w v stands sound (inl d) = wakes_lead w v stands (object_site w.site) station d
-event_leads (event.Wake station) w v stands sound (inr d) = relay_wakes_leads w v stands (object_site w.site) station d
-event_leads (event.Deliver number) w v stands sound (inl d) = delivers_lead w v stands (object_site w.site) number d
-event_leads (event.Deliver number) w v stands sound (inr d) = relay_hears_leads w v stands (object_site w.site) number d
-event_leads (event.Restart station) w v stands sound d = restarts_lead w v stands station d
-event_leads (event.Hear network station octets) w v stands sound d = absurd d
-event_leads (event.Register station) w v stands sound d = registers_lead w v stands (object_site w.site) station d
+-- what an event leaves of a world that stands is steps of its clients and devices, whatever else is on its way
+event_leads : {A : Type 0} (e : Event A) (w v : WorldState A) (extra : List (Thing A)) → Stands w → IsSoundEvent e →
+    Steps e w v → StepsTo (object_site w.site) (plain_with extra w) (plain_with extra v)
+event_leads (event.Issue client instance request) w v extra stands sound d =
+    issues_lead w v stands extra (object_site w.site) client instance request sound d
+event_leads (event.WhoIs client limits) w v extra stands sound d =
+    asks_lead w v stands extra (object_site w.site) client limits d
+event_leads (event.Tick n) w v extra stands sound d = step_leads (object_site w.site) (plain_with extra w)
+    (plain_with extra v) (ticks_lead w v stands extra (object_site w.site) n d)
+event_leads (event.Wake station) w v extra stands sound (inl d) =
+    wakes_lead w v stands extra (object_site w.site) station d
+event_leads (event.Wake station) w v extra stands sound (inr d) = step_leads (object_site w.site) (plain_with extra w)
+    (plain_with extra v) (relay_wakes_leads w v stands (object_site w.site) extra station d)
+event_leads (event.Deliver number) w v extra stands sound (inl d) =
+    delivers_lead w v stands extra (object_site w.site) number d
+event_leads (event.Deliver number) w v extra stands sound (inr d) = step_leads (object_site w.site) (plain_with extra w)
+    (plain_with extra v) (relay_hears_leads w v stands (object_site w.site) extra number d)
+event_leads (event.Restart station) w v extra stands sound d = restarts_lead w v stands extra station d
+event_leads (event.Hear network station octets) w v extra stands sound d =
+    hears_lead w v stands extra (object_site w.site) network station octets d
+event_leads (event.Register station) w v extra stands sound d =
+    registers_lead w v stands extra (object_site w.site) station d
+
+-- a world without more on its way is itself
+pub with_nothing : {A : Type 0} (w : WorldState A) → plain_with [] w ≡ plain w
+with_nothing {A} w = ap (λ (ts : List (Thing A)). record (plain w) { things = ts }) (append-nil (things_of w))
 
 pub steps_lead : {A : Type 0} (e : Event A) (w v : WorldState A) → Stands w → IsSoundEvent e → Steps e w v →
     StepsTo (object_site w.site) (plain w) (plain v)
-steps_lead e w v stands sound d =
-    step_leads (object_site w.site) (plain w) (plain v) (event_leads e w v stands sound d)
+steps_lead {A} e w v stands sound d =
+    subst (λ (a : PlainWorld A). StepsTo (object_site w.site) a (plain v)) (with_nothing w)
+    (subst (λ (b : PlainWorld A). StepsTo (object_site w.site) (plain_with [] w) b) (with_nothing v)
+    (event_leads e w v [] stands sound d))

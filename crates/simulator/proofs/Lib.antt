@@ -1,7 +1,12 @@
 pub mod Parts
+pub mod Growing
 pub mod ActLaws
 pub mod PassLeads
+pub mod HearLeads
+pub mod BusLeads
 pub mod LeadLaws
 pub mod LedLaws
 pub mod FreshLaws
 pub mod HeardLaws
+pub mod FlowLaws
+pub mod QuietLaws

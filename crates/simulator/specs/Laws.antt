@@ -1,10 +1,10 @@
 -- What is promised of a world.
-use Rattle.carry_world.specs.Laws.{IsFresh}
-use Rattle.carry_world.specs.PlainSteps.{StepsTo}
-use Rattle.carry_world.specs.PlainWorld.{PlainWorld}
+use Rattle.internetwork.specs.carry_world.Laws.{IsFresh}
+use Rattle.internetwork.specs.carry_world.PlainSteps.{StepsTo}
+use Rattle.internetwork.specs.carry_world.PlainWorld.{PlainWorld}
 use Rattle.headline.specs.Protocol.{IsSite}
 use Rattle.headline_bacnet.specs.Protocol.{bacnet}
-use Rattle.hosts.specs.Opening.{object_site}
+use Rattle.internetwork.specs.hosts.Opening.{object_site}
 use Rattle.internetwork.specs.Laws.{Stands}
 use Rattle.internetwork.specs.Step.{IsSoundEvent, Steps}
 use Rattle.internetwork.specs.World.{WorldState, plain}

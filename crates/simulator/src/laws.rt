@@ -1,6 +1,7 @@
 //! What holds of each event, for the proofs of the layers above.
 
 ghost use Rattle.simulator.specs.Laws.{EventSteps};
+ghost use Rattle.simulator.specs.Quiet.{QuietHears};
 
 use std::alloc::Allocator;
 
@@ -8,4 +9,10 @@ use std::alloc::Allocator;
 /// steps is then its own.
 pub fn events_lead<A: Allocator>()
     ensures { EventSteps A }
+{}
+
+/// Octets on a bus that end no frame which may be heard change what a port counted and its ear keeps, and nothing else:
+/// nothing is put out, said, executed or told (9.5.2, 9.5.4).
+pub fn quiet_hears<A: Allocator>()
+    ensures { QuietHears A }
 {}

@@ -2,16 +2,18 @@
 //!
 //! To whoever runs it it promises the headline: whatever events happen, in whatever order, the history is legal: no issue
 //! is executed twice, each answer is the reply of an earlier execution of that very issue at the device that it names, and
-//! the objects of each device are what its executions leave. So far it runs sites on BACnet/IP, with routers, broadcast
-//! managers and foreign stations, and none on a bus.
+//! the objects of each device are what its executions leave.
 //!
 //! - `world`: the world, and its runs.
+//! - `flow`: the events of a site that nothing disturbs.
 //! - `laws`: what holds of each event, for the proofs of the layers above.
 #![tactic(auto)]
 
+mod flow;
 mod laws;
 mod world;
 
-pub use internetwork::{Event, Flow, Internetwork};
-pub use laws::events_lead;
+pub use flow::Flow;
+pub use internetwork::{Event, Internetwork, WorldEntry};
+pub use laws::{events_lead, quiet_hears};
 pub use world::World;

@@ -1,22 +1,23 @@
 //! The world: what came about from a site's opening by events.
 
-ghost use Rattle.std.specs.Prelude.{◌≡◌, ◌⊎◌, IfOk, IfErr, IfNone, IfSome, OnOk, OnErr};
+ghost use Rattle.std.specs.Prelude.{◌≡◌, IfOk, IfErr, IfNone, IfSome, OnOk, OnErr};
 ghost use Rattle.std.specs.List.{AllByRecursion};
+ghost use Rattle.buses.specs.Buses.{buses_of};
 ghost use Rattle.carry.specs.Things.{AreCarried};
-ghost use Rattle.carry_world.specs.Laws.{IsLegal, WholeIsIssued};
+ghost use Rattle.internetwork.specs.carry_world.Laws.{IsLegal, WholeIsIssued};
 ghost use Rattle.simulator.specs.Heard.{ExecutedWasIssued, HeardWasSaid, OutcomesHaveIssues};
-ghost use Rattle.hosts.specs.Buses.{HasBus, IsOnIp};
 ghost use Rattle.internetwork.specs.Finding.{HasNoTable, HasTable};
-ghost use Rattle.internetwork.specs.Flows.{IsLess, left_of};
-ghost use Rattle.chronicle.specs.Kept.{all_said};
-ghost use Rattle.hosts.specs.Opening.{object_site};
+ghost use Rattle.simulator.specs.Flows.{IsLess, left_of};
+ghost use Rattle.internetwork.specs.chronicle.Kept.{all_said};
+ghost use Rattle.internetwork.specs.hosts.Opening.{object_site};
 ghost use Rattle.internetwork.specs.Refusals.{IsRefused, Runs};
 ghost use Rattle.internetwork.specs.Step.{IsSoundEvent, IsSoundIfAny, Steps};
-ghost use Rattle.hosts.specs.Stations.{devices_of};
+ghost use Rattle.internetwork.specs.hosts.Stations.{devices_of};
 ghost use Rattle.internetwork.specs.World.{fresh_world, plain};
 
-use chronicle::{SaidMessage, WorldEntry};
-use internetwork::{Event, Flow, Internetwork};
+use crate::flow::{Flow, next_of};
+use buses::Buses;
+use internetwork::{Event, Internetwork, SaidMessage, WorldEntry};
 use objects::Table;
 use site::Site;
 use std::alloc::Allocator;
@@ -46,17 +47,15 @@ impl<A: Allocator + Copy> World<A> {
     ghost use Rattle.simulator.specs.Laws.{IsLed};
 
     /// The world of a site as it opens: the moment is 0, each device has the objects that the site gives it, no client
-    /// has asked anything, no router and no manager has heard anything, and nothing is on its way. So far it runs sites
-    /// without a station on a bus: any number of networks of BACnet/IP, with routers, broadcast managers and foreign
-    /// stations (6.6, J).
+    /// has asked anything, no router and no manager has heard anything, no node has heard a token, and nothing is on its
+    /// way (6.6, 9.5.6, J).
     ///
     /// # Errors
-    /// `BadSite` for any other site; or `Memory`.
+    /// `Memory` alone.
     #[tactic(auto, using(crate::proofs::FreshLaws::fresh_rules))]
     pub fn new(alloc: A, site: Site<A>) -> Result<Self, Fault>
         ensures fresh { IfOk result (λ world. world ≡ fresh_world site) }
-        ensures on_ip { OnOk result (IsOnIp site) }
-        ensures cause { IfErr result (λ fault. (fault ≡ Fault.Memory) ⊎ ((fault ≡ Fault.BadSite) × HasBus site)) }
+        ensures cause { IfErr result (λ fault. fault ≡ Fault.Memory) }
     {
         let internetwork = Internetwork::new(alloc, site)?;
         Ok(World { internetwork })
@@ -83,6 +82,14 @@ impl<A: Allocator + Copy> World<A> {
         ensures carried { AreCarried self.now.said (plain self.now).things }
     {
         self.internetwork.items()
+    }
+
+    /// The buses, in the order of the site: what may still be heard on each, and how many frames were put out on all of
+    /// them (9.3).
+    pub fn buses(&self) -> &Buses<A>
+        ensures { buses_of result.now ≡ self.now.buses }
+    {
+        self.internetwork.buses()
     }
 
     /// What was issued, executed, answered and ended, in order. It is legal: each answer is the reply of one execution
@@ -141,7 +148,7 @@ impl<A: Allocator + Copy> World<A> {
         ensures cause { IfErr result (λ fault. fault ≡ Fault.Memory) }
         ensures unchanged { OnErr result (flow.new ≡ flow.old) }
     {
-        self.internetwork.next_of(flow)
+        next_of(&self.internetwork, flow)
     }
 
     /// Events happen, one after another: none is left out but those that are refused, and these change nothing.
@@ -159,12 +166,29 @@ impl<A: Allocator + Copy> World<A> {
         self.promised();
     }
 
+    /// An equal world, in the same memory.
+    ///
+    /// # Errors
+    /// `Memory` alone.
+    pub fn copy(&self) -> Result<Self, Fault>
+        ensures copy { IfOk result (λ copy. copy ≡ self.now) }
+        ensures cause { IfErr result (λ fault. fault ≡ Fault.Memory) }
+    {
+        let internetwork = self.internetwork.copy()?;
+        Ok(World { internetwork })
+    }
+
     /// The same without the promise, for whoever lets happen what no event does.
     pub fn into_internetwork(self) -> Internetwork<A>
         ensures same { result ≡ self }
         ensures led { IsLed result }
     {
         self.internetwork
+    }
+
+    /// Lets go of a world. Whoever calls it, and drops none, need not prove anew how all its parts are let go.
+    pub fn close(self) {
+        self.internetwork.close()
     }
 
     /// What the promise says of every world, for the proofs of others: it does nothing.

@@ -1,6 +1,6 @@
 -- Where each foreign device is registered, tables are full.
-use Rattle.std.proofs.Common.{◌≡◌, ◌⊎◌, ⊎_elim, inl, inr, refl, sym, ap, subst, arith, ℕ, ◌≤◌, ◌==◌, ◌+◌, cond, Bool, true, false, true≢false, List, [], ◌∷◌, map, Option, Some, None}
-use Rattle.std.specs.Prelude.{◌&&◌, ◌||◌, filter, if◌then◌else◌}
+use Rattle.std.proofs.Common.{◌≡◌, ◌⊎◌, ⊎_elim, inl, inr, refl, sym, ap, subst, arith, ℕ, ◌≤◌, ◌==◌, cond, Bool, true, false, true≢false, List, [], ◌∷◌, map, Option, Some, None}
+use Rattle.std.specs.Prelude.{◌&&◌, ◌||◌, if◌then◌else◌}
 use Rattle.std.specs.List.{AllByRecursion}
 use Rattle.bbmd.proofs.Reached.{reaches}
 use Rattle.bbmd.proofs.Times.{among_times, same_is, times_among}
@@ -11,7 +11,7 @@ use Rattle.bvll.specs.Address.{address_octets}
 use Rattle.bvll.specs.declared.address.Address.{Address}
 use Rattle.history.specs.Lists.{Has}
 use Rattle.internetwork.specs.World.{WorldState}
-use Rattle.relays.specs.Laws.{IpRelay}
+use Rattle.relays.specs.Laws.{SiteRelay}
 use Rattle.relays.specs.declared.relay.Relay.TheVariants.{Router, Manager}
 use Rattle.site.specs.Sound.{IsSound}
 use Rattle.site_parts.specs.declared.parts.Parts.{Parts}
@@ -35,7 +35,7 @@ has_of_first (x ∷ xs) a e = record { place = 0; at_place = e }
 
 module _ {A : Type 0} (p : Parts A) (sound : IsSound p) (net subnet : ℕ) (own : Address)
     (manages : Has (managers_on (subnet_of net subnet) p.stations) own) where
-  table_is_just : (rs : List (IpRelay A)) → AllByRecursion (HasItsTableIfAny p.stations) rs →
+  table_is_just : (rs : List (SiteRelay A)) → AllByRecursion (HasItsTableIfAny p.stations) rs →
       IsJust p net subnet (table_at net own rs)
   table_is_just [] all = nobody p net subnet
   table_is_just (Router s ∷ rs) all = table_is_just rs all.1

@@ -1,35 +1,32 @@
 -- What a manager puts out is no registration, and whom it knows then.
-use Rattle.std.proofs.Common.{◌≡◌, ◌∙◌, ◌⊎◌, ⊎_elim, inl, inr, refl, sym, ap, subst, arith, ℕ, ◌≤◌, ◌==◌, ◌+◌, cond, Bool, true, false, true≢false, List, [], ◌∷◌, ◌++◌, map, Option, Some, None}
+use Rattle.std.proofs.Common.{◌≡◌, ◌∙◌, refl, sym, ap, subst, arith, ℕ, ◌≤◌, ◌==◌, ◌+◌, cond, Bool, true, false, List, [], ◌∷◌, ◌++◌, map, Option, Some, None}
 use Rattle.std.specs.Prelude.{◌&&◌, filter, not}
 use Rattle.std.specs.List.{AllByRecursion}
-use Rattle.bbmd.proofs.Times.{itself_is, same_is, times-append}
+use Rattle.bbmd.proofs.Times.{same_is, times-append}
 use Rattle.bbmd.specs.Reach.{times}
 use Rattle.bbmd_manager.specs.Manager.{Saying, distributed, foreign_left, from_one, has_place, IsFound, left_of, said, said_of}
-use Rattle.bbmd_manager.specs.State.{ManagerState, woken}
+use Rattle.bbmd_manager.specs.State.{ManagerState}
 use Rattle.bbmd_tables.specs.Tables.{is_among, lives, living, registered, same_address, without}
 use Rattle.bbmd_tables.specs.declared.registration.Registration.{Registration}
-use Rattle.bvll.specs.Address.{address_at, address_octets}
-use Rattle.bvll.specs.Datagram.{Datagram, Spells, canonical, function, register}
+use Rattle.bvll.specs.Address.{address_at}
+use Rattle.bvll.specs.Datagram.{Datagram, Spells, function, register}
 use Rattle.bvll.specs.Datagram as bvll
 use Rattle.bvll.specs.Function.{number_of}
 use Rattle.bvll.specs.declared.address.Address.{Address}
-use Rattle.carry.specs.Datagrams.{mac_at}
-use Rattle.carry_stations.proofs.Addresses.{address_again}
+use Rattle.headline_client.proofs.Places.{all_join}
 use Rattle.history.proofs.HasLaws.{map_has}
 use Rattle.history.proofs.Lists.{none_has}
 use Rattle.history.specs.Lists.{Has}
 use Rattle.link_ports.specs.declared.ports.PortSent.{PortSent}
 use Rattle.npdu.specs.declared.mac.Mac.{Mac}
 use Rattle.npdu.specs.declared.mac.Mac.TheVariants.{One, Six}
-use Rattle.site.specs.Sound.{IsSound}
 use Rattle.site_manager.specs.Stamping.{put_out, sent_to}
-use Rattle.site_manager.specs.Station.{HearsFrom, ManagerHears, ManagerStationState, ManagerWakes}
-use Rattle.site_parts.specs.declared.parts.Parts.{Parts}
+use Rattle.site_manager.specs.Station.{ManagerHears, ManagerStationState, ManagerWakes}
 use Rattle.site_parts.specs.declared.parts.Station.{Station}
 use Rattle.site_reach.proofs.Quiet.{IsQuiet, quiet_datagram}
-use Rattle.site_reach.proofs.Site.{one_subnet, some_same}
-use Rattle.site_reach.specs.Tables.{HasItsTable, IsForeignOf}
-use Rattle.site_views.specs.Laws.{foreigns_on, managers_on, subnet_of}
+use Rattle.site_reach.proofs.Site.{some_same}
+use Rattle.site_reach.specs.Tables.{HasItsTable}
+use Rattle.site_views.specs.Laws.{foreigns_on, subnet_of}
 
 -- what a manager says is no registration
 abbrev IsOther : Saying → Type 0
@@ -117,11 +114,6 @@ without_none now a (r ∷ rs) = by (lives now r) (same_address r.device a) refl 
         ap (λ (c : Bool). cond c 1 0 + times a (map (λ r. r.device) (without now a rs))) e in omega (arith, p, rest)
     by false c e rest = rest
 
-both_all : (P : Registration → Type 0) (rs ts : List Registration) → AllByRecursion P rs → AllByRecursion P ts →
-    AllByRecursion P (rs ++ ts)
-both_all P [] ts a b = b
-both_all P (r ∷ rs) ts a b = (a.0, both_all P rs ts a.1 b)
-
 map_both : (rs ts : List Registration) → map (λ r. r.device) (rs ++ ts) ≡ map (λ r. r.device) rs ++ map (λ r. r.device) ts
 map_both [] ts = refl
 map_both (r ∷ rs) ts = ap (λ (xs : List Address). r.device ∷ xs) (map_both rs ts)
@@ -143,7 +135,7 @@ one_more : (P : Registration → Type 0) (now seconds : ℕ) (from : Address) (r
     AreFew P (without now from rs ++ record { device = from; seconds_to_live = seconds; at = now } ∷ [])
 one_more P now seconds from rs few good =
     let kept = filtered P (λ r. lives now r && not (same_address r.device from)) rs few in record {
-      each = both_all P (without now from rs) (record { device = from; seconds_to_live = seconds; at = now } ∷ [])
+      each = all_join P (without now from rs) (record { device = from; seconds_to_live = seconds; at = now } ∷ [])
           kept.each (good, tt);
       once = λ a.
           let sum : times a (map (λ r. r.device) (without now from rs ++ record { device = from; seconds_to_live = seconds; at = now } ∷ []))

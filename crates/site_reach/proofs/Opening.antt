@@ -1,22 +1,19 @@
 -- A site opens with managers that have their tables.
-use Rattle.std.proofs.Common.{◌≡◌, ◌∙◌, inl, inr, refl, sym, ap, subst, arith, ℕ, ◌≤◌, true, List, [], ◌∷◌, ◌++◌, Option, Some, None}
+use Rattle.std.proofs.Common.{◌≡◌, ◌∙◌, inl, inr, refl, sym, ap, subst, arith, List, [], ◌∷◌, Option, Some, None}
 use Rattle.std.specs.Prelude.{option_map, option_to_list}
 use Rattle.std.specs.List.{AllByRecursion, flat_map}
 use Rattle.bvll.specs.Address.{IsAddress}
-use Rattle.client.specs.Client.{new_client}
 use Rattle.device.specs.Device.{new_device}
-use Rattle.headline_client.proofs.Places.{all_has}
+use Rattle.headline_client.proofs.Places.{all_has, all_join}
 use Rattle.history.proofs.Lists.{has_next}
 use Rattle.history.specs.Lists.{Has}
-use Rattle.hosts.specs.Opening.{foreign_port, host_at, manager_at, opening_relays, opening_stations, opens, place_port, port_at, relay_opens}
+use Rattle.hosts.specs.Opening.{client_at, foreign_port, host_at, manager_at, opens, place_port, port_at, relay_opens}
 use Rattle.hosts.specs.Stations.{WorldStation}
-use Rattle.internetwork.specs.Refusals.{Comes, IsRefusedSo, Runs}
+use Rattle.internetwork.specs.Refusals.{Comes, Runs}
 use Rattle.internetwork.specs.World.{WorldState, fresh_world}
 use Rattle.internetwork.specs.declared.event.Event.{Event}
-use Rattle.link_ip.specs.Port.{IpPortState}
+use Rattle.link_site.specs.declared.port.SitePort.{SitePort}
 use Rattle.npdu.specs.declared.mac.Station as npdu
-use Rattle.profile.specs.declared.link_kind.LinkKind.TheVariants.{BacnetIp}
-use Rattle.relays.specs.Laws.{IpRelay}
 use Rattle.site.specs.Sound.{IsSound}
 use Rattle.site_parts.specs.Roles.{beyond}
 use Rattle.site_parts.specs.declared.parts.Parts.{Parts}
@@ -33,20 +30,14 @@ use Rattle.site_reach.proofs.Stays.{tables_stay}
 use Rattle.site_reach.specs.Laws.{TablesStand}
 use Rattle.site_reach.specs.Tables.{HasAddress, HasItsTableIfAny, HasItsTables, HaveAddresses, IsPlaced}
 use Rattle.site_station.specs.declared.entity.Entity.{Entity}
-use Rattle.site_station.specs.declared.entity.Entity.TheVariants.{Device, Client}
+use Rattle.site_station.specs.declared.entity.Entity.TheVariants.{Device}
 use Rattle.site_views.specs.Views.{host, managed_at}
-use Rattle.unitdata.specs.Sizes.{longest_apdu}
-
-all_both : {X : Type 0} (P : X → Type 0) (xs ys : List X) → AllByRecursion P xs → AllByRecursion P ys →
-    AllByRecursion P (xs ++ ys)
-all_both P [] ys a b = b
-all_both P (x ∷ xs) ys a b = (a.0, all_both P xs ys a.1 b)
 
 -- what comes of each of these
 all_flat : {X Y : Type 0} (P : Y → Type 0) (f : X → List Y) (xs : List X) → ((x : X) → Has xs x → AllByRecursion P (f x)) →
     AllByRecursion P (flat_map f xs)
 all_flat P f [] each = tt
-all_flat P f (x ∷ xs) each = all_both P (f x) (flat_map f xs) (each x (record { place = 0; at_place = refl }))
+all_flat P f (x ∷ xs) each = all_join P (f x) (flat_map f xs) (each x (record { place = 0; at_place = refl }))
     (all_flat P f xs (λ y h. each y (has_next x xs h)))
 
 module _ {A : Type 0} (ss : List (Station A)) where
@@ -71,14 +62,11 @@ module _ {A : Type 0} (ss : List (Station A)) where
   relay_of s (role.Device p o) there e = tt
   relay_of s (role.Client p segmented) there e = tt
 
-  abbrev IsPlacedPort : IpPortState A → Type 0
-  IsPlacedPort l = IsPlaced ss l.net l.address l.reach
-
-  abbrev IsPlacedIf : Option (IpPortState A) → Type 0
+  abbrev IsPlacedIf : Option (SitePort A) → Type 0
   IsPlacedIf None = Unit {0}
-  IsPlacedIf (Some l) = IsPlacedPort l
+  IsPlacedIf (Some l) = IsPlaced ss l
 
-  link_placed : (l : Link) → IsPlacedIf (port_at ss l)
+  link_placed : (l : Link) → IsPlaced ss (port_at ss l)
   link_placed (link.Ip net subnet own) = tt
   link_placed (link.Bus net mac) = tt
 
@@ -100,19 +88,20 @@ module _ {A : Type 0} (ss : List (Station A)) where
   place_placed s (place.Beyond f) there sound is = foreign_placed s f (host f.manager ss) there (is f refl)
       (subst (λ (o : Option (Foreign A)). HasAddress o) (is f refl) sound) refl
 
-  opened : (entity : npdu.Station → Entity A) (port : Option (IpPortState A)) → IsPlacedIf port →
-      AllByRecursion (λ (s : WorldStation A). AllByRecursion IsPlacedPort s.ports) (option_to_list (option_map (host_at entity) port))
+  opened : (entity : npdu.Station → Entity A) (port : Option (SitePort A)) → IsPlacedIf port →
+      AllByRecursion (λ (s : WorldStation A). AllByRecursion (IsPlaced ss) s.ports)
+      (option_to_list (option_map (host_at entity) port))
   opened entity None placed = tt
   opened entity (Some l) placed = ((placed, tt), tt)
 
   host_of : (s : Station A) (r : Role A) → Has ss s → HasAddress (beyond s.role) → s.role ≡ r →
-      AllByRecursion (λ (t : WorldStation A). AllByRecursion IsPlacedPort t.ports) (opens ss r)
+      AllByRecursion (λ (t : WorldStation A). AllByRecursion (IsPlaced ss) t.ports) (opens ss r)
   host_of s (role.Manager l) there sound e = tt
   host_of s (role.Router ls) there sound e = tt
   host_of s (role.Device p o) there sound e = opened (λ x. Device (new_device o x)) (place_port ss p) (place_placed s p there sound
       (λ f q. ap (λ (r : Role A). beyond r) e ∙ ap (λ (x : Place A). beyond (role.Device x o)) q))
   host_of s (role.Client p segmented) there sound e =
-      opened (λ x. Client (new_client x segmented (longest_apdu BacnetIp))) (place_port ss p) (place_placed s p there sound
+      opened (client_at p segmented) (place_port ss p) (place_placed s p there sound
       (λ f q. ap (λ (r : Role A). beyond r) e ∙ ap (λ (x : Place A). beyond (role.Client x segmented)) q))
 
 fresh_has : {A : Type 0} (p : Parts A) → IsSound p → HaveAddresses p.stations → HasItsTables (fresh_world p)
@@ -120,8 +109,8 @@ fresh_has {A} p sound addresses = record {
   sound = sound;
   relays = all_flat (HasItsTableIfAny p.stations) (λ (s : Station A). relay_opens p.stations s.role) p.stations
       (λ s h. relay_of p.stations s s.role h refl);
-  ports = all_flat (λ (t : WorldStation A). AllByRecursion (λ (l : IpPortState A).
-      IsPlaced p.stations l.net l.address l.reach) t.ports) (λ (s : Station A). opens p.stations s.role) p.stations
+  ports = all_flat (λ (t : WorldStation A). AllByRecursion (IsPlaced p.stations) t.ports)
+      (λ (s : Station A). opens p.stations s.role) p.stations
       (λ s h. host_of p.stations s s.role h
       (all_has (λ (t : Station A). HasAddress (beyond t.role)) p.stations s addresses h) refl);
   items = tt;

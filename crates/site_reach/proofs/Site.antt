@@ -1,8 +1,8 @@
 -- What a sound site says of its managers and foreign devices.
-use Rattle.std.proofs.Common.{◌≡◌, ◌∙◌, ◌⊎◌, ⊎_elim, inl, inr, refl, sym, ap, subst, arith, ℕ, ◌≤◌, ◌==◌, ◌+◌, cond, Bool, true, false, true≢false, List, [], ◌∷◌, ◌++◌, map, Option, Some, None}
-use Rattle.std.specs.Prelude.{◌&&◌, ◌||◌, if◌then◌else◌, option_to_list, bytes_eq}
+use Rattle.std.proofs.Common.{◌≡◌, ◌∙◌, ⊎_elim, inl, refl, sym, ap, subst, arith, ℕ, ◌≤◌, ◌==◌, ◌+◌, cond, Bool, true, false, true≢false, List, [], ◌∷◌, ◌++◌, map, Option, Some, None}
+use Rattle.std.specs.Prelude.{◌&&◌, ◌||◌, if◌then◌else◌, bytes_eq}
 use Rattle.std.specs.List.{AllByRecursion, flat_map}
-use Rattle.bbmd.proofs.Times.{among_times, same_is, itself_is, times_among}
+use Rattle.bbmd.proofs.Times.{same_is, itself_is}
 use Rattle.bbmd.specs.Reach.{times}
 use Rattle.bbmd_tables.specs.Tables.{is_among, same_address}
 use Rattle.bvll.specs.Address.{address_octets}
@@ -12,7 +12,7 @@ use Rattle.history.proofs.HasLaws.{flat_has}
 use Rattle.history.proofs.Lists.{has_back, has_cons, has_front, has_next, none_has}
 use Rattle.history.specs.Lists.{Has}
 use Rattle.site.specs.Apart.{AreApart, IsOther}
-use Rattle.site.specs.Marks.{mark_of, marks_in, marks_of}
+use Rattle.site.specs.Marks.{marks_in, marks_of}
 use Rattle.site.specs.Sound.{IsSound}
 use Rattle.site.specs.declared.managers.SubnetId.{SubnetId}
 use Rattle.site.specs.declared.marks.Mark.{Mark}
@@ -23,13 +23,12 @@ use Rattle.site_parts.specs.declared.parts.Station.{Station}
 use Rattle.site_parts.specs.declared.place.Foreign.{Foreign}
 use Rattle.site_parts.specs.declared.place.Link.{Link}
 use Rattle.site_parts.specs.declared.place.Link.TheVariants as link
-use Rattle.site_parts.specs.declared.place.Place.{Place}
 use Rattle.site_parts.specs.declared.place.Place.TheVariants as place
 use Rattle.site_parts.specs.declared.role.Role.{Role}
 use Rattle.site_parts.specs.declared.role.Role.TheVariants as role
 use Rattle.site_views.proofs.ApartLaws.{within}
 use Rattle.site_views.proofs.PartLaws.{IsPart, map_flat, part_flat, part_skip}
-use Rattle.site_views.specs.Laws.{first, foreign_if, foreign_on, foreigns_on, manager_of, managers_on, subnet_of}
+use Rattle.site_views.specs.Laws.{foreign_if, foreign_on, foreigns_on, manager_of, managers_on, subnet_of}
 use Rattle.site_views.specs.Views.{host, managed_at, member_at, on_subnet}
 
 pub some_same : {X : Type 0} (x y : X) → Some x ≡ Some y → x ≡ y

@@ -11,10 +11,11 @@ use Rattle.bvll.specs.declared.address.Address.{Address}
 use Rattle.carry.specs.Datagrams.{mac_at}
 use Rattle.history.specs.Lists.{Has}
 use Rattle.internetwork.specs.World.{WorldState}
-use Rattle.link_ip.specs.Port.{IpPortState}
 use Rattle.link_ip.specs.declared.port.Reach.{Reach}
 use Rattle.link_ip.specs.declared.port.Reach.TheVariants as reach
-use Rattle.relays.specs.Laws.{IpRelay}
+use Rattle.link_site.specs.declared.port.SitePort.{SitePort}
+use Rattle.link_site.specs.declared.port.SitePort.TheVariants.{Ip, Bus}
+use Rattle.relays.specs.Laws.{SiteRelay}
 use Rattle.relays.specs.declared.relay.Relay.TheVariants.{Router, Manager}
 use Rattle.site.specs.Sound.{IsSound}
 use Rattle.site_manager.specs.Station.{ManagerStationState}
@@ -26,13 +27,13 @@ use Rattle.site_views.specs.Views.{managers, members}
 use Rattle.traffic.specs.declared.item.Item.{Item}
 
 -- the foreign device table of the manager at an address of a network, as it stands
-abbrev pub table_at : {A : Type 0} → (net : ℕ) → Address → List (IpRelay A) → List Registration
+abbrev pub table_at : {A : Type 0} → (net : ℕ) → Address → List (SiteRelay A) → List Registration
 table_at net own [] = []
 table_at net own (Router s ∷ rs) = table_at net own rs
 table_at net own (Manager s ∷ rs) =
     if (s.net == net) && same_address s.manager.tables.own own then s.manager.tables.foreign else table_at net own rs
 
-abbrev pub table_of : {A : Type 0} → (net : ℕ) → Option Address → List (IpRelay A) → List Registration
+abbrev pub table_of : {A : Type 0} → (net : ℕ) → Option Address → List (SiteRelay A) → List Registration
 table_of net None rs = []
 table_of net (Some own) rs = table_at net own rs
 
@@ -69,14 +70,19 @@ pub record HasItsTable {A : Type 0} (ss : List (Station A)) (s : ManagerStationS
   pub once : (a : Address) → times a (map (λ r. r.device) s.manager.tables.foreign) ≤ 1
 
 -- .. where a relay is one
-abbrev pub HasItsTableIfAny : {A : Type 0} → List (Station A) → IpRelay A → Type 0
+abbrev pub HasItsTableIfAny : {A : Type 0} → List (Station A) → SiteRelay A → Type 0
 HasItsTableIfAny ss (Router s) = Unit {0}
 HasItsTableIfAny ss (Manager s) = HasItsTable ss s
 
--- a port of a foreign device is that of one of the site
-abbrev pub IsPlaced : {A : Type 0} → List (Station A) → (net : ℕ) → Address → Reach A → Type 0
-IsPlaced ss net own (reach.Members others) = Unit {0}
-IsPlaced ss net own (reach.Foreign manager seconds) = IsForeignOf ss net own manager
+-- a station reaches its network as a foreign device of the site does, or as a member (J.4.5, J.5)
+abbrev pub IsPlacedBy : {A : Type 0} → List (Station A) → (net : ℕ) → Address → Reach A → Type 0
+IsPlacedBy ss net own (reach.Members others) = Unit {0}
+IsPlacedBy ss net own (reach.Foreign manager seconds) = IsForeignOf ss net own manager
+
+-- a port of a foreign device is that of one of the site: on a bus is none (J.5.2)
+abbrev pub IsPlaced : {A : Type 0} → List (Station A) → SitePort A → Type 0
+IsPlaced ss (Ip l) = IsPlacedBy ss l.net l.address l.reach
+IsPlaced ss (Bus l) = Unit {0}
 
 -- an item goes from a foreign device to its manager
 pub record IsToItsManager {A : Type 0} (ss : List (Station A)) (i : Item A) : Type 0 where
@@ -94,8 +100,7 @@ pub record IsRightful {A : Type 0} (ss : List (Station A)) (i : Item A) : Type 0
 pub record HasItsTables {A : Type 0} (w : WorldState A) : Type 0 where
   pub sound : IsSound w.site
   pub relays : AllByRecursion (HasItsTableIfAny w.site.stations) w.relays
-  pub ports : AllByRecursion (λ s. AllByRecursion (λ (l : IpPortState A).
-      IsPlaced w.site.stations l.net l.address l.reach) s.ports) w.stations
+  pub ports : AllByRecursion (λ s. AllByRecursion (IsPlaced w.site.stations) s.ports) w.stations
   pub items : AllByRecursion (IsRightful w.site.stations) w.items
 
 -- the address of a foreign device has four octets and a port, as each that is read has (J.1.2)

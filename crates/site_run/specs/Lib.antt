@@ -1,5 +1,2 @@
-pub mod Counting
-pub mod Naming
-pub mod Printed
 pub mod Running
 pub mod Simulate

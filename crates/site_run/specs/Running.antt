@@ -1,44 +1,46 @@
 -- What is printed of the steps of a script, one after another.
-use Rattle.std.specs.Prelude.{◌≡◌, ◌⊎◌, ◌<◌, ◌≤◌, ◌+◌, ℕ, List, [], ◌∷◌, Option, None, Some, Result, Ok, Err, drop, length}
+use Rattle.std.specs.Prelude.{◌≡◌, ◌⊎◌, ◌<◌, ◌≤◌, ◌+◌, ℕ, List, [], ◌∷◌, ◌++◌, Option, None, Some, Result, Ok, Err, drop, length}
 use Rattle.std.specs.Io.KnownBytes.{Appends}
 use Rattle.std.specs.List.{AllByRecursion}
 use Rattle.script.specs.declared.step.Step.{Step}
 use Rattle.script.specs.declared.step.Step.TheVariants as step
-use Rattle.internetwork.specs.Flows.{left_of}
-use Rattle.internetwork.specs.Refusals.{IsRefused}
-use Rattle.internetwork.specs.Step.{IsSoundEvent, Steps}
-use Rattle.internetwork.specs.World.{WorldState}
-use Rattle.internetwork.specs.declared.event.Event.{Event}
-use Rattle.internetwork.specs.declared.event.Event.TheVariants as event
-use Rattle.internetwork.specs.declared.flow.Flow.{Flow}
-use Rattle.site_parts.specs.declared.parts.Station.{Station}
-use Rattle.traffic.specs.declared.item.Item.{Item}
-use Rattle.site_run.specs.Printed.{entries_text, items_text, line, refused_text}
+use Rattle.simulator.specs.Flows.{left_of}
+use Rattle.simulator.specs.internetwork.Refusals.{IsRefused}
+use Rattle.simulator.specs.internetwork.Step.{IsSoundEvent, Steps}
+use Rattle.simulator.specs.internetwork.World.{WorldState}
+use Rattle.simulator.specs.internetwork.declared.event.Event.{Event}
+use Rattle.simulator.specs.internetwork.declared.event.Event.TheVariants as event
+use Rattle.simulator.specs.declared.flow.Flow.{Flow}
+pub use Rattle.site_history.specs.Printed.{Known}
+use Rattle.site_history.specs.Printed.{entries_text, line, refused_text}
 use Rattle.site_run.specs.declared.running.Telling.{Telling}
 use Rattle.site_run.specs.declared.running.Telling.TheVariants as telling
+use Rattle.site_trace.specs.Lines.{frames_text, items_text}
 use Rattle.tags.specs.declared.fault.Fault.{Fault}
 use Rattle.tags.specs.declared.fault.Fault.TheVariants.{Memory, NoSuch}
 
--- what a writer holds, as far as its type tells
-abbrev pub Known : Type 0
-Known = Option (List ℕ)
+-- what was put out behind so many items and frames
+abbrev pub trace_text : {A : Type 0} → (items frames : ℕ) → WorldState A → List ℕ
+trace_text items frames v =
+    items_text v.site.stations items (drop items v.items) v.moment
+    ++ frames_text v.site.stations frames v.buses.buses v.moment
 
--- items that were put out, the first of which has this number, where they are told
-abbrev pub items_told : {A : Type 0} → Telling → List (Station A) → ℕ → List (Item A) → ℕ → List ℕ
-items_told telling.Entries stations number items moment = []
-items_told telling.ItemsAndEntries stations number items moment = items_text stations number items moment
+-- .. where it is told
+abbrev pub told : {A : Type 0} → Telling → (items frames : ℕ) → WorldState A → List ℕ
+told telling.Entries items frames v = []
+told telling.All items frames v = trace_text items frames v
 
--- all behind so many items and entries is printed
-pub record PrintsGrowth {A : Type 0} (t : Telling) (items entries : ℕ) (v : WorldState A) (old new : Known) :
+-- all behind so many items, frames and entries is printed
+pub record PrintsGrowth {A : Type 0} (t : Telling) (items frames entries : ℕ) (v : WorldState A) (old new : Known) :
     Type 0 where
   pub at_entries : Known
-  pub items_printed : Appends old at_entries (items_told t v.site.stations items (drop items v.items) v.moment)
+  pub trace_printed : Appends old at_entries (told t items frames v)
   pub entries_printed : Appends at_entries new (entries_text v.site.stations (drop entries v.history))
 
 -- an event was made, and all that came of it is printed
 pub record PrintsMade {A : Type 0} (t : Telling) (e : Event A) (w v : WorldState A) (old new : Known) : Type 0 where
   pub made : Steps e w v
-  pub growth : PrintsGrowth t (length w.items) (length w.history) v old new
+  pub growth : PrintsGrowth t (length w.items) w.buses.frames (length w.history) v old new
 
 -- it was refused and changed nothing, and that is printed
 pub record PrintsRefused {A : Type 0} (e : Event A) (w v : WorldState A) (old new : Known) : Type 0 where

@@ -2,18 +2,18 @@
 use Rattle.std.specs.Prelude.{◌≡◌, ℕ, List}
 use Rattle.std.specs.Io.KnownBytes.{Appends}
 use Rattle.std.specs.List.{AllByRecursion}
-use Rattle.carry_world.specs.Laws.{IsLegal}
+use Rattle.simulator.specs.carry_world.Laws.{IsLegal}
 use Rattle.script.specs.Lines.{SaysSteps}
 use Rattle.script.specs.Steps.{IsSoundStep}
 use Rattle.script.specs.declared.step.Step.{Step}
-use Rattle.hosts.specs.Opening.{object_site}
-use Rattle.hosts.specs.Stations.{devices_of}
-use Rattle.internetwork.specs.World.{WorldState, fresh_world}
+use Rattle.simulator.specs.hosts.Opening.{object_site}
+use Rattle.simulator.specs.hosts.Stations.{devices_of}
+use Rattle.simulator.specs.internetwork.World.{WorldState, fresh_world}
 use Rattle.site.specs.Sound.{IsSound}
 use Rattle.site_parts.specs.declared.parts.Parts.{Parts}
 use Rattle.site_text.specs.Document.{IsDocument}
-use Rattle.site_run.specs.Counting.{counts_of}
-use Rattle.site_run.specs.Printed.{end_text, line}
+use Rattle.site_history.specs.Counting.{counts_of}
+use Rattle.site_history.specs.Printed.{end_text, line}
 use Rattle.site_run.specs.Running.{Known, PrintsSteps}
 use Rattle.site_run.specs.declared.running.Telling.{Telling}
 

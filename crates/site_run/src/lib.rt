@@ -6,16 +6,10 @@
 //! of that site, each refusal at its place; and the history that it tells is legal: no issue is executed twice, and each
 //! answer is the reply of its one execution.
 //!
-//! - `naming`: the names of stations.
-//! - `printed`: the lines that are printed.
-//! - `counting`: what the last line counts.
 //! - `running`: the steps of a script, one after another.
 //! - `simulating`: the two texts, and the exit status.
 #![tactic(auto)]
 
-mod counting;
-mod naming;
-mod printed;
 mod running;
 mod simulating;
 

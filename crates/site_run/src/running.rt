@@ -1,32 +1,29 @@
 //! The steps of a script in a world, one after another, and what is printed of each.
 
-ghost use Rattle.std.specs.Prelude.{◌≡◌, ◌<◌, ◌+◌, ◌^◌, OnOk, drop, length};
+ghost use Rattle.std.specs.Prelude.{◌≡◌, OnOk, drop};
 ghost use Rattle.std.specs.Io.KnownBytes.{Appends};
 ghost use Rattle.std.specs.List.{AllByRecursion};
 ghost use Rattle.script.specs.Steps.{IsSoundStep};
 ghost use Rattle.script.specs.declared.step.Step.TheVariants as step;
-ghost use Rattle.internetwork.specs.Step.{IsSoundEvent};
-ghost use Rattle.site_run.specs.Printed.{entries_text, entry_text, item_text, items_text, line, refused_text};
-ghost use Rattle.site_run.specs.Running.{PrintsAll, PrintsEvent, PrintsGrowth, PrintsStep, PrintsSteps, items_told};
+ghost use Rattle.simulator.specs.internetwork.Step.{IsSoundEvent};
+ghost use Rattle.site_run.specs.Running.{PrintsAll, PrintsEvent, PrintsGrowth, PrintsStep, PrintsSteps, told, trace_text};
 
-use crate::printed::{EntryLine, ItemLine, RefusedLine};
-use chronicle::WorldEntry;
 use script::Step;
 use simulator::{Event, Flow, World};
-use site_parts::Station;
+use site_history::{print_entries, print_refusal};
+use site_trace::{print_frames, print_items};
 use std::alloc::Allocator;
 use std::io;
 use std::io::Write;
 use tags::{Fault, Items};
-use traffic::Item;
 
 /// What is told of an event.
 #[derive(Clone, Copy, Debug, PartialEq, Eq)]
 pub enum Telling {
     /// The entries of the history.
     Entries,
-    /// Before them each item that was put out.
-    ItemsAndEntries,
+    /// Before them each item and each frame that was put out.
+    All,
 }
 
 /// Takes the steps in their order, and prints what comes of each.
@@ -150,41 +147,33 @@ fn make<A: Allocator + Copy, W: Write>(
         (PrintsEvent telling event.now world.old world.new (W.contents out.old) (W.contents out.new)) }
 {
     let items = world.items().len();
+    let frames = world.buses().frames;
     let entries = world.history().len();
     match world.step(event) {
-        Ok(()) => print_growth(world, items, entries, telling, out),
+        Ok(()) => print_growth(world, items, frames, entries, telling, out),
         Err(fault) => print_refusal(fault, world.moment(), out),
     }
 }
 
-/// Prints that an event was refused.
-fn print_refusal<W: Write>(fault: Fault, moment: u64, out: &mut W) -> io::Result<()>
-    ensures { OnOk result (Appends (W.contents out.old) (W.contents out.new) (line (refused_text fault moment))) }
-{
-    writeln!(out, "{}", RefusedLine { fault, moment })
-}
-
-/// Prints what a world grew by behind so many items and entries.
+/// Prints what a world grew by behind so many items, frames and entries.
 #[tactic(auto, using(crate::proofs::RunLaws::run_rules))]
 fn print_growth<A: Allocator + Copy, W: Write>(
     world: &World<A>,
     items: usize,
+    frames: u64,
     entries: usize,
     telling: Telling,
     out: &mut W,
 ) -> io::Result<()>
-    ensures { OnOk result (PrintsGrowth telling items entries world.now (W.contents out.old) (W.contents out.new)) }
+    ensures { OnOk result
+        (PrintsGrowth telling items frames entries world.now (W.contents out.old) (W.contents out.new)) }
 {
-    let stations = world.site().stations();
-    print_told(
-        stations,
-        items,
-        behind(world.items(), items),
-        world.moment(),
-        telling,
+    print_told(world, items, frames, telling, out)?;
+    print_entries(
+        world.site().stations(),
+        behind(world.history(), entries),
         out,
-    )?;
-    print_entries(stations, behind(world.history(), entries), out)
+    )
 }
 
 /// What stands behind so many of a list.
@@ -197,92 +186,40 @@ fn behind<T>(all: &[T], count: usize) -> &[T]
     }
 }
 
-/// Prints items, where they are told.
-#[tactic(auto, using(crate::proofs::RunLaws::run_rules))]
-fn print_told<A: Allocator, W: Write>(
-    stations: &[Station<A>],
-    number: usize,
-    items: &[Item<A>],
-    moment: u64,
+/// Prints what was put out behind so many items and frames, where that is told.
+fn print_told<A: Allocator + Copy, W: Write>(
+    world: &World<A>,
+    items: usize,
+    frames: u64,
     telling: Telling,
     out: &mut W,
 ) -> io::Result<()>
-    requires { number + length items.now < 2 ^ 64 }
-    ensures { OnOk result (Appends (W.contents out.old) (W.contents out.new)
-        (items_told telling stations.now number items.now moment)) }
+    ensures { OnOk result (Appends (W.contents out.old) (W.contents out.new) (told telling items frames world.now)) }
 {
     match telling {
         Telling::Entries => Ok(()),
-        Telling::ItemsAndEntries => print_items(stations, number, items, moment, out),
+        Telling::All => print_trace(world, items, frames, out),
     }
 }
 
-/// Prints items, the first of which has this number.
+/// Prints what was put out behind so many items and frames.
 #[tactic(auto, using(crate::proofs::RunLaws::run_rules))]
-fn print_items<A: Allocator, W: Write>(
-    stations: &[Station<A>],
-    number: usize,
-    items: &[Item<A>],
-    moment: u64,
+fn print_trace<A: Allocator + Copy, W: Write>(
+    world: &World<A>,
+    items: usize,
+    frames: u64,
     out: &mut W,
 ) -> io::Result<()>
-    requires { number + length items.now < 2 ^ 64 }
-    ensures { OnOk result (Appends (W.contents out.old) (W.contents out.new)
-        (items_text stations.now number items.now moment)) }
+    ensures { OnOk result (Appends (W.contents out.old) (W.contents out.new) (trace_text items frames world.now)) }
 {
-    let mut number = number;
-    for item in items {
-        print_item(stations, number, item, moment, out)?;
-        number += 1;
-    }
-    Ok(())
-}
-
-/// Prints an item with its number.
-fn print_item<A: Allocator, W: Write>(
-    stations: &[Station<A>],
-    number: usize,
-    item: &Item<A>,
-    moment: u64,
-    out: &mut W,
-) -> io::Result<()>
-    ensures { OnOk result (Appends (W.contents out.old) (W.contents out.new)
-        (line (item_text stations.now number item.now moment))) }
-{
-    let text = ItemLine {
-        number,
-        item,
+    let stations = world.site().stations();
+    let moment = world.moment();
+    print_items(stations, items, behind(world.items(), items), moment, out)?;
+    print_frames(
         stations,
+        frames,
+        world.buses().buses.as_slice(),
         moment,
-    };
-    writeln!(out, "{text}")
-}
-
-/// Prints entries of the history.
-#[tactic(auto, using(crate::proofs::RunLaws::run_rules))]
-fn print_entries<A: Allocator, W: Write>(
-    stations: &[Station<A>],
-    entries: &[WorldEntry<A>],
-    out: &mut W,
-) -> io::Result<()>
-    ensures { OnOk result (Appends (W.contents out.old) (W.contents out.new)
-        (entries_text stations.now entries.now)) }
-{
-    for entry in entries {
-        print_entry(stations, entry, out)?;
-    }
-    Ok(())
-}
-
-/// Prints an entry of the history.
-fn print_entry<A: Allocator, W: Write>(
-    stations: &[Station<A>],
-    entry: &WorldEntry<A>,
-    out: &mut W,
-) -> io::Result<()>
-    ensures { OnOk result (Appends (W.contents out.old) (W.contents out.new)
-        (line (entry_text stations.now entry.now))) }
-{
-    let text = EntryLine { entry, stations };
-    writeln!(out, "{text}")
+        out,
+    )
 }

@@ -3,49 +3,24 @@
 ghost use Rattle.std.specs.Prelude.{◌≡◌, ◌≤◌, IfOk, OnOk};
 ghost use Rattle.std.specs.Io.KnownBytes.{Appends};
 ghost use Rattle.std.specs.List.{AllByRecursion};
-ghost use Rattle.carry_world.specs.Laws.{IsLegal};
+ghost use Rattle.simulator.specs.carry_world.Laws.{IsLegal};
 ghost use Rattle.script.specs.Steps.{IsSoundStep};
-ghost use Rattle.hosts.specs.Opening.{object_site};
-ghost use Rattle.hosts.specs.Stations.{devices_of};
-ghost use Rattle.site_run.specs.Counting.{counts_of};
-ghost use Rattle.site_run.specs.Printed.{end_text, line};
+ghost use Rattle.simulator.specs.hosts.Opening.{object_site};
+ghost use Rattle.simulator.specs.hosts.Stations.{devices_of};
+ghost use Rattle.site_history.specs.Counting.{counts_of};
+ghost use Rattle.site_history.specs.Printed.{end_text, line};
 ghost use Rattle.site_run.specs.Simulate.{IsOpened, PrintsRun, Simulates};
 
-use crate::counting::counted;
-use crate::printed::EndLine;
 use crate::running::{Telling, take_steps};
-use console::{say_failed, say_refused};
-use script::{BadScript, Step, script_of};
+use console::say_failed;
+use script::{Step, script_of};
 use simulator::World;
+use site_history::{EndLine, Stop, counted, say_stop};
 use site_text::site_of;
 use std::alloc::{Allocator, Global};
 use std::io;
 use std::io::Write;
-use tags::{Fault, Items};
-
-/// Why nothing runs.
-#[derive(Clone, Copy, Debug, PartialEq, Eq)]
-enum Stop {
-    /// The site, or want of memory.
-    Refused(Fault),
-    /// The line of this number asks for no step.
-    Line(usize),
-}
-
-impl From<Fault> for Stop {
-    fn from(fault: Fault) -> Stop {
-        Stop::Refused(fault)
-    }
-}
-
-impl From<BadScript> for Stop {
-    fn from(bad: BadScript) -> Stop {
-        match bad {
-            BadScript::Memory => Stop::Refused(Fault::Memory),
-            BadScript::Line { number, .. } => Stop::Line(number),
-        }
-    }
-}
+use tags::Items;
 
 /// Takes the steps of a script in a world of a site, as their texts describe them, and prints on `out` each entry of its
 /// history, each refusal at its place, and at last what there was of all. Answers the exit status: 0; or 1 for a text
@@ -66,7 +41,7 @@ pub fn simulate<A: Allocator + Copy, W: Write, E: Write>(
     simulation(reading, alloc, site, script, Telling::Entries, out, err)
 }
 
-/// The same; before the entries of an event each item is printed that was put out, with its number.
+/// The same; before the entries of an event each item and each frame is printed that was put out, with its number.
 pub fn simulate_traced<A: Allocator + Copy, W: Write, E: Write>(
     reading: Global,
     alloc: A,
@@ -77,17 +52,9 @@ pub fn simulate_traced<A: Allocator + Copy, W: Write, E: Write>(
 ) -> u8
     ensures status { result ≤ 1 }
     ensures simulates { result ≡ 0
-        → Simulates A Telling.ItemsAndEntries site.now script.now (W.contents out.old) (W.contents out.new) }
+        → Simulates A Telling.All site.now script.now (W.contents out.old) (W.contents out.new) }
 {
-    simulation(
-        reading,
-        alloc,
-        site,
-        script,
-        Telling::ItemsAndEntries,
-        out,
-        err,
-    )
+    simulation(reading, alloc, site, script, Telling::All, out, err)
 }
 
 /// The same, with what is told of an event.
@@ -110,8 +77,7 @@ fn simulation<A: Allocator + Copy, W: Write, E: Write>(
     }
 }
 
-/// A world as it opens, and the steps that are to be taken in it.
-#[derive(Drop)]
+/// A world as it opens, and the steps that are to be taken in it. It is not dropped: its world is closed.
 struct Opened<A: Allocator + Copy> {
     world: World<A>,
     steps: Items<Step<A>, A>,
@@ -128,8 +94,13 @@ fn open<A: Allocator + Copy>(
 {
     let site = site_of(reading, alloc, site)?;
     let world = World::new(alloc, site)?;
-    let steps = script_of(alloc, script)?;
-    Ok(Opened { world, steps })
+    match script_of(alloc, script) {
+        Ok(steps) => Ok(Opened { world, steps }),
+        Err(stop) => {
+            world.close();
+            Err(Stop::from(stop))
+        }
+    }
 }
 
 /// Takes the steps, prints what comes of them, and answers the exit status.
@@ -161,8 +132,23 @@ fn print_run<A: Allocator + Copy, W: Write>(
 {
     let Opened { world, steps } = opened;
     let mut world = world;
-    take_steps(&mut world, steps, telling, out)?;
-    print_end(&world, out)
+    let printed = print_all(&mut world, steps, telling, out);
+    world.close();
+    printed
+}
+
+/// Takes the steps in a world, and prints what comes of them.
+fn print_all<A: Allocator + Copy, W: Write>(
+    world: &mut World<A>,
+    steps: Items<Step<A>, A>,
+    telling: Telling,
+    out: &mut W,
+) -> io::Result<()>
+    requires sound { AllByRecursion IsSoundStep steps }
+    ensures { OnOk result (PrintsRun telling steps world.old (W.contents out.old) (W.contents out.new)) }
+{
+    take_steps(world, steps, telling, out)?;
+    print_end(world, out)
 }
 
 /// Prints what there was of all.
@@ -174,17 +160,4 @@ fn print_end<A: Allocator + Copy, W: Write>(world: &World<A>, out: &mut W) -> io
     let moment = world.moment();
     let counts = counted(world.history());
     writeln!(out, "{}", EndLine { counts, moment })
-}
-
-/// Tells why nothing runs, and answers the exit status.
-fn say_stop<E: Write>(stop: Stop, err: &mut E) -> u8
-    ensures { result ≡ 1 }
-{
-    match stop {
-        Stop::Refused(fault) => say_refused(fault, err),
-        Stop::Line(number) => {
-            let _ = writeln!(err, "bacsite: script line {number}");
-            1
-        }
-    }
 }

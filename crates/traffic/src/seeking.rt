@@ -39,16 +39,12 @@ pub fn in_time<A: Allocator>(item: &Item<A>, now: u64) -> Result<(), Fault>
     }
 }
 
-/// The number of the first item behind all that were put out more than 1000 ms before the moment `now`, in
-/// milliseconds: it looks at these from the youngest on.
+/// The number of the first item that was put out at most so long ago that it may still be heard at the moment `now`: items
+/// stand in the order in which they were put out.
 fn first_young<A: Allocator>(items: &[Item<A>], now: u64) -> usize
     ensures bound { result ≤ length items.now }
 {
-    let mut first = items.len();
-    while first > 0 && now.saturating_sub(items[first - 1].put_out) <= LIFE_MS {
-        first -= 1;
-    }
-    first
+    items.partition_point(|item| now.saturating_sub(item.put_out) > LIFE_MS)
 }
 
 /// The number of the next item from this one on, and before another, that was not yet delivered and may still be heard

@@ -1,4 +1,4 @@
-use Rattle.internetwork.specs.Flows.{left_of}
+use Rattle.simulator.specs.Flows.{left_of}
 use Rattle.example_world.proofs.entries_after.Given as goal
 
 -- each event that a flow gives leaves less of it

@@ -5,14 +5,14 @@ use Rattle.relays.proofs.finding.first_at.Goals as goal
 
 -- this one is at the address
 pub returns-then-is_there : goal.returns-then-is_there
-returns-then-is_there g c = found_here (is_there c.args.address) c.args.relays.now c.loop-relay.place
+returns-then-is_there g c = found_here (is_there g.L.Link.station c.args.address) c.args.relays.now c.loop-relay.place
     c.loop-relay.relay-index c.relay-item.result _ c.loop-relay-test.true c.relay-item.is
     (sym c.is_there.ensures ∙ c.if-is_there.true) c.loop-relay.invariant.0
 
 -- this one isn't
 pub loop-relay-preserved : goal.loop-relay-preserved
 loop-relay-preserved g c = (
-  found_later (is_there c.args.address) c.args.relays.now c.loop-relay.place c.loop-relay.relay-index
+  found_later (is_there g.L.Link.station c.args.address) c.args.relays.now c.loop-relay.place c.loop-relay.relay-index
       c.relay-item.result _ c.loop-relay-test.true c.relay-item.is
       (sym c.is_there.ensures ∙ c.if-is_there.false) c.loop-relay.invariant.0,
   ap (λ (n : ℕ). n + 1) c.loop-relay.invariant.1,
@@ -20,5 +20,5 @@ loop-relay-preserved g c = (
 
 -- none is
 pub returns : goal.returns
-returns g c = found_none (is_there c.args.address) c.args.relays.now c.loop-relay.place c.loop-relay.relay-index _
+returns g c = found_none (is_there g.L.Link.station c.args.address) c.args.relays.now c.loop-relay.place c.loop-relay.relay-index _
     (search rules) c.loop-relay.invariant.0

@@ -1,8 +1,8 @@
 use Rattle.std.proofs.Common.{◌≡◌, List, IfOk, IfErr}
 use Rattle.std.specs.List.{AllByRecursion}
-use Rattle.internetwork.specs.Step.{IsSoundEvent, IsSoundIfAny}
-use Rattle.internetwork.specs.World.{WorldState}
-use Rattle.internetwork.specs.declared.event.Event.{Event}
+use Rattle.simulator.specs.internetwork.Step.{IsSoundEvent, IsSoundIfAny}
+use Rattle.simulator.specs.internetwork.World.{WorldState}
+use Rattle.simulator.specs.internetwork.declared.event.Event.{Event}
 use Rattle.site_run.specs.Running.{Known, PrintsEvents, PrintsSound, left_behind}
 use Rattle.site_run.proofs.running.make_all.Given as goal
 use Rattle.tags.specs.declared.fault.Fault.TheVariants.{Memory}

@@ -3,10 +3,9 @@ use Rattle.site_run.proofs.RunLaws.{growth_printed}
 use Rattle.site_run.proofs.running.print_growth.Goals as goal
 
 pub returns : goal.returns
-returns g c = growth_printed c.print_entries.result c.args.telling c.args.items c.args.entries c.args.world.now
-    c.stations-stations.result.now c.behind.result.now c.behind-2.result.now c.moment.result
-    (g.W.Write.contents c.args.out.now) (g.W.Write.contents c.print_told.new.out)
-    (g.W.Write.contents c.print_entries.new.out) (c.stations-stations.ensures.stations ∙ ap (λ s. s.stations) c.site.ensures)
-    (c.behind.ensures ∙ ap (λ (l : List _). drop c.args.items l) c.items.ensures.items)
-    (c.behind-2.ensures ∙ ap (λ (l : List _). drop c.args.entries l) c.history.ensures.history)
-    c.moment.ensures c.in_ok-print_told.ensures c.print_entries.ensures
+returns g c = growth_printed c.print_entries.result c.args.telling c.args.items c.args.frames c.args.entries
+    c.args.world.now c.stations.result.now c.behind.result.now (g.W.Write.contents c.args.out.now)
+    (g.W.Write.contents c.print_told.new.out) (g.W.Write.contents c.print_entries.new.out)
+    (c.stations.ensures.stations ∙ ap (λ s. s.stations) c.site.ensures)
+    (c.behind.ensures ∙ ap (λ (l : List _). drop c.args.entries l) c.history.ensures.history)
+    c.in_ok-print_told.ensures c.print_entries.ensures

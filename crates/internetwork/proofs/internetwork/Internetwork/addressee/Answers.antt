@@ -1,7 +1,6 @@
-use Rattle.std.proofs.Common.{◌≡◌, sym, ap, subst, ℕ, List, Option, Some, None}
-use Rattle.std.specs.Prelude.{slice_get}
+use Rattle.std.proofs.Common.{ap, subst}
 use Rattle.headline_client.proofs.Places.{all_at}
-use Rattle.hosts.specs.Hosts.{IsHost}
+use Rattle.plans.specs.hosts.Hosts.{IsHost}
 use Rattle.internetwork.specs.World.{WorldState}
 use Rattle.internetwork.proofs.internetwork.Internetwork.addressee.Goals as goal
 

@@ -1,10 +1,12 @@
 use Rattle.std.proofs.Common.{◌∙◌, sym, ap, subst, arith}
 use Rattle.std.specs.Prelude.{slice_get}
+use Rattle.buses.specs.Buses.{buses_of}
 use Rattle.headline_client.proofs.Places.{all_at}
-use Rattle.hosts.specs.Hosts.{IsHost}
+use Rattle.plans.specs.hosts.Hosts.{IsHost}
 use Rattle.internetwork.proofs.ActingLaws.{done_act, passing_act, steady_act, unchanged_act}
 use Rattle.internetwork.proofs.EventLaws.{before_end, read_there, the_one}
-use Rattle.internetwork.specs.Doing.{AtPlace, MayBeDone}
+use Rattle.plans.specs.Plans.{MayBeDone}
+use Rattle.internetwork.specs.Doing.{AtPlace}
 use Rattle.internetwork.specs.World.{WorldState}
 use Rattle.internetwork.proofs.internetwork.Internetwork.carry_out.Goals as goal
 
@@ -55,7 +57,8 @@ returns-clause-done g c = done_act c.act.result c.self.inside.site c.self.inside
     (read_there c.self.inside.stations.items c.args.place c.requires.planned.one c.index_mut.result.now
     (ap (λ (w : WorldState _). slice_get w.stations c.args.place) c.self.view_is ∙ c.requires.planned.there)
     c.index_mut.ensures.value) c.args.self.now
-    c.self.inside.chronicle c.act.new.chronicle c.self.view_is c.args.key c.args.entry c.act.ensures.left c.act.ensures.tells
+    c.self.inside.chronicle c.act.new.chronicle (buses_of c.self.inside.buses) (buses_of c.act.new.buses) c.self.view_is
+    c.args.key c.args.entry c.act.ensures.left c.act.ensures.tells c.act.ensures.puts
 
 pub returns-clause-unchanged : goal.returns-clause-unchanged
 returns-clause-unchanged g c = unchanged_act c.act.result c.self.inside.site c.self.inside.moment
@@ -63,4 +66,5 @@ returns-clause-unchanged g c = unchanged_act c.act.result c.self.inside.site c.s
     (read_there c.self.inside.stations.items c.args.place c.requires.planned.one c.index_mut.result.now
     (ap (λ (w : WorldState _). slice_get w.stations c.args.place) c.self.view_is ∙ c.requires.planned.there)
     c.index_mut.ensures.value) c.args.self.now
-    c.self.inside.chronicle c.act.new.chronicle c.self.view_is c.act.ensures.unchanged c.act.ensures.same
+    c.self.inside.chronicle c.act.new.chronicle (buses_of c.self.inside.buses) (buses_of c.act.new.buses) c.self.view_is
+    c.act.ensures.unchanged c.act.ensures.same c.act.ensures.quiet

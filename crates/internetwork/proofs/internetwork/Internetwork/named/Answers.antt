@@ -1,8 +1,7 @@
-use Rattle.std.proofs.Common.{arith, ◌≡◌, ◌+◌, ◌-◌, sym, ap, subst, ℕ, List, Option, Some, None, length}
-use Rattle.std.specs.Prelude.{bytes_eq, slice_get}
+use Rattle.std.proofs.Common.{arith, ◌≡◌, ◌+◌, ◌-◌, ap, subst, Some, length}
 use Rattle.headline_client.proofs.Places.{all_at}
-use Rattle.hosts.specs.Hosts.{IsHost, IsOfSite}
-use Rattle.hosts.specs.Opening.{object_site}
+use Rattle.plans.specs.hosts.Hosts.{IsHost, IsOfSite}
+use Rattle.plans.specs.hosts.Opening.{object_site}
 use Rattle.internetwork.proofs.EventLaws.{some_same}
 use Rattle.internetwork.specs.World.{WorldState}
 use Rattle.internetwork.proofs.internetwork.Internetwork.named.Goals as goal

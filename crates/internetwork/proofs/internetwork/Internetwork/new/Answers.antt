@@ -1,9 +1,12 @@
 use Rattle.std.proofs.Common.{◌∙◌, ap, List}
-use Rattle.hosts.specs.Stations.{WorldStation}
+use Rattle.bus_traffic.specs.Bus.{BusState}
+use Rattle.buses.specs.Buses.{buses_of}
+use Rattle.buses.specs.Puts.{BusesState}
+use Rattle.plans.specs.hosts.Stations.{WorldStation}
 use Rattle.internetwork.proofs.FreshLaws.{passing_new, steady_new}
 use Rattle.internetwork.proofs.internetwork.Internetwork.new.Goals as goal
 use Rattle.internetwork.specs.World.{fresh_world}
-use Rattle.relays.specs.Laws.{IpRelay}
+use Rattle.relays.specs.Laws.{SiteRelay}
 
 -- its stations and relays stand
 pub open-requires : goal.open-requires
@@ -18,6 +21,12 @@ open-requires g c = record {
 pub returns-clause-fresh : goal.returns-clause-fresh
 returns-clause-fresh g c = c.open.ensures
     ∙ ap (λ (ss : List (WorldStation _)).
-    record (fresh_world c.args.site) { relays = c.in_ok-relays.relays.items; stations = ss })
-    c.in_ok-stations.ensures.stations
-    ∙ ap (λ (rs : List (IpRelay _)). record (fresh_world c.args.site) { relays = rs }) c.in_ok-relays.ensures.relays
+    record (fresh_world c.args.site) {
+      relays = c.in_ok-relays.relays.items;
+      stations = ss;
+      buses = buses_of c.new-buses.result;
+    }) c.in_ok-stations.ensures.stations
+    ∙ ap (λ (rs : List (SiteRelay _)).
+    record (fresh_world c.args.site) { relays = rs; buses = buses_of c.new-buses.result }) c.in_ok-relays.ensures.relays
+    ∙ ap (λ (bs : BusesState _). record (fresh_world c.args.site) { buses = bs }) (c.new-buses.ensures
+    ∙ ap (λ (xs : List (BusState _)). record { buses = xs; frames = 0 }) c.in_ok-buses_of.ensures)

@@ -1,6 +1,6 @@
 use Rattle.std.proofs.Common.{sym, subst}
-use Rattle.hosts.specs.Hosts.{IsOfSite}
-use Rattle.hosts.specs.Opening.{object_site}
+use Rattle.plans.specs.hosts.Hosts.{IsOfSite}
+use Rattle.plans.specs.hosts.Opening.{object_site}
 use Rattle.internetwork.proofs.EventLaws.{err_map, only_memory}
 use Rattle.internetwork.specs.World.{WorldState}
 use Rattle.internetwork.proofs.internetwork.Internetwork.opening_of.Goals as goal

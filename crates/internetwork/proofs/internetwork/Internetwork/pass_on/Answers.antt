@@ -1,11 +1,12 @@
 use Rattle.std.proofs.Common.{◌∙◌, sym, ap, subst, arith}
 use Rattle.std.specs.Prelude.{slice_get}
+use Rattle.buses.specs.Buses.{buses_of}
 use Rattle.headline_client.proofs.Places.{all_at}
 use Rattle.relays.specs.Laws.{RelayStands}
 use Rattle.internetwork.proofs.EventLaws.{before_end, read_there, the_one}
 use Rattle.internetwork.proofs.PassingLaws.{done_pass, steady_pass, unchanged_pass}
 use Rattle.internetwork.specs.Doing.{AtPlace}
-use Rattle.internetwork.specs.Passing.{MayPass}
+use Rattle.plans.specs.Plans.{MayPass}
 use Rattle.internetwork.specs.World.{WorldState}
 use Rattle.internetwork.proofs.internetwork.Internetwork.pass_on.Goals as goal
 
@@ -31,8 +32,8 @@ invariant_of-self g c =
       c.self.invariant.0,
       steady_pass c.pass.result c.self.inside.site c.self.inside.moment c.self.inside.relays.items
           c.self.inside.stations.items c.args.place c.index_mut.result.now c.pass.new.relay c.args.plan there
-          c.self.inside.chronicle c.pass.new.chronicle c.pass.ensures.left c.pass.ensures.unchanged c.pass.ensures.passes
-          c.pass.ensures.same c.self.invariant.1
+          c.self.inside.chronicle c.pass.new.chronicle (buses_of c.self.inside.buses) (buses_of c.pass.new.buses)
+          c.pass.ensures.left c.pass.ensures.unchanged c.pass.ensures.passes c.pass.ensures.same c.self.invariant.1
           (the_one (MayPass c.self.inside.moment c.args.plan) c.args.place c.self.inside.relays.items
           c.index_mut.result.now there
           (subst (λ (w : WorldState _). AtPlace c.args.place w.relays (MayPass w.moment c.args.plan)) (sym c.self.view_is)
@@ -44,13 +45,15 @@ returns-clause-done g c = done_pass c.pass.result c.self.inside.site c.self.insi
     c.self.inside.stations.items c.args.place c.index_mut.result.now c.pass.new.relay c.args.plan
     (read_there c.self.inside.relays.items c.args.place c.requires.planned.one c.index_mut.result.now
     (ap (λ (w : WorldState _). slice_get w.relays c.args.place) c.self.view_is ∙ c.requires.planned.there)
-    c.index_mut.ensures.value) c.self.inside.chronicle c.pass.new.chronicle c.args.self.now c.self.view_is
-    c.pass.ensures.left c.pass.ensures.passes
+    c.index_mut.ensures.value) c.self.inside.chronicle c.pass.new.chronicle (buses_of c.self.inside.buses)
+    (buses_of c.pass.new.buses) c.args.self.now c.self.view_is c.pass.ensures.left c.pass.ensures.passes
+    c.pass.ensures.puts
 
 pub returns-clause-unchanged : goal.returns-clause-unchanged
 returns-clause-unchanged g c = unchanged_pass c.pass.result c.self.inside.site c.self.inside.moment
     c.self.inside.relays.items c.self.inside.stations.items c.args.place c.index_mut.result.now c.pass.new.relay c.args.plan
     (read_there c.self.inside.relays.items c.args.place c.requires.planned.one c.index_mut.result.now
     (ap (λ (w : WorldState _). slice_get w.relays c.args.place) c.self.view_is ∙ c.requires.planned.there)
-    c.index_mut.ensures.value) c.self.inside.chronicle c.pass.new.chronicle c.args.self.now c.self.view_is
-    c.pass.ensures.unchanged c.pass.ensures.same
+    c.index_mut.ensures.value) c.self.inside.chronicle c.pass.new.chronicle (buses_of c.self.inside.buses)
+    (buses_of c.pass.new.buses) c.args.self.now c.self.view_is c.pass.ensures.unchanged c.pass.ensures.same
+    c.pass.ensures.quiet

@@ -1,11 +1,10 @@
-use Rattle.std.proofs.Common.{◌≡◌, ◌∙◌, refl, sym, ap, subst, inl, inr, false, List, IfErr}
+use Rattle.std.proofs.Common.{◌≡◌, ◌∙◌, refl, sym, ap, subst, inl, inr, false, List}
 use Rattle.std.proofs.lemmas.Result.{err_from_is_err_and}
 use Rattle.std.specs.Prelude.{slice_get}
-use Rattle.hosts.specs.Finding.{IsNoHostAt}
+use Rattle.plans.specs.hosts.Finding.{IsNoHostAt}
 use Rattle.npdu.specs.declared.mac.Station.{Station}
 use Rattle.internetwork.proofs.EventLaws.{no_addressee, too_old}
 use Rattle.internetwork.specs.Finding.{IsAddressee}
-use Rattle.internetwork.specs.Refusals.{RefusesItem}
 use Rattle.internetwork.specs.World.{WorldState}
 use Rattle.traffic.specs.Seeking.{is_young}
 use Rattle.traffic.specs.declared.item.Item.{Item}

@@ -1,5 +1,4 @@
-use Rattle.std.proofs.Common.{◌≡◌, sym, ap, subst, ℕ, List, Option, Some, None}
-use Rattle.std.specs.Prelude.{slice_get}
+use Rattle.std.proofs.Common.{ap, subst}
 use Rattle.headline_client.proofs.Places.{all_at}
 use Rattle.relays.specs.Laws.{RelayStands}
 use Rattle.internetwork.proofs.EventLaws.{none_then}

@@ -1,5 +1,5 @@
 use Rattle.std.proofs.lemmas.Result.{err_from_is_err_and}
-use Rattle.internetwork.proofs.EventLaws.{ok_map, restart_refused, restarts_done}
+use Rattle.internetwork.proofs.EventLaws.{restart_refused, restarts_done}
 use Rattle.internetwork.proofs.internetwork.Internetwork.restart.Goals as goal
 
 -- it can't restart
@@ -12,9 +12,8 @@ returns-in_err-plan-clause-cause g c =
 -- it restarted
 pub returns-clause-restarts : goal.returns-clause-restarts
 returns-clause-restarts g c =
-    ok_map c.carry_out.result
-    (restarts_done c.args.name.now c.args.self.now c.carry_out.new.self c.in_ok-place.field-0.place c.in_ok-place.field-0.station.now
-    c.in_ok-plan.plan c.now-now.result c.in_ok-opening.opening c.in_ok-entry.entry c.now-now.ensures.moment
-    c.in_ok-opening.ensures.opening c.in_ok-entry.ensures.entry
-    c.in_ok-place.ensures.named c.in_ok-plan.ensures.restarts)
-    c.carry_out.ensures.done
+    restarts_done c.args.name.now c.args.self.now c.carry_out.new.self c.deafen.new.self c.in_ok-place.field-0.place
+    c.in_ok-place.field-0.station.now c.in_ok-plan.plan c.now-now.result c.in_ok-opening.opening c.in_ok-entry.entry
+    c.place_of-address.result c.now-now.ensures.moment c.in_ok-opening.ensures.opening c.in_ok-entry.ensures.entry
+    c.in_ok-place.ensures.named c.in_ok-plan.ensures.restarts c.in_ok-carry_out.ensures.done c.place_of-address.ensures
+    c.deafen.ensures

@@ -1,4 +1,4 @@
-use Rattle.std.proofs.Common.{arith, ◌≡◌, ◌+◌, ◌++◌, ◌∷◌, [], refl, subst, take, List}
+use Rattle.std.proofs.Common.{arith, ◌≡◌, ◌+◌, ◌++◌, ◌∷◌, [], subst, take, List}
 use Rattle.std.proofs.lemmas.Grind.{common_steps}
 use Rattle.simulator.proofs.LedLaws.{comes_of, runs_more}
 use Rattle.internetwork.specs.Refusals.{Runs}

@@ -1,0 +1,138 @@
+-- The command line of the program, and what its words ask for.
+use Rattle.std.specs.Prelude.{◌≡◌, ◌≢◌, List, [], Option, Some, None, codes, map, Bool, true, false, option_map}
+use Rattle.std.specs.Prelude.{unwrap_or, string_bytes}
+use Rattle.clap.specs.Lexer.{usize_max}
+use Rattle.clap.specs.Words.{App, Rule, Row, Text, new_app, new_rule, with_rule, with_subcommand, all_of, first_of, one_of}
+use Rattle.clap.specs.declared.builder.ArgAction.TheVariants.{Append, Set, SetTrue}
+use Rattle.command_order.specs.declared.order.Checking.{Checking}
+use Rattle.command_order.specs.declared.order.LiveRun.{LiveRun}
+use Rattle.command_order.specs.declared.order.Order.{Order}
+use Rattle.command_order.specs.declared.order.Order.TheVariants.{Answer, Check, Explain, Run, Sim}
+use Rattle.command_order.specs.declared.order.Simulation.{Simulation}
+
+-- one word or more, which spell a datagram
+abbrev pub hex_rule : Rule
+hex_rule = record (new_rule (codes "hex")) {
+  action = Some Append;
+  range = Some (record { start_inclusive = 1; end_inclusive = usize_max });
+  value_names = 1;
+  required = true;
+}
+
+-- a subcommand with these words behind it
+abbrev pub tool : Text → App
+tool name = with_rule (new_app name) hex_rule
+
+-- the program without its subcommands, one of which has to be there; it has a version
+abbrev pub bare : App
+bare =
+    let app = new_app (codes "bacsite") in
+    record app { top = record app.top { subcommand_required = true; has_version = true } }
+
+-- a word that names a file
+abbrev pub file_rule : Text → Rule
+file_rule id = record (new_rule id) { action = Some Set; value_names = 1; required = true }
+
+-- a word that names a file, or none
+abbrev pub optional_file_rule : Text → Rule
+optional_file_rule id = record (new_rule id) { action = Some Set; value_names = 1 }
+
+-- a flag that is given or not
+abbrev pub trace_rule : Rule
+trace_rule = record (new_rule (codes "trace")) { long = Some (codes "trace"); action = Some SetTrue }
+
+-- the subcommand that runs a script at a site
+abbrev pub sim : App
+sim =
+    with_rule (with_rule (with_rule (new_app (codes "sim")) (file_rule (codes "site"))) (file_rule (codes "script")))
+    trace_rule
+
+-- a number of seconds that is given or not
+abbrev pub seconds_rule : Rule
+seconds_rule = record (new_rule (codes "for")) { long = Some (codes "for"); action = Some Set; value_names = 1 }
+
+-- a flag that is given or not
+abbrev pub open_rule : Rule
+open_rule = record (new_rule (codes "open")) { long = Some (codes "open"); action = Some SetTrue }
+
+-- the subcommand that runs a site live
+abbrev pub run : App
+run =
+    with_rule (with_rule (with_rule (with_rule (new_app (codes "run")) (file_rule (codes "site")))
+    (file_rule (codes "script"))) open_rule) seconds_rule
+
+-- the subcommand that tells what is wrong with a site file, and with a script for it
+abbrev pub check : App
+check =
+    with_rule (with_rule (new_app (codes "check")) (file_rule (codes "site"))) (optional_file_rule (codes "script"))
+
+-- the program with the subcommands of one datagram: answer HEX.., explain HEX..
+abbrev pub tools : App
+tools = with_subcommand (with_subcommand bare (tool (codes "answer")).top) (tool (codes "explain")).top
+
+-- the program: those, sim SITE SCRIPT [--trace], run SITE SCRIPT [--open] [--for SECONDS] and check SITE [SCRIPT]
+abbrev pub program : App
+program = with_subcommand (with_subcommand (with_subcommand tools sim.top) run.top) check.top
+
+-- the subcommand that the words name
+abbrev pub name_of : Option (Text × List Row) → Option Text
+name_of found = option_map (λ p. p.0) found
+
+-- the words behind a subcommand
+abbrev pub hex_of : List Row → List Text
+hex_of rows = unwrap_or (all_of (codes "hex") rows) []
+
+-- the words behind the subcommand that is named
+abbrev pub digits_of : Option (Text × List Row) → List Text
+digits_of None = []
+digits_of (Some p) = hex_of p.1
+
+-- the rows of the subcommand that is named
+abbrev pub rows_in : Option (Text × List Row) → List Row
+rows_in None = []
+rows_in (Some p) = p.1
+
+-- the word of this name behind it, which is empty where there is none
+abbrev pub word_of : Text → List Row → Text
+word_of id rows = unwrap_or (first_of id rows) []
+
+-- a flag is given, or isn't
+pub record IsFlag (word : Option Text) (flag : Bool) : Type 0 where
+  pub given : word ≡ Some (codes "true") → flag ≡ true
+  pub other : word ≡ Some (codes "false") → flag ≡ false
+  pub none : word ≡ None → flag ≡ false
+
+-- the simulation is of the files that are named, and is traced where that is asked for
+pub record IsSimulationOf (rows : List Row) (s : Simulation) : Type 0 where
+  pub site : string_bytes s.site ≡ word_of (codes "site") rows
+  pub script : string_bytes s.script ≡ word_of (codes "script") rows
+  pub trace : IsFlag (one_of (codes "trace") rows) s.is_traced
+
+-- the live run is of the files that are named, is open where that is asked for, and goes on for the seconds given
+pub record IsLiveRunOf (rows : List Row) (r : LiveRun) : Type 0 where
+  pub site : string_bytes r.site ≡ word_of (codes "site") rows
+  pub script : string_bytes r.script ≡ word_of (codes "script") rows
+  pub flag : IsFlag (one_of (codes "open") rows) r.is_open
+  pub seconds : option_map string_bytes r.seconds ≡ first_of (codes "for") rows
+
+-- the check is of the files that are named, and without a script where none is
+pub record IsCheckingOf (rows : List Row) (c : Checking) : Type 0 where
+  pub site : string_bytes c.site ≡ word_of (codes "site") rows
+  pub script : option_map string_bytes c.script ≡ first_of (codes "script") rows
+
+-- the words name no subcommand that there is
+abbrev pub NamesNone : Option (Text × List Row) → Type 0
+NamesNone found = (name_of found ≢ Some (codes "answer")) × (name_of found ≢ Some (codes "explain"))
+    × (name_of found ≢ Some (codes "sim")) × (name_of found ≢ Some (codes "run"))
+    × (name_of found ≢ Some (codes "check"))
+
+-- the order is the subcommand that the words name, with the words behind it
+abbrev pub IsOrderOf : Option (Text × List Row) → Option Order → Type 0
+IsOrderOf found None = NamesNone found
+IsOrderOf found (Some (Answer words)) =
+    (name_of found ≡ Some (codes "answer")) × (map string_bytes words.items ≡ digits_of found)
+IsOrderOf found (Some (Explain words)) =
+    (name_of found ≡ Some (codes "explain")) × (map string_bytes words.items ≡ digits_of found)
+IsOrderOf found (Some (Sim s)) = (name_of found ≡ Some (codes "sim")) × IsSimulationOf (rows_in found) s
+IsOrderOf found (Some (Run r)) = (name_of found ≡ Some (codes "run")) × IsLiveRunOf (rows_in found) r
+IsOrderOf found (Some (Check c)) = (name_of found ≡ Some (codes "check")) × IsCheckingOf (rows_in found) c

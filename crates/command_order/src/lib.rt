@@ -1,0 +1,11 @@
+//! What the words of a command line of `bacsite` ask for: the subcommand that clap finds in them, with the words behind
+//! it, or why there is none.
+//!
+//! To the layer above it promises exactly that order, as the definitions of the command line's words have it.
+//!
+//! - `order`: what the command line asks for.
+#![tactic(auto)]
+
+mod order;
+
+pub use order::{Checking, LiveRun, Order, Simulation, order_of};

@@ -1,0 +1,376 @@
+//! The command line.
+
+ghost use Rattle.std.specs.Prelude.{◌≡◌, true, false, IfOk, map, option_map, string_bytes};
+ghost use Rattle.clap.specs.Words.{app_of, first_of, rule_of, rows_of, found_of, with_subcommand};
+ghost use Rattle.clap.specs.Words.{subcommand_of, subcommand_rows_of, FailsBy, fault_of};
+ghost use Rattle.command_order.specs.Order.{program, bare, tool, tools, hex_rule, hex_of, sim, run, check, file_rule};
+ghost use Rattle.command_order.specs.Order.{open_rule, optional_file_rule, seconds_rule, trace_rule, word_of};
+ghost use Rattle.command_order.specs.Order.{IsOrderOf, IsSimulationOf, IsLiveRunOf, IsCheckingOf};
+
+use clap::{Arg, ArgAction, ArgMatches, Command, Error};
+use std::alloc::{AllocError, Global};
+
+/// The version of the program, as `--version` prints it.
+const VERSION: &str = "0.1.0";
+
+/// What the command line asks for.
+#[derive(Drop)]
+pub enum Order {
+    /// Answer the datagram that these words spell.
+    Answer(Vec<String>),
+    /// Take the datagram apart that these words spell.
+    Explain(Vec<String>),
+    /// Run a script at a site.
+    Sim(Simulation),
+    /// Run a site live, with a script.
+    Run(LiveRun),
+    /// Tell what is wrong with a site file, and with a script for it.
+    Check(Checking),
+}
+
+/// Which script is run at which site, and what is printed of it.
+#[derive(Drop)]
+pub struct Simulation {
+    /// The name of the site's file.
+    pub site: String,
+    /// The name of the script's file.
+    pub script: String,
+    /// Whether each datagram is printed that is put out.
+    pub is_traced: bool,
+}
+
+/// Which site is run live, with which script, and how.
+#[derive(Drop)]
+pub struct LiveRun {
+    /// The name of the site's file.
+    pub site: String,
+    /// The name of the script's file.
+    pub script: String,
+    /// Whether stations hear what nobody of the site sent.
+    pub is_open: bool,
+    /// For how many seconds it goes on behind its script, if that is told: 0 until it is ended.
+    pub seconds: Option<String>,
+}
+
+/// Which site file is checked, and with which script.
+#[derive(Drop)]
+pub struct Checking {
+    /// The name of the site's file.
+    pub site: String,
+    /// The name of the script's file, if a script is checked too.
+    pub script: Option<String>,
+}
+
+/// What the words ask for, the first of them being the program's name: `None` where they name
+/// no command, which clap refuses before.
+///
+/// # Errors
+/// Help that was asked for, a fault of the command line, or want of memory, with its text.
+pub fn order_of(alloc: Global, words: &[String]) -> Result<Option<Order>, Error>
+    ensures order { IfOk result (IsOrderOf (subcommand_of program (map string_bytes words.now))) }
+    ensures fault { FailsBy (fault_of program (map string_bytes words.now)) result }
+{
+    let matches = matches_of(alloc, words)?;
+    Ok(order_in(alloc, &matches)?)
+}
+
+/// The matches that the words give.
+fn matches_of<'a>(alloc: Global, words: &'a [String]) -> Result<ArgMatches<'a>, Error>
+    ensures found { IfOk result (λ m. subcommand_rows_of m ≡ subcommand_of program (map string_bytes words.entry.now)) }
+    ensures fault { FailsBy (fault_of program (map string_bytes words.entry.now)) result }
+{
+    let command = command(alloc)?;
+    command.try_get_matches_from(words)
+}
+
+/// The order that the matches hold.
+fn order_in(alloc: Global, matches: &ArgMatches<'_>) -> Result<Option<Order>, AllocError>
+    ensures { IfOk result (IsOrderOf (subcommand_rows_of matches.now)) }
+{
+    if let Some(answer) = matches.subcommand_matches("answer") {
+        return Ok(Some(Order::Answer(hex_words(alloc, answer)?)));
+    }
+    if let Some(explain) = matches.subcommand_matches("explain") {
+        return Ok(Some(Order::Explain(hex_words(alloc, explain)?)));
+    }
+    if let Some(sim) = matches.subcommand_matches("sim") {
+        return Ok(Some(Order::Sim(simulation_in(alloc, sim)?)));
+    }
+    if let Some(run) = matches.subcommand_matches("run") {
+        return Ok(Some(Order::Run(live_run_in(alloc, run)?)));
+    }
+    if let Some(check) = matches.subcommand_matches("check") {
+        return Ok(Some(Order::Check(checking_in(alloc, check)?)));
+    }
+    Ok(None)
+}
+
+/// The simulation that is asked for.
+fn simulation_in(alloc: Global, matches: &ArgMatches<'_>) -> Result<Simulation, AllocError>
+    ensures { IfOk result (IsSimulationOf (rows_of (found_of matches.now))) }
+{
+    Ok(Simulation {
+        site: word(alloc, matches, "site")?,
+        script: word(alloc, matches, "script")?,
+        is_traced: matches.get_flag("trace"),
+    })
+}
+
+/// The live run that is asked for.
+fn live_run_in(alloc: Global, matches: &ArgMatches<'_>) -> Result<LiveRun, AllocError>
+    ensures { IfOk result (IsLiveRunOf (rows_of (found_of matches.now))) }
+{
+    Ok(LiveRun {
+        site: word(alloc, matches, "site")?,
+        script: word(alloc, matches, "script")?,
+        is_open: matches.get_flag("open"),
+        seconds: optional_word(alloc, matches, "for")?,
+    })
+}
+
+/// The check that is asked for.
+fn checking_in(alloc: Global, matches: &ArgMatches<'_>) -> Result<Checking, AllocError>
+    ensures { IfOk result (IsCheckingOf (rows_of (found_of matches.now))) }
+{
+    Ok(Checking {
+        site: word(alloc, matches, "site")?,
+        script: optional_word(alloc, matches, "script")?,
+    })
+}
+
+/// The word of an argument, if there is one.
+fn optional_word(
+    alloc: Global,
+    matches: &ArgMatches<'_>,
+    id: &str,
+) -> Result<Option<String>, AllocError>
+    ensures { IfOk result (λ word. option_map string_bytes word ≡ first_of id.now (rows_of (found_of matches.now))) }
+{
+    match matches.get_str(id) {
+        Some(word) => Ok(Some(String::from_str(alloc, word)?)),
+        None => Ok(None),
+    }
+}
+
+/// The word of an argument, which is empty where there is none.
+fn word(alloc: Global, matches: &ArgMatches<'_>, id: &str) -> Result<String, AllocError>
+    ensures { IfOk result (λ word. string_bytes word ≡ word_of id.now (rows_of (found_of matches.now))) }
+{
+    match matches.get_str(id) {
+        Some(word) => String::from_str(alloc, word),
+        None => Ok(String::new(alloc)),
+    }
+}
+
+/// The commands of the program.
+fn command<'a>(alloc: Global) -> Result<Command<'a>, AllocError>
+    ensures { IfOk result (λ c. app_of c ≡ program) }
+{
+    let command = add(tools(alloc)?, sim(alloc)?)?;
+    let command = add(command, run(alloc)?)?;
+    add(command, check(alloc)?)
+}
+
+/// The program with the commands of one datagram.
+fn tools<'a>(alloc: Global) -> Result<Command<'a>, AllocError>
+    ensures { IfOk result (λ c. app_of c ≡ tools) }
+{
+    let answer = tool(
+        alloc,
+        "answer",
+        "Prints what the built-in device answers to a BACnet/IP datagram",
+    )?;
+    let explain = tool(
+        alloc,
+        "explain",
+        "Takes a BACnet/IP datagram apart: its headers, and its tags one by one",
+    )?;
+    let command = add(bare(alloc), answer)?;
+    add(command, explain)
+}
+
+/// The command that runs a script at a site.
+fn sim<'a>(alloc: Global) -> Result<Command<'a>, AllocError>
+    ensures { IfOk result (λ c. app_of c ≡ sim) }
+{
+    Command::new(alloc, "sim")
+        .about("Runs a script at a site, and prints what comes of it")
+        .arg(file(
+            alloc,
+            "site",
+            "SITE",
+            "A TOML file of networks and stations, as docs/site-file.md says",
+        ))?
+        .arg(file(
+            alloc,
+            "script",
+            "SCRIPT",
+            "A text with a step on each line, as docs/script.md says",
+        ))?
+        .arg(trace(alloc))
+}
+
+/// The command that runs a site live.
+fn run<'a>(alloc: Global) -> Result<Command<'a>, AllocError>
+    ensures { IfOk result (λ c. app_of c ≡ run) }
+{
+    Command::new(alloc, "run")
+        .about("Runs a site over UDP, with a script, and prints what comes of it")
+        .arg(file(
+            alloc,
+            "site",
+            "SITE",
+            "A TOML file of networks and stations, as docs/site-file.md says",
+        ))?
+        .arg(file(
+            alloc,
+            "script",
+            "SCRIPT",
+            "A text with a step on each line, as docs/script.md says",
+        ))?
+        .arg(open(alloc))?
+        .arg(seconds(alloc))
+}
+
+/// The command that tells what is wrong with a site file.
+fn check<'a>(alloc: Global) -> Result<Command<'a>, AllocError>
+    ensures { IfOk result (λ c. app_of c ≡ check) }
+{
+    Command::new(alloc, "check")
+        .about("Tells what is wrong with a site file, and with a script for it")
+        .arg(file(
+            alloc,
+            "site",
+            "SITE",
+            "A TOML file of networks and stations, as docs/site-file.md says",
+        ))?
+        .arg(optional_file(
+            alloc,
+            "script",
+            "SCRIPT",
+            "A text with a step on each line, as docs/script.md says",
+        ))
+}
+
+/// The name of a file, which may be left out.
+fn optional_file<'a>(alloc: Global, id: &'a str, name: &'a str, help: &'a str) -> Arg<'a>
+    ensures rule { rule_of result ≡ optional_file_rule id.entry.now }
+    ensures own { result.global ≡ false }
+{
+    Arg::new(alloc, id)
+        .value_name(name)
+        .action(ArgAction::Set)
+        .help(help)
+}
+
+/// The name of a file.
+fn file<'a>(alloc: Global, id: &'a str, name: &'a str, help: &'a str) -> Arg<'a>
+    ensures rule { rule_of result ≡ file_rule id.entry.now }
+    ensures own { result.global ≡ false }
+{
+    Arg::new(alloc, id)
+        .value_name(name)
+        .required(true)
+        .action(ArgAction::Set)
+        .help(help)
+}
+
+/// Whether items and frames are printed.
+fn trace<'a>(alloc: Global) -> Arg<'a>
+    ensures rule { rule_of result ≡ trace_rule }
+    ensures own { result.global ≡ false }
+{
+    Arg::new(alloc, "trace")
+        .long("trace")
+        .action(ArgAction::SetTrue)
+        .help(
+            "Prints each datagram that is put out, with the number by which `deliver` names it, and each frame",
+        )
+}
+
+/// Whether stations hear what nobody of the site sent.
+fn open<'a>(alloc: Global) -> Arg<'a>
+    ensures rule { rule_of result ≡ open_rule }
+    ensures own { result.global ≡ false }
+{
+    Arg::new(alloc, "open")
+        .long("open")
+        .action(ArgAction::SetTrue)
+        .help("Lets stations hear datagrams that nobody of the site sent")
+}
+
+/// For how long a run goes on behind its script.
+fn seconds<'a>(alloc: Global) -> Arg<'a>
+    ensures rule { rule_of result ≡ seconds_rule }
+    ensures own { result.global ≡ false }
+{
+    Arg::new(alloc, "for")
+        .long("for")
+        .value_name("SECONDS")
+        .action(ArgAction::Set)
+        .help("Goes on for so many seconds behind the script, and with 0 until it is ended")
+}
+
+/// A command with a subcommand more.
+fn add<'a>(command: Command<'a>, tool: Command<'a>) -> Result<Command<'a>, AllocError>
+    requires plain { (app_of tool).top.is_plain ≡ true }
+    ensures { IfOk result (λ c. app_of c ≡ with_subcommand (app_of command.entry) (app_of tool.entry).top) }
+{
+    command.subcommand(tool)
+}
+
+/// The program without its commands, one of which has to be there.
+fn bare<'a>(alloc: Global) -> Command<'a>
+    ensures { app_of result ≡ bare }
+{
+    Command::new(alloc, "bacsite")
+        .about("BACnet devices that answer by proof")
+        .version(VERSION)
+        .subcommand_required(true)
+}
+
+/// A command with the words of a datagram behind it.
+fn tool<'a>(alloc: Global, name: &'a str, about: &'a str) -> Result<Command<'a>, AllocError>
+    ensures { IfOk result (λ c. app_of c ≡ tool name.entry.now) }
+{
+    Command::new(alloc, name)
+        .about(about)
+        .arg(hex_argument(alloc))
+}
+
+/// The words that spell a datagram.
+fn hex_argument<'a>(alloc: Global) -> Arg<'a>
+    ensures rule { rule_of result ≡ hex_rule }
+    ensures own { result.global ≡ false }
+{
+    Arg::new(alloc, "hex")
+        .value_name("HEX")
+        .required(true)
+        .action(ArgAction::Append)
+        .num_args(1..)
+        .help(
+            "A BACnet/IP datagram: pairs of hexadecimal digits, with spaces between pairs or none, \
+             as 81 0A 00 11 01 04 02 65 01 0C 0C 01 40 00 01 19 55",
+        )
+}
+
+/// The words behind a subcommand.
+fn hex_words(alloc: Global, matches: &ArgMatches<'_>) -> Result<Vec<String>, AllocError>
+    ensures { IfOk result (λ words. map string_bytes words.items ≡ hex_of (rows_of (found_of matches.now))) }
+{
+    match matches.get_strs("hex") {
+        Some(values) => copied(alloc, values),
+        None => Ok(Vec::new(alloc)),
+    }
+}
+
+/// Words in memory of their own.
+fn copied(alloc: Global, words: &[&str]) -> Result<Vec<String>, AllocError>
+    ensures { IfOk result (λ copies. map string_bytes copies.items ≡ map (λ w. w.now) words.now) }
+{
+    let mut copies = Vec::new(alloc);
+    for word in words {
+        copies.push(String::from_str(alloc, word)?)?;
+    }
+    Ok(copies)
+}

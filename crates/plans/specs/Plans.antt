@@ -1,0 +1,36 @@
+-- A plan of a station or a relay of a world, and why none is made.
+use Rattle.std.specs.Prelude.{◌≡◌, ℕ, List, map}
+use Rattle.carry_said.specs.Said.{HasInsides}
+use Rattle.hosts.specs.Hosts.{IsHost}
+use Rattle.hosts.specs.Stations.{WorldStation}
+use Rattle.link_ports.specs.Ports.{IsTooLong}
+use Rattle.link_site.specs.Port as port
+use Rattle.link_site.specs.declared.port.SitePort.{SitePort}
+use Rattle.npdu.specs.declared.mac.Station.{Station}
+use Rattle.relays.specs.Laws.{RelayStands, SiteRelay}
+use Rattle.relays.specs.Relay as passing
+use Rattle.relays.specs.declared.plan.RelayPlan.{RelayPlan}
+use Rattle.site_station.specs.Entity as entity
+use Rattle.site_station.specs.Entity.{told_awake}
+use Rattle.site_station.specs.Station.{ITS_PORT, IsPlanned, left_by, told_by}
+use Rattle.site_station.specs.declared.station.StationPlan.{StationPlan}
+use Rattle.tags.specs.declared.fault.Fault.{Fault}
+use Rattle.tags.specs.declared.fault.Fault.TheVariants.{TooLong}
+
+-- a station made this plan in this state at this moment, what it says can be told, and it stands once it is done
+pub record MayBeDone {A : Type 0} (now : ℕ) (plan : StationPlan (SitePort A) A) (s : WorldStation A) : Type 0 where
+  pub planned : IsPlanned now s plan
+  pub insides : HasInsides (entity.station_of s.entity).net (told_by plan).told.said
+  pub stands : IsHost now (left_by now plan s)
+
+-- a relay stands once this plan is done
+pub record MayPass {A : Type 0} (now : ℕ) (plan : RelayPlan (SitePort A) A) (r : SiteRelay A) : Type 0 where
+  pub stands : RelayStands now (passing.left_by now plan r)
+
+-- the places of a station's ports (6.1)
+abbrev pub places_of : {A : Type 0} → WorldStation A → List Station
+places_of s = map (λ l. port.station_of l) s.ports
+
+-- a wake is refused where what its entity says is too long for its port (9, J)
+abbrev pub WakeIsTooLong : {A : Type 0} → (now : ℕ) → Fault → WorldStation A → Type 0
+WakeIsTooLong now fault s = (fault ≡ TooLong) × IsTooLong (places_of s) ITS_PORT (told_awake now s.entity).said

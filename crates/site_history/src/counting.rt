@@ -1,0 +1,64 @@
+//! What the last line counts.
+
+ghost use Rattle.std.specs.Prelude.{◌≡◌};
+ghost use Rattle.site_history.specs.Counting as spec;
+
+use chronicle::WorldEntry;
+use history::Entry;
+use std::alloc::Allocator;
+
+/// The kinds of entries that are counted.
+#[derive(Clone, Copy, Debug, PartialEq, Eq)]
+enum Kind {
+    Issue,
+    Executed,
+    Answered,
+    Ended,
+}
+
+/// How many entries of each kind a history has.
+#[derive(Clone, Copy, Debug, PartialEq, Eq)]
+pub struct Counts {
+    pub issued: usize,
+    pub executed: usize,
+    pub answered: usize,
+    pub ended: usize,
+}
+
+/// How many entries of each kind these are.
+pub fn counted<A: Allocator>(history: &[WorldEntry<A>]) -> Counts
+    ensures { result ≡ spec.counts_of history.now }
+{
+    Counts {
+        issued: count(Kind::Issue, history),
+        executed: count(Kind::Executed, history),
+        answered: count(Kind::Answered, history),
+        ended: count(Kind::Ended, history),
+    }
+}
+
+/// How many of these entries are of a kind.
+fn count<A: Allocator>(kind: Kind, history: &[WorldEntry<A>]) -> usize
+    ensures { result ≡ spec.count kind history.now }
+{
+    let mut number = 0;
+    for entry in history {
+        if is_of(kind, entry) {
+            number += 1;
+        }
+    }
+    number
+}
+
+/// Whether an entry is of a kind.
+fn is_of<A: Allocator>(kind: Kind, entry: &WorldEntry<A>) -> bool
+    ensures { result ≡ spec.is_of kind entry.now }
+{
+    match entry {
+        Entry::Issue { .. } => kind == Kind::Issue,
+        Entry::Executed { .. } => kind == Kind::Executed,
+        Entry::Answered { .. } => kind == Kind::Answered,
+        Entry::Ended { .. } => kind == Kind::Ended,
+        Entry::Restarted { .. } => false,
+    }
+}

@@ -1,0 +1,4 @@
+pub mod StepLaws
+pub mod PrintLaws
+pub mod LiveLaws
+pub mod HearLaws

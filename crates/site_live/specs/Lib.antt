@@ -1,0 +1,4 @@
+pub mod Printed
+pub mod Running
+pub mod Runs
+pub mod Steps

@@ -1,0 +1,28 @@
+//! A site live, from two texts to what is printed of it (ANSI/ASHRAE 135, clauses 5.4, 6 and J.1.2, written for a
+//! person to read): `bacsite run` without its command line.
+//!
+//! To the layer above it promises: with status 0 the one text is a TOML document of a sound site, and what was printed
+//! tells, line by line, what came of turns of a runner at that site, one after another, each refusal at its place. As
+//! long as no stranger's datagram was heard, what these turns leave is what events leave, so the history that is told
+//! is legal. Which events come, and when, is the network's and the clock's to say.
+//!
+//! - `timer`: what tells the time.
+//! - `step`: what a line of a script asks of a live run.
+//! - `reading`: the lines of a script.
+//! - `turning`: a turn, and what is printed of it.
+//! - `live`: a live run, round by round.
+//! - `running`: the two texts, and the exit status.
+#![tactic(auto)]
+
+mod live;
+mod reading;
+mod running;
+mod step;
+mod timer;
+mod turning;
+
+pub use live::Live;
+pub use reading::live_steps_of;
+pub use running::{Ending, Opened, Settings, open, run, run_over_udp};
+pub use step::LiveStep;
+pub use timer::{SystemTimer, Timer};

@@ -1,0 +1,282 @@
+//! A site and a script, from their texts to what is printed of a live run, and the exit status.
+
+ghost use Rattle.std.specs.Prelude.{◌≡◌, ◌≤◌, [], true, false, IfOk, OnOk};
+ghost use Rattle.std.specs.Io.KnownBytes.{Appends};
+ghost use Rattle.std.specs.List.{AllByRecursion};
+ghost use Rattle.runner.specs.Runner.{RunnerState};
+ghost use Rattle.site_live.specs.Running.{AreEventsIfLed, Lives};
+ghost use Rattle.site_live.specs.Runs.{IsLegalIfLed, IsOpened, PrintsLiveRun, RunsLive, begun};
+ghost use Rattle.site_live.specs.Steps.{IsSoundLiveStep, SaysLive, asked_of};
+ghost use Rattle.site_history.specs.Counting.{counts_of};
+ghost use Rattle.site_history.specs.Printed.{end_text, line};
+
+use crate::live::Live;
+use crate::reading::live_steps_of;
+use crate::step::LiveStep;
+use crate::timer::{SystemTimer, Timer};
+use bvll::Address;
+use console::{say_failed, say_refused};
+use npdu::Mac;
+use runner::{Runner, World};
+use site_history::{EndLine, Stop, counted, say_stop};
+use site_parts::Station;
+use site_text::site_of;
+use site_views::addresses;
+use std::alloc::{AllocError, Allocator, Global};
+use std::io;
+use std::io::Write;
+use std::net::Net;
+use std::time::Clock;
+use tags::{Fault, Items};
+use wire::{UdpWire, Wire};
+
+/// When a live run ends.
+#[derive(Clone, Copy, Debug, PartialEq, Eq)]
+pub enum Ending {
+    /// With its script.
+    WithScript,
+    /// So many seconds behind it.
+    After { seconds: u64 },
+    /// Where it is ended from outside.
+    Never,
+}
+
+/// How a site is run live.
+#[derive(Clone, Copy, Debug, PartialEq, Eq)]
+pub struct Settings {
+    /// Whether stations hear what nobody of the site sent.
+    pub is_open: bool,
+    pub ending: Ending,
+}
+
+/// A world as it opens, the steps that are to be taken in it, and the addresses of its stations. It is not dropped: its
+/// world is closed.
+pub struct Opened<A: Allocator + Copy> {
+    pub world: World<A>,
+    pub steps: Items<LiveStep<A>, A>,
+    pub addresses: Items<Address, A>,
+}
+
+impl<A: Allocator + Copy> Opened<A> {
+    /// Lets go of it.
+    fn close(self) {
+        let Opened {
+            world,
+            steps: _steps,
+            addresses: _addresses,
+        } = self;
+        world.close()
+    }
+}
+
+/// The world of a site and the steps of a script, as their texts describe them. The site is judged first.
+///
+/// # Errors
+/// `BadSite` for a text that describes no site; the first line that asks for nothing that a live run takes; or `Memory`.
+pub fn open<A: Allocator + Copy>(
+    reading: Global,
+    alloc: A,
+    site: &[u8],
+    script: &[u8],
+) -> Result<Opened<A>, Stop>
+    ensures opened { IfOk result (λ o. IsOpened site.now o.world) }
+    ensures said { IfOk result (λ o. SaysLive script.now o.steps) }
+    ensures sound { IfOk result (λ o. AllByRecursion IsSoundLiveStep o.steps) }
+{
+    let site = site_of(reading, alloc, site)?;
+    let addresses = addresses_of(alloc, site.stations())?;
+    let world = World::new(alloc, site)?;
+    match live_steps_of(alloc, script) {
+        Ok(steps) => Ok(Opened {
+            world,
+            steps,
+            addresses,
+        }),
+        Err(stop) => {
+            world.close();
+            Err(Stop::from(stop))
+        }
+    }
+}
+
+/// The addresses of stations on BACnet/IP, in their order.
+fn addresses_of<A: Allocator + Copy>(
+    alloc: A,
+    stations: &[Station<A>],
+) -> Result<Items<Address, A>, Fault> {
+    let mut all = Items::new(alloc);
+    for station in addresses(alloc, stations)?.into_vec() {
+        if let Mac::Six(octets) = station.mac {
+            all.push(Address::from_octets(&octets))?;
+        }
+    }
+    Ok(all)
+}
+
+/// Takes steps at a site live, over a wire, and prints on `out` each entry of its history, each stray that was heard,
+/// each refusal at its place, and at last what there was of all.
+///
+/// # Errors
+/// Those of writing and of the clock, and want of memory at the beginning.
+#[tactic(auto, using(crate::proofs::LiveLaws::run_laws))]
+pub fn run<W: Wire + Drop, T: Timer + Drop, A: Allocator + Copy, O: Write>(
+    alloc: A,
+    opened: Opened<A>,
+    settings: Settings,
+    wire: W,
+    timer: T,
+    out: &mut O,
+) -> io::Result<()>
+    requires sound { AllByRecursion IsSoundLiveStep opened.steps }
+    ensures { OnOk result (PrintsLiveRun settings.is_open opened.steps opened.world
+        (O.contents out.old) (O.contents out.new)) }
+{
+    let Opened {
+        world,
+        steps,
+        addresses: _addresses,
+    } = opened;
+    let mut live = Live::new(alloc, world, settings.is_open, wire, timer)?;
+    let printed = print_all(&mut live, steps, settings.ending, out);
+    live.close();
+    printed
+}
+
+/// Takes steps at a site that has just begun to live, and prints at last what there was of all.
+#[tactic(auto, using(crate::proofs::LiveLaws::run_laws))]
+fn print_all<W: Wire + Drop, T: Timer + Drop, A: Allocator + Copy, O: Write>(
+    live: &mut Live<W, T, A>,
+    steps: Items<LiveStep<A>, A>,
+    ending: Ending,
+    out: &mut O,
+) -> io::Result<()>
+    requires sound { AllByRecursion IsSoundLiveStep steps }
+    requires begins { live.old ≡ begun live.old.is_open live.old.world }
+    ensures { OnOk result (PrintsLiveRun live.old.is_open steps live.old.world
+        (O.contents out.old) (O.contents out.new)) }
+{
+    take_all(live, steps, ending, out)?;
+    print_end(live.runner(), out)
+}
+
+/// The first round, the steps of a script, and what comes behind them.
+fn take_all<W: Wire + Drop, T: Timer + Drop, A: Allocator + Copy, O: Write>(
+    live: &mut Live<W, T, A>,
+    steps: Items<LiveStep<A>, A>,
+    ending: Ending,
+    out: &mut O,
+) -> io::Result<()>
+    requires sound { AllByRecursion IsSoundLiveStep steps }
+    ensures lives { OnOk result (Lives (asked_of steps) live.old live.new (O.contents out.old) (O.contents out.new)) }
+    ensures events { OnOk result (AreEventsIfLed live.old live.new) }
+{
+    live.take_round(out)?;
+    take_steps(live, steps, out)?;
+    go_on(live, ending, out)
+}
+
+/// Takes steps in their order.
+#[tactic(auto, using(crate::proofs::LiveLaws::step_laws))]
+fn take_steps<W: Wire + Drop, T: Timer + Drop, A: Allocator + Copy, O: Write>(
+    live: &mut Live<W, T, A>,
+    steps: Items<LiveStep<A>, A>,
+    out: &mut O,
+) -> io::Result<()>
+    requires sound { AllByRecursion IsSoundLiveStep steps }
+    ensures { OnOk result (Lives (asked_of steps) live.old live.new (O.contents out.old) (O.contents out.new)) }
+{
+    for step in steps.into_vec() {
+        live.take_step(step, out)?;
+    }
+    Ok(())
+}
+
+/// Goes on behind the last step, for so long as is asked for.
+#[tactic(auto, using(crate::proofs::LiveLaws::live_laws))]
+fn go_on<W: Wire + Drop, T: Timer + Drop, A: Allocator + Copy, O: Write>(
+    live: &mut Live<W, T, A>,
+    ending: Ending,
+    out: &mut O,
+) -> io::Result<()>
+    ensures { OnOk result (Lives [] live.old live.new (O.contents out.old) (O.contents out.new)) }
+{
+    match ending {
+        Ending::WithScript => Ok(()),
+        Ending::After { seconds } => live.let_pass(seconds.saturating_mul(1000), out),
+        Ending::Never => live.let_pass(u64::MAX, out),
+    }
+}
+
+/// Prints what there was of all.
+fn print_end<A: Allocator + Copy, W: Write>(runner: &Runner<A>, out: &mut W) -> io::Result<()>
+    ensures printed { OnOk result (Appends (W.contents out.old) (W.contents out.new)
+        (line (end_text (counts_of runner.now.world.history) runner.now.world.moment))) }
+    ensures legal { IsLegalIfLed runner.now }
+{
+    let moment = runner.world().moment();
+    let counts = counted(runner.history());
+    writeln!(out, "{}", EndLine { counts, moment })
+}
+
+/// Runs a site live over UDP, with a script, as their texts describe them: a socket is opened for each address of the
+/// site (J.1.2). Answers the exit status: 0; or 1 for a text that is none and for an address that can't be opened,
+/// which is told on `err` and nothing runs then, for want of memory where it ends the program, and for a failed write.
+/// The document is read in memory of `reading`.
+pub fn run_over_udp<R: Net + Clock, A: Allocator + Copy, O: Write, E: Write>(
+    rt: &R,
+    reading: Global,
+    alloc: A,
+    site: &[u8],
+    script: &[u8],
+    settings: Settings,
+    out: &mut O,
+    err: &mut E,
+) -> u8
+    ensures status { result ≤ 1 }
+    ensures runs { result ≡ 0
+        → RunsLive A settings.is_open site.now script.now (O.contents out.old) (O.contents out.new) }
+{
+    match open(reading, alloc, site, script) {
+        Ok(opened) => run_opened(rt, alloc, opened, settings, out, err),
+        Err(stop) => say_stop(stop, err),
+    }
+}
+
+/// The wire of UDP of a site, and the clock of the system, from now on.
+fn wire_of<'a, R: Net + Clock, A: Allocator + Copy>(
+    rt: &'a R,
+    alloc: A,
+    addresses: &[Address],
+) -> Result<(UdpWire<A>, SystemTimer<'a, R>), Fault> {
+    let wire = UdpWire::new(rt, alloc, addresses)?;
+    match SystemTimer::new(rt) {
+        Ok(timer) => Ok((wire, timer)),
+        Err(_) => Err(Fault::Wire),
+    }
+}
+
+/// Runs what was opened, and answers the exit status.
+fn run_opened<R: Net + Clock, A: Allocator + Copy, O: Write, E: Write>(
+    rt: &R,
+    alloc: A,
+    opened: Opened<A>,
+    settings: Settings,
+    out: &mut O,
+    err: &mut E,
+) -> u8
+    requires sound { AllByRecursion IsSoundLiveStep opened.steps }
+    ensures status { result ≤ 1 }
+    ensures runs { result ≡ 0
+        → PrintsLiveRun settings.is_open opened.steps opened.world (O.contents out.old) (O.contents out.new) }
+{
+    match wire_of(rt, alloc, opened.addresses.as_slice()) {
+        Ok((wire, timer)) => match run(alloc, opened, settings, wire, timer, out) {
+            Ok(()) => 0,
+            Err(error) => say_failed(&error, err),
+        },
+        Err(fault) => {
+            opened.close();
+            say_refused(fault, err)
+        }
+    }
+}

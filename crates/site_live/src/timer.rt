@@ -1,0 +1,45 @@
+//! What tells a live run the time.
+
+use std::time::{Clock, Duration, Instant};
+use std::{io, thread};
+
+/// What tells a live run how much time has passed, and lets it rest.
+pub trait Timer {
+    /// The milliseconds that have passed since it was made.
+    ///
+    /// # Errors
+    /// Those of the clock.
+    fn elapsed(&mut self) -> io::Result<u64>;
+
+    /// Lets a millisecond pass.
+    fn rest(&mut self);
+}
+
+/// The clock of the system, from a moment on.
+#[derive(Drop)]
+pub struct SystemTimer<'a, R: Clock> {
+    clock: &'a R,
+    start: Instant,
+}
+
+impl<'a, R: Clock> SystemTimer<'a, R> {
+    /// The clock from now on.
+    ///
+    /// # Errors
+    /// Those of the clock.
+    pub fn new(clock: &'a R) -> io::Result<Self> {
+        let start = Instant::now(clock)?;
+        Ok(SystemTimer { clock, start })
+    }
+}
+
+impl<R: Clock> Timer for SystemTimer<'_, R> {
+    fn elapsed(&mut self) -> io::Result<u64> {
+        let passed = self.start.elapsed(self.clock)?;
+        Ok(u64::try_from(passed.as_millis()).unwrap_or(u64::MAX))
+    }
+
+    fn rest(&mut self) {
+        thread::sleep(self.clock, Duration::from_millis(1));
+    }
+}

@@ -1,0 +1,90 @@
+//! What is printed of a turn.
+
+ghost use Rattle.std.specs.Prelude.{◌≡◌, ◌++◌, OnOk, drop};
+ghost use Rattle.std.specs.Io.KnownBytes.{Appends};
+ghost use Rattle.site_live.specs.Printed.{answer_text, stray_text, turn_text};
+ghost use Rattle.site_history.specs.Printed.{entries_text};
+
+use runner::{Runner, Turned, WorldEntry};
+use site_history::{print_entries, print_refusal};
+use site_parts::Station;
+use std::alloc::Allocator;
+use std::io;
+use std::io::Write;
+use tags::Fault;
+
+/// Prints what came of a turn, before which the history had so many entries: that a stray was heard, what is new in the
+/// history, and the turn's refusal.
+///
+/// # Errors
+/// Those of writing.
+#[tactic(auto, using(crate::proofs::PrintLaws::turn_laws))]
+pub(crate) fn print_turn<A: Allocator + Copy, W: Write>(
+    runner: &Runner<A>,
+    entries: usize,
+    answer: Result<Turned, Fault>,
+    out: &mut W,
+) -> io::Result<()>
+    ensures { OnOk result (Appends (W.contents out.old) (W.contents out.new) (turn_text answer entries runner.now)) }
+{
+    let world = runner.world();
+    print_told(
+        world.site().stations(),
+        runner.strayed(),
+        behind(runner.history(), entries),
+        answer,
+        world.moment(),
+        out,
+    )
+}
+
+/// Prints the lines of a turn, each on its way out then.
+fn print_told<A: Allocator, W: Write>(
+    stations: &[Station<A>],
+    strayed: bool,
+    entries: &[WorldEntry<A>],
+    answer: Result<Turned, Fault>,
+    moment: u64,
+    out: &mut W,
+) -> io::Result<()>
+    ensures { OnOk result (Appends (W.contents out.old) (W.contents out.new) (stray_text strayed moment
+        ++ (entries_text stations.now entries.now ++ answer_text answer moment))) }
+{
+    print_stray(strayed, moment, out)?;
+    print_entries(stations, entries, out)?;
+    print_answer(answer, moment, out)?;
+    out.flush()
+}
+
+/// Prints that a stray was heard, if one was.
+#[tactic(auto, using(crate::proofs::PrintLaws::none_laws))]
+fn print_stray<W: Write>(strayed: bool, moment: u64, out: &mut W) -> io::Result<()>
+    ensures { OnOk result (Appends (W.contents out.old) (W.contents out.new) (stray_text strayed moment)) }
+{
+    if strayed {
+        writeln!(out, "{moment} stray")
+    } else {
+        Ok(())
+    }
+}
+
+/// Prints that a turn was refused, if it was.
+#[tactic(auto, using(crate::proofs::PrintLaws::none_laws))]
+fn print_answer<W: Write>(answer: Result<Turned, Fault>, moment: u64, out: &mut W) -> io::Result<()>
+    ensures { OnOk result (Appends (W.contents out.old) (W.contents out.new) (answer_text answer moment)) }
+{
+    match answer {
+        Ok(_) => Ok(()),
+        Err(fault) => print_refusal(fault, moment, out),
+    }
+}
+
+/// What stands behind so many entries.
+fn behind<A: Allocator>(all: &[WorldEntry<A>], count: usize) -> &[WorldEntry<A>]
+    ensures { result.now ≡ drop count all.now }
+{
+    match all.get(count..) {
+        Some(rest) => rest,
+        None => &[],
+    }
+}
