@@ -9,7 +9,6 @@
 //! - `managers`: what a broadcast manager forwards.
 //! - `remembered_answers`: finding and executing, with 1, 8 and 64 remembered answers.
 //! - `sites`: judging a large site.
-//! - `worlds`: events of a world.
 #![tactic(auto)]
 
 mod clock;
@@ -18,7 +17,6 @@ mod frames;
 mod managers;
 mod remembered_answers;
 mod sites;
-mod worlds;
 
 use std::{env, io};
 
@@ -32,6 +30,5 @@ fn main(rt: HostRuntime) -> io::Result<()> {
     frames::run(&rt, has_times)?;
     managers::run(&rt, has_times)?;
     devices::run(&rt, has_times)?;
-    sites::run(&rt, has_times)?;
-    worlds::run(&rt, has_times)
+    sites::run(&rt, has_times)
 }

@@ -2,9 +2,9 @@
 //! lines on standard output and, behind `!`, on standard error, parted by ` / `. `3E*700` stands for as many
 //! words, and a line with such a count for as many lines.
 
-use crate::said::{Said, octets_of, words_of};
+use crate::said::octets_of;
 use console::{answer_line, explain_line};
-use sheets::{Counts, Given, Stop, Trial, change_octets, differs, try_row};
+use sheets::{Counts, Given, Said, Stop, Trial, change_octets, differs, try_row, words_of};
 use std::alloc::{AllocError, Allocator, Global};
 
 /// What a tool prints on standard error where it is refused memory.

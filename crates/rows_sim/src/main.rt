@@ -6,12 +6,17 @@
 //! - `blocks`: sites, scripts and texts that rows describe.
 //! - `repeated`: words that stand for many.
 //! - `runs`: what is printed of a script, also where an allocation is refused.
+//! - `memory`: events that are refused memory, one allocation after another, and happen then; `strays`: datagrams that
+//!   nobody of a site sent; `worlds`: worlds and their steps.
 #![tactic(auto)]
 
 mod blocks;
 mod examples;
+mod memory;
 mod repeated;
 mod runs;
+mod strays;
+mod worlds;
 
 use sheets::{Bench, Counts, Given, Part, Report, Row, Stop, two_words};
 use std::alloc::AllocError;
@@ -43,6 +48,7 @@ fn run_row(given: Given<'_>, rows: &[Row<'_>], row: &Row<'_>) -> Result<Counts, 
     match word {
         "sim" => runs::run_plain(given, rows, words, wanted),
         "trace" => runs::run_traced(given, rows, words, wanted),
+        "once" => runs::run_once(given, rows, words, wanted),
         "item" => runs::run_item(given, rows, words, wanted),
         _ => Err(Stop::Unread(Part::Asked)),
     }
@@ -50,5 +56,7 @@ fn run_row(given: Given<'_>, rows: &[Row<'_>], row: &Row<'_>) -> Result<Counts, 
 
 fn main(rt: HostRuntime) -> io::Result<()> {
     sheets::run_files::<Sim>(&rt)?;
-    examples::run_examples(&rt)
+    examples::run_examples(&rt)?;
+    memory::run_file(&rt)?;
+    strays::run_file(&rt)
 }

@@ -1,5 +1,6 @@
-//! Words that stand for many: `each 0..63 deliver {}` for 64 lines, `<128*41>` for the same 128 times in a line, and
-//! `(1..14* 40:{} 85)` for the same with a number in each. What stands between `<` and `>` is repeated first.
+//! Words that stand for many: `each 0..63 deliver {}` for 64 lines, `each 1..3 tick 20 ; wake r` for six, `<128*41>` for
+//! the same 128 times in a line, and `(1..14* 40:{} 85)` for the same with a number in each. What stands between `<` and
+//! `>` is repeated first.
 
 use sheets::{Part, Stop, first_and_last, number};
 use std::alloc::Global;
@@ -17,8 +18,16 @@ pub(crate) fn push_repeated(alloc: Global, line: &str, out: &mut String) -> Resu
     };
     let (first, last) = first_and_last(range)?;
     for n in first..=last {
-        let line = numbered(alloc, words, n)?;
-        push_line(alloc, line.as_str(), out)?;
+        let lines = numbered(alloc, words, n)?;
+        push_lines(alloc, lines.as_str(), out)?;
+    }
+    Ok(())
+}
+
+/// Appends lines that ` ; ` parts, each with its end.
+fn push_lines(alloc: Global, lines: &str, out: &mut String) -> Result<(), Stop> {
+    for line in lines.split(" ; ") {
+        push_line(alloc, line, out)?;
     }
     Ok(())
 }

@@ -1,5 +1,6 @@
-//! What is printed of a script: `sim SITE SCRIPT ..`, `trace SITE SCRIPT ..` with the items, and `item K SITE SCRIPT ..`
-//! for the octets of an item alone, which are wanted whole, or their beginning with `..` behind it.
+//! What is printed of a script: `sim SITE SCRIPT ..`, `trace SITE SCRIPT ..` with the items, `once SITE SCRIPT ..` for a
+//! long one, which runs with ample memory alone, and `item K SITE SCRIPT ..` for the octets of an item alone, which are
+//! wanted whole, or their beginning with `..` behind it.
 //!
 //! What is wanted of a run that prints is the name of a `prints` block. What is told on the standard error is wanted as
 //! it stands behind `! `, and the exit status is 1 then.
@@ -44,6 +45,30 @@ pub(crate) fn run_traced(
     wanted: &str,
 ) -> Result<Counts, Stop> {
     run_texts(given, rows, words, wanted, true)
+}
+
+/// Runs a row that wants what is printed, and refuses no allocation.
+pub(crate) fn run_once(
+    given: Given<'_>,
+    rows: &[Row<'_>],
+    words: &str,
+    wanted: &str,
+) -> Result<Counts, Stop> {
+    let (site, scripts) = two_words(words);
+    let site = blocks(given.alloc, rows, Kind::Site, site)?;
+    let script = blocks(given.alloc, rows, Kind::Script, scripts)?;
+    let wanted = text_wanted(given.alloc, rows, wanted)?;
+    let run = Run {
+        site: site.as_str(),
+        script: script.as_str(),
+        is_traced: false,
+    };
+    compare(printed(given.alloc, given.memory, run)?, wanted.as_str())?;
+    Ok(Counts {
+        rows: 1,
+        refused: 0,
+        changed: 0,
+    })
 }
 
 fn run_texts(

@@ -2,10 +2,13 @@
 
 use crate::given::Given;
 use crate::report::Report;
-use crate::row::{Row, names, rows};
+use crate::row::{Row, names, names_in, rows};
 use refusing::Refusing;
 use std::alloc::{AllocError, Global};
 use std::{fs, io};
+
+/// How the names of files with rows end.
+const SUFFIX: &str = ".txt";
 
 /// What a program runs rows on.
 pub trait Bench {
@@ -27,16 +30,41 @@ pub trait Bench {
 /// # Errors
 /// Those of reading and of printing, and want of memory.
 pub fn run_files<B: Bench>(rt: &HostRuntime) -> io::Result<()> {
-    for name in names(rt)?.as_slice() {
-        let text = fs::read_to_string(rt, name.as_str())?;
-        let said = run_file::<B>(rt.alloc(), name.as_str(), text.as_str())?;
-        rt.print(said.as_str())?;
+    for name in names(rt, SUFFIX)?.as_slice() {
+        let name = format!(in rt.alloc(); "{name}{SUFFIX}")?;
+        run_sheet::<B>(rt, name.as_str(), name.as_str())?;
     }
     Ok(())
 }
 
-/// Runs the rows of a file, and answers what is printed of it.
-fn run_file<B: Bench>(alloc: Global, name: &str, text: &str) -> Result<String, AllocError> {
+/// Runs the rows of each file of a folder where the program runs, and prints the same of them, the folder before each
+/// name.
+///
+/// # Errors
+/// Those of reading and of printing, and want of memory.
+pub fn run_folder<B: Bench>(rt: &HostRuntime, folder: &str) -> io::Result<()> {
+    for name in names_in(rt, folder, SUFFIX)?.as_slice() {
+        let name = format!(in rt.alloc(); "{name}{SUFFIX}")?;
+        let path = format!(in rt.alloc(); "{folder}/{name}")?;
+        run_sheet::<B>(rt, path.as_str(), name.as_str())?;
+    }
+    Ok(())
+}
+
+/// Runs the rows of the file at a path, of this name, and prints what comes of them.
+fn run_sheet<B: Bench>(rt: &HostRuntime, path: &str, name: &str) -> io::Result<()> {
+    let text = fs::read_to_string(rt, path)?;
+    let said = said_of::<B>(rt.alloc(), path, name, text.as_str())?;
+    rt.print(said.as_str())
+}
+
+/// Runs the rows of a file at a path, of this name, and answers what is printed of it.
+fn said_of<B: Bench>(
+    alloc: Global,
+    path: &str,
+    name: &str,
+    text: &str,
+) -> Result<String, AllocError> {
     let memory = Refusing::new(alloc);
     let other = Refusing::new(alloc);
     let given = Given {
@@ -44,7 +72,7 @@ fn run_file<B: Bench>(alloc: Global, name: &str, text: &str) -> Result<String, A
         memory: &memory,
         other: &other,
     };
-    let mut report = Report::new(alloc, name);
+    let mut report = Report::new(alloc, path);
     B::run(given, name, rows(alloc, text)?.as_slice(), &mut report)?;
     report.text()
 }

@@ -1,11 +1,8 @@
-//! The files with rows where a program runs, and the rows of a file.
+//! The names of files where a program runs, and the rows of a file.
 
 use crate::stop::{Part, Stop};
 use std::alloc::{AllocError, Global};
 use std::{fs, io};
-
-/// How the names of files with rows end.
-const SUFFIX: &str = ".txt";
 
 /// What parts that which is asked from that which is wanted.
 const ARROW: &str = " -> ";
@@ -34,16 +31,24 @@ impl<'a> Row<'a> {
     }
 }
 
-/// The names of the files with rows where the program runs, in order.
+/// What stands before this end in the names of files where the program runs, in order.
 ///
 /// # Errors
 /// Those of reading a folder, and want of memory.
-pub fn names(rt: &HostRuntime) -> io::Result<Vec<String>> {
+pub fn names(rt: &HostRuntime, end: &str) -> io::Result<Vec<String>> {
+    names_in(rt, ".", end)
+}
+
+/// The same of the files of a folder.
+///
+/// # Errors
+/// Those of reading a folder, and want of memory.
+pub fn names_in(rt: &HostRuntime, folder: &str, end: &str) -> io::Result<Vec<String>> {
     let mut names = Vec::new(rt.alloc());
-    for entry in fs::read_dir(rt, ".")? {
+    for entry in fs::read_dir(rt, folder)? {
         let entry = entry?;
-        if entry.file_name().ends_with(SUFFIX) {
-            names.push(String::from_str(rt.alloc(), entry.file_name())?)?;
+        if let Some(name) = entry.file_name().strip_suffix(end) {
+            names.push(String::from_str(rt.alloc(), name)?)?;
         }
     }
     names.sort()?;

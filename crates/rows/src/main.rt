@@ -1,0 +1,17 @@
+//! The program `rows`: it runs the sheets of rows in its `data/`, a folder for each of the libraries `rows_..`, and prints
+//! a line for each row that differs and one with the counts of each sheet. That they stand in one program spares the gate
+//! a build by each of two compilers for every library.
+#![tactic(auto)]
+
+use sheets::run_folder;
+use std::io;
+
+fn main(rt: HostRuntime) -> io::Result<()> {
+    run_folder::<rows_octets::Spelled>(&rt, "octets")?;
+    run_folder::<rows_services::Services>(&rt, "services")?;
+    run_folder::<rows_objects::Objects>(&rt, "objects")?;
+    run_folder::<rows_buses::BusRows>(&rt, "buses")?;
+    run_folder::<rows_site::Sites>(&rt, "site")?;
+    run_folder::<rows_site_text::Texts>(&rt, "site_text")?;
+    run_folder::<rows_check::Checks>(&rt, "check")
+}
