@@ -1,5 +1,6 @@
 pub mod NotWire
 pub mod LedRules
 pub mod SeekingLaws
+pub mod SenderLaws
 pub mod StrayLaws
 pub mod TurnLaws

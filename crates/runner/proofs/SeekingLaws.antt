@@ -1,7 +1,8 @@
 -- The last item that a datagram is.
 use Rattle.std.proofs.Common.{◌≡◌, inl, inr, refl, ap, ℕ, zero, suc, ◌+◌, ◌<◌, true, false, List, [], ◌∷◌, ◌++◌, length, get_or, drop, take, arith}
 use Rattle.traffic.specs.declared.item.Item.{Item}
-use Rattle.runner.specs.Seeking.{AreOthers, EndsLate, IsLastMatch, IsMatch, IsStray, is_recent}
+use Rattle.runner.specs.Seeking.{AreOthers, EndsLate, IsLastMatch, IsMatch, HasNoMatch, IsStray, is_recent}
+use Rattle.senders.specs.Senders as senders
 use Rattle.wire.specs.Datagrams.{Datagram}
 
 module _ {A : Type 0} (now : ℕ) (d : Datagram) where
@@ -59,8 +60,28 @@ module _ {A : Type 0} (now : ℕ) (d : Datagram) where
   halves (i ∷ is) zero = refl
   halves (i ∷ is) (suc n) = ap (λ (l : List (Item A)). i ∷ l) (halves is n)
 
+  -- others are no matches
+  others_are_none : (items : List (Item A)) → AreOthers now d items → HasNoMatch now d items
+  others_are_none [] others = tt
+  others_are_none (i ∷ is) others = (others.0.other, others_are_none is (others.1))
+
+  -- items of other senders aren't either
+  no_sender : (items : List (Item A)) → senders.AreOthers d.from (senders.senders_of items) → HasNoMatch now d items
+  no_sender [] others = tt
+  no_sender (i ∷ is) others = (λ same. others.0 same.from, no_sender is (others.1))
+
+  pub from_nobody : (items : List (Item A)) → senders.AreOthers d.from (senders.senders_of items) → IsStray now d items
+  from_nobody items others =
+      record { older = []; recent = items; parts = refl; none = no_sender items others; rest = inl refl }
+
   pub none_before : (items : List (Item A)) → AreOthers now d (drop 0 items) → IsStray now d items
-  none_before items others = record { older = []; recent = items; parts = refl; others = others; rest = inl refl }
+  none_before items others = record {
+    older = [];
+    recent = items;
+    parts = refl;
+    none = others_are_none items others;
+    rest = inl refl;
+  }
 
   pub late_before : (items : List (Item A)) (number : ℕ) (e : Item A) → number < length items →
       is_recent now (get_or items number e) ≡ false → AreOthers now d (drop (suc number) items) → IsStray now d items
@@ -68,6 +89,8 @@ module _ {A : Type 0} (now : ℕ) (d : Datagram) where
     older = take (suc number) items;
     recent = drop (suc number) items;
     parts = halves items (suc number);
-    others = others;
+    none = others_are_none (drop (suc number) items) others;
     rest = inr (ends_late items number e below late);
   }
+
+pub ruleset seek_rules = (none_before, from_nobody)

@@ -36,6 +36,10 @@ pub record IsLastMatch {A : Type 0} (now : ℕ) (d : Datagram) (items : List (It
   pub same : IsMatch now d item
   pub others : AreOthers now d later
 
+-- none of these items is the datagram
+abbrev pub HasNoMatch : {A : Type 0} → (now : ℕ) → Datagram → List (Item A) → Type 0
+HasNoMatch now d items = AllByRecursion (λ i. IsMatch now d i → ⊥) items
+
 -- items end with one that isn't recent
 pub record EndsLate {A : Type 0} (now : ℕ) (items : List (Item A)) : Type 0 where
   pub before : List (Item A)
@@ -43,11 +47,11 @@ pub record EndsLate {A : Type 0} (now : ℕ) (items : List (Item A)) : Type 0 wh
   pub parts : items ≡ before ++ item ∷ []
   pub late : is_recent now item ≡ false
 
--- nobody of the site sent a datagram: each item is another, of those behind the last that isn't recent (they stand in the
--- order in which they were put out)
+-- nobody of the site sent a datagram: no item is it, of those behind one that isn't recent (they stand in the order in
+-- which they were put out)
 pub record IsStray {A : Type 0} (now : ℕ) (d : Datagram) (items : List (Item A)) : Type 0 where
   pub older : List (Item A)
   pub recent : List (Item A)
   pub parts : items ≡ older ++ recent
-  pub others : AreOthers now d recent
+  pub none : HasNoMatch now d recent
   pub rest : (older ≡ []) ⊎ EndsLate now older

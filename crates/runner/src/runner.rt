@@ -4,6 +4,7 @@ use crate::seeking::last_match;
 use crate::sending::{behind, send_all};
 use crate::straying::take_stray;
 use crate::turned::Turned;
+use senders::Senders;
 use simulator::{Event, Internetwork, World, WorldEntry};
 use std::alloc::Allocator;
 use std::marker::Model;
@@ -16,6 +17,8 @@ use wire::{Got, Wire};
 #[derive(Drop)]
 pub struct Runner<A: Allocator + Copy> {
     world: Internetwork<A>,
+    /// Who sent the items of the world, as far as it was seen: a stranger's datagram isn't sought among them.
+    senders: Senders<A>,
     is_open: bool,
     strayed: bool,
     is_led: bool,
@@ -24,13 +27,14 @@ pub struct Runner<A: Allocator + Copy> {
 impl<A: Allocator + Copy> Model for Runner<A> {
     ghost use Rattle.std.specs.Prelude.{◌≡◌, true};
     ghost use Rattle.runner.specs.Runner.{RunnerState};
+    ghost use Rattle.senders.specs.Senders.{AreKnown, senders_of};
     ghost use Rattle.simulator.specs.Laws.{IsLed};
 
     ghost Value = { RunnerState A };
 
     ghost view = { λ r. record { world = r.world; is_open = r.is_open; strayed = r.strayed; is_led = r.is_led } };
 
-    ghost invariant = { λ r. r.is_led ≡ true → IsLed r.world };
+    ghost invariant = { λ r. (r.is_led ≡ true → IsLed r.world) × AreKnown r.senders (senders_of r.world.items) };
 }
 
 impl<A: Allocator + Copy> Runner<A> {
@@ -49,11 +53,15 @@ impl<A: Allocator + Copy> Runner<A> {
     ghost use Rattle.wire.specs.Datagrams.{datagram_of};
 
     /// A world at a wire. An open runner lets a station hear what comes to its address and nobody of the site sent.
+    #[tactic(auto, using(crate::proofs::SenderLaws::none_seen))]
     pub fn new(world: World<A>, is_open: bool) -> Self
         ensures { result ≡ record { world = world; is_open = is_open; strayed = false; is_led = true } }
     {
+        let world = world.into_internetwork();
+        let senders = Senders::new(world.alloc());
         Runner {
-            world: world.into_internetwork(),
+            world,
+            senders,
             is_open,
             strayed: false,
             is_led: true,
@@ -168,7 +176,7 @@ impl<A: Allocator + Copy> Runner<A> {
     }
 
     /// An event happens, or is refused.
-    #[tactic(auto, using(crate::proofs::LedRules::make_rules))]
+    #[tactic(auto, using(crate::proofs::LedRules::make_rules, crate::proofs::SenderLaws::known_after))]
     fn make(&mut self, event: &Event<A>) -> Result<(), Fault>
         requires sound { IsSoundEvent event.now }
         requires strayed { self.old.strayed ≡ false }
@@ -177,7 +185,13 @@ impl<A: Allocator + Copy> Runner<A> {
         ensures own { IfErr result (λ fault. fault ≢ Fault.Wire) }
         ensures unchanged { OnErr result (self.new ≡ self.old) }
     {
-        self.world.step(event)
+        match self.world.step(event) {
+            Ok(()) => {
+                self.senders.see(self.world.items());
+                Ok(())
+            }
+            Err(fault) => Err(fault),
+        }
     }
 
     /// What the wire brought is answered, if anything came.
@@ -194,13 +208,18 @@ impl<A: Allocator + Copy> Runner<A> {
         }
     }
 
-    /// The number of the item that a datagram is.
+    /// The number of the item that a datagram is. A stranger's is none, whatever it says.
+    #[tactic(auto, using(crate::proofs::SeekingLaws::seek_rules))]
     fn sought(&self, got: &Got<'_>) -> Option<usize>
         ensures is { IfSome result
             (IsLastMatch self.now.world.moment (datagram_of got.now) self.now.world.items) }
         ensures stray { IfNone result (IsStray self.now.world.moment (datagram_of got.now) self.now.world.items) }
     {
-        last_match(self.world.items(), got, self.world.moment())
+        let items = self.world.items();
+        if self.senders.is_stranger(items, got.from) {
+            return None;
+        }
+        last_match(items, got, self.world.moment())
     }
 
     /// A datagram came.
@@ -233,7 +252,7 @@ impl<A: Allocator + Copy> Runner<A> {
     }
 
     /// A datagram that nobody of the site sent is heard by its station.
-    #[tactic(auto, using(crate::proofs::NotWire::own_rules))]
+    #[tactic(auto, using(crate::proofs::NotWire::own_rules, crate::proofs::SenderLaws::known_after_stray))]
     fn take(&mut self, got: &Got<'_>) -> Result<(), Fault>
         ensures takes { OnOk result (TakesStray (datagram_of got.now) self.old.world self.new.world) }
         ensures strayed { OnOk result
@@ -243,6 +262,7 @@ impl<A: Allocator + Copy> Runner<A> {
         ensures unchanged { OnErr result (self.new ≡ self.old) }
     {
         take_stray(&mut self.world, got)?;
+        self.senders.see(self.world.items());
         self.strayed = true;
         self.is_led = false;
         Ok(())

@@ -1,6 +1,6 @@
 //! Which item a datagram is.
 
-ghost use Rattle.std.specs.Prelude.{◌≡◌, ◌↔◌, IfSome, IfNone, IsTrue};
+ghost use Rattle.std.specs.Prelude.{◌↔◌, IfSome, IfNone, IsTrue};
 ghost use Rattle.runner.specs.Seeking.{IsLastMatch, IsMatch, IsStray};
 ghost use Rattle.wire.specs.Datagrams.{datagram_of};
 

@@ -1,6 +1,6 @@
 //! All that was put out is sent.
 
-ghost use Rattle.std.specs.Prelude.{◌≡◌, ◌≤◌, ◌-◌, ◌^◌, IfErr, OnOk, OnErr, drop, length};
+ghost use Rattle.std.specs.Prelude.{◌≡◌, ◌-◌, IfErr, OnOk, OnErr, length};
 ghost use Rattle.wire.specs.Counts.{IsRisen, raised};
 
 use std::alloc::Allocator;

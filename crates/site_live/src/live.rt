@@ -1,6 +1,6 @@
 //! A live run, round by round.
 
-ghost use Rattle.std.specs.Prelude.{◌≡◌, ◌≤◌, OnOk, length};
+ghost use Rattle.std.specs.Prelude.{◌≡◌, OnOk};
 ghost use Rattle.runner.specs.internetwork.Step.{IsSoundIfAny};
 
 use crate::step::LiveStep;
@@ -71,7 +71,7 @@ impl<W: Wire + Drop, T: Timer + Drop, A: Allocator + Copy> Live<W, T, A> {
     ghost use Rattle.std.specs.Prelude.{◌≡◌, ◌<◌, [], true, false, IfOk, OnOk};
     ghost use Rattle.frame_hearing.specs.Hearing.{left_to_hear};
     ghost use Rattle.runner.specs.Runner.{RunnerState};
-    ghost use Rattle.site_live.specs.Running.{AreEventsIfLed, Lives};
+    ghost use Rattle.site_live.specs.Running.{Lives};
     ghost use Rattle.site_live.specs.Steps.{IsSoundLiveStep, asked_at, asked_in};
 
     /// A world at a wire, which is open or not. The clock begins with it.

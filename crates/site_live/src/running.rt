@@ -1,9 +1,8 @@
 //! A site and a script, from their texts to what is printed of a live run, and the exit status.
 
-ghost use Rattle.std.specs.Prelude.{◌≡◌, ◌≤◌, [], true, false, IfOk, OnOk};
+ghost use Rattle.std.specs.Prelude.{◌≡◌, ◌≤◌, [], IfOk, OnOk};
 ghost use Rattle.std.specs.Io.KnownBytes.{Appends};
 ghost use Rattle.std.specs.List.{AllByRecursion};
-ghost use Rattle.runner.specs.Runner.{RunnerState};
 ghost use Rattle.site_live.specs.Running.{AreEventsIfLed, Lives};
 ghost use Rattle.site_live.specs.Runs.{IsLegalIfLed, IsOpened, PrintsLiveRun, RunsLive, begun};
 ghost use Rattle.site_live.specs.Steps.{IsSoundLiveStep, SaysLive, asked_of};
@@ -22,7 +21,7 @@ use site_history::{EndLine, Stop, counted, say_stop};
 use site_parts::Station;
 use site_text::site_of;
 use site_views::addresses;
-use std::alloc::{AllocError, Allocator, Global};
+use std::alloc::{Allocator, Global};
 use std::io;
 use std::io::Write;
 use std::net::Net;

@@ -8,4 +8,4 @@ use Rattle.simulator.specs.Laws.{IsLed}
 pub returns-clause-legal : goal.returns-clause-legal
 returns-clause-legal g c =
     led_is_legal c.args.self.now c.history.result.now (search rules)
-    (subst (λ (r : RunnerState _). r.is_led ≡ true → IsLed r.world) c.self.view_is c.self.invariant)
+    (subst (λ (r : RunnerState _). r.is_led ≡ true → IsLed r.world) c.self.view_is (c.self.invariant.0))
