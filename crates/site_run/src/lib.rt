@@ -13,5 +13,5 @@
 mod running;
 mod simulating;
 
-pub use running::Telling;
-pub use simulating::{simulate, simulate_traced};
+pub use running::{Telling, make, take_steps};
+pub use simulating::{Opened, open, print_end, simulate, simulate_traced};

@@ -15,7 +15,7 @@ use site_trace::{print_frames, print_items};
 use std::alloc::Allocator;
 use std::io;
 use std::io::Write;
-use tags::{Fault, Items};
+use tags::Items;
 
 /// What is told of an event.
 #[derive(Clone, Copy, Debug, PartialEq, Eq)]
@@ -31,7 +31,7 @@ pub enum Telling {
 /// # Errors
 /// Those of writing.
 #[tactic(auto, using(crate::proofs::RunLaws::run_rules))]
-pub(crate) fn take_steps<A: Allocator + Copy, W: Write>(
+pub fn take_steps<A: Allocator + Copy, W: Write>(
     world: &mut World<A>,
     steps: Items<Step<A>, A>,
     telling: Telling,
@@ -136,7 +136,10 @@ fn make_all<A: Allocator + Copy, W: Write>(
 }
 
 /// Makes an event, and prints what comes of it.
-fn make<A: Allocator + Copy, W: Write>(
+///
+/// # Errors
+/// Those of writing.
+pub fn make<A: Allocator + Copy, W: Write>(
     world: &mut World<A>,
     event: &Event<A>,
     telling: Telling,

@@ -78,13 +78,16 @@ fn simulation<A: Allocator + Copy, W: Write, E: Write>(
 }
 
 /// A world as it opens, and the steps that are to be taken in it. It is not dropped: its world is closed.
-struct Opened<A: Allocator + Copy> {
-    world: World<A>,
-    steps: Items<Step<A>, A>,
+pub struct Opened<A: Allocator + Copy> {
+    pub world: World<A>,
+    pub steps: Items<Step<A>, A>,
 }
 
 /// The world of a site and the steps of a script, as their texts describe them. The site is judged first.
-fn open<A: Allocator + Copy>(
+///
+/// # Errors
+/// `BadSite` for a text that describes no site; the first line that asks for no step; or `Memory`.
+pub fn open<A: Allocator + Copy>(
     reading: Global,
     alloc: A,
     site: &[u8],
@@ -152,7 +155,10 @@ fn print_all<A: Allocator + Copy, W: Write>(
 }
 
 /// Prints what there was of all.
-fn print_end<A: Allocator + Copy, W: Write>(world: &World<A>, out: &mut W) -> io::Result<()>
+///
+/// # Errors
+/// Those of writing.
+pub fn print_end<A: Allocator + Copy, W: Write>(world: &World<A>, out: &mut W) -> io::Result<()>
     ensures printed { OnOk result (Appends (W.contents out.old) (W.contents out.new)
         (line (end_text (counts_of world.now.history) world.now.moment))) }
     ensures legal { IsLegal (object_site world.now.site) world.now.history (devices_of world.now.stations) }
