@@ -1,6 +1,6 @@
 //! `bacsite explain`: one datagram taken apart, header by header and tag by tag.
 
-ghost use Rattle.std.specs.Prelude.{◌≡◌, ◌≤◌, None, IfOk, OnOk, map, string_bytes};
+ghost use Rattle.std.specs.Prelude.{◌≡◌, ◌≤◌, true, false, None, IfOk, OnOk, map, string_bytes};
 ghost use Rattle.bvll.specs.Datagram.{datagram_of};
 ghost use Rattle.npdu.specs.Header.{header_of};
 ghost use Rattle.apdu.specs.Apdu.{apdu_of};
@@ -78,13 +78,49 @@ fn explain<A: Allocator + Copy, W: Write, E: Write>(
         writeln!(err, "bacsite: hex")?;
         return Ok(1);
     };
-    match print_datagram(datagram.as_slice(), out) {
-        Ok(()) => Ok(0),
-        Err(Stop::Refused(fault)) => {
+    let is_whole = explain_datagram(datagram.as_slice(), out)?;
+    Ok(if is_whole { 0 } else { 1 })
+}
+
+/// Prints the fields and tags of a datagram of BACnet/IP (J.2), each on a line of its own, and last the refusal where
+/// there is one. Answers whether there is none.
+///
+/// # Errors
+/// Those of writing.
+pub fn explain_datagram<W: Write>(octets: &[u8], out: &mut W) -> io::Result<bool>
+    ensures { IfOk result (λ is_whole. is_whole ≡ true
+        → ExplainsDatagram octets.now (W.contents out.old) (W.contents out.new)) }
+{
+    match print_datagram(octets, out) {
+        Ok(()) => Ok(true),
+        Err(stop) => say_stop(stop, out),
+    }
+}
+
+/// Prints the fields and tags of an NPDU (6.2) in the same way.
+///
+/// # Errors
+/// Those of writing.
+pub fn explain_npdu<W: Write>(octets: &[u8], out: &mut W) -> io::Result<bool>
+    ensures { IfOk result (λ is_whole. is_whole ≡ true
+        → ExplainsNpdu octets.now (W.contents out.old) (W.contents out.new)) }
+{
+    match print_npdu(octets, out) {
+        Ok(()) => Ok(true),
+        Err(stop) => say_stop(stop, out),
+    }
+}
+
+/// Prints the refusal of what is left, and answers that there is one.
+fn say_stop<W: Write>(stop: Stop, out: &mut W) -> io::Result<bool>
+    ensures { IfOk result (λ is_whole. is_whole ≡ false) }
+{
+    match stop {
+        Stop::Refused(fault) => {
             writeln!(out, "refused {} {fault}", u8::from(fault))?;
-            Ok(1)
+            Ok(false)
         }
-        Err(Stop::Unwritten(error)) => Err(error),
+        Stop::Unwritten(error) => Err(error),
     }
 }
 

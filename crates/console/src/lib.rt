@@ -3,7 +3,7 @@
 //! `answer_line` prints what the built-in device says to the datagram that words spell, and
 //! `explain_line` the datagram taken apart; both answer the exit status. To the layer above they
 //! promise: with status 0 the words spell one datagram, and what was printed is what the device says
-//! to it, or its fields and tags, each on a line.
+//! to it, or its fields and tags, each on a line. `explain_datagram` and `explain_npdu` print the same of octets.
 //!
 //! - `answer`, `hex_text`: one datagram as hexadecimal digits, and what is said to it.
 //! - `builtin`: the built-in device, from octets to octets.
@@ -20,5 +20,5 @@ mod refusal;
 
 pub use answer::answer_line;
 pub use builtin::{Builtin, respond};
-pub use explain::explain_line;
+pub use explain::{explain_datagram, explain_line, explain_npdu};
 pub use refusal::{say_failed, say_refused};
