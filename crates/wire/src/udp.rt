@@ -28,13 +28,18 @@ struct BoundSocket {
     socket: UdpSocket,
 }
 
+/// How many datagrams a socket may bring in a row before the next one is asked first.
+const MAX_IN_ROW: u8 = 16;
+
 /// A wire of UDP (J.1.2) with one socket for each address of a site. No socket waits for a datagram, and each is asked in
-/// turn.
+/// turn, once for so many datagrams of another: what comes to one alone is not sought at all others each time.
 #[derive(Drop)]
 pub struct UdpWire<A: Allocator> {
     sockets: Vec<BoundSocket, A>,
-    /// The place of the socket that is asked first at the next `recv`: behind the one that brought something last.
+    /// The place of the socket that is asked first at the next `recv`.
     turn: usize,
+    /// How many datagrams it brought in a row.
+    in_row: u8,
     buffer: [u8; 2048],
     arrival: Option<Arrival>,
     faults: u64,
@@ -88,6 +93,7 @@ impl<A: Allocator + Copy> UdpWire<A> {
         Ok(UdpWire {
             sockets,
             turn: 0,
+            in_row: 0,
             buffer: [0; 2048],
             arrival: None,
             faults: 0,
@@ -172,14 +178,35 @@ impl<A: Allocator> UdpWire<A> {
         let turn = self.turn.min(self.sockets.len());
         let (before, behind) = self.sockets.as_slice().split_at(turn);
         if let Some((place, arrival)) = receive_any(behind, &mut self.buffer)? {
-            self.turn = turn.saturating_add(place).saturating_add(1);
+            self.has_brought(turn.saturating_add(place));
             return Ok(Some(arrival));
         }
         if let Some((place, arrival)) = receive_any(before, &mut self.buffer)? {
-            self.turn = place.saturating_add(1);
+            self.has_brought(place);
             return Ok(Some(arrival));
         }
         Ok(None)
+    }
+
+    /// The socket at this place brought a datagram: it is asked first again, unless it has brought so many in a row.
+    fn has_brought(&mut self, place: usize)
+        ensures faults { self.new.faults ≡ self.old.faults }
+        ensures sends { self.new.sends ≡ self.old.sends }
+        ensures recvs { self.new.recvs ≡ self.old.recvs }
+        ensures arrival { self.new.arrival ≡ self.old.arrival }
+    {
+        let in_row = if place == self.turn {
+            self.in_row.saturating_add(1)
+        } else {
+            1
+        };
+        if in_row < MAX_IN_ROW {
+            self.turn = place;
+            self.in_row = in_row;
+        } else {
+            self.turn = place.saturating_add(1);
+            self.in_row = 0;
+        }
     }
 }
 
@@ -215,6 +242,7 @@ impl<A: Allocator> Wire for UdpWire<A> {
             Err(_) => {
                 self.faults = self.faults.saturating_add(1);
                 self.turn = next_turn(self.turn, self.sockets.len());
+                self.in_row = 0;
                 Err(Fault::Wire)
             }
         }
