@@ -11,7 +11,7 @@ use Rattle.console.specs.Explain.{PrintsExplained}
 use Rattle.command_order.specs.declared.order.Checking.{Checking}
 use Rattle.command_order.specs.declared.order.LiveRun.{LiveRun}
 use Rattle.command_order.specs.declared.order.Order.{Order}
-use Rattle.command_order.specs.declared.order.Order.TheVariants.{Answer, Check, Explain, Run, Sim}
+use Rattle.command_order.specs.declared.order.Order.TheVariants.{Answer, Check, Explain, Run, Sim, Storm}
 use Rattle.command_order.specs.declared.order.Simulation.{Simulation}
 use Rattle.site_check.specs.Judged.{AreJudged}
 use Rattle.site_live.specs.Runs.{RunsLive}
@@ -19,6 +19,7 @@ use Rattle.site_run.specs.Simulate.{Simulates}
 use Rattle.site_run.specs.declared.running.Telling.{Telling}
 use Rattle.site_run.specs.declared.running.Telling.TheVariants.{Entries, All}
 use Rattle.command_order.specs.Order.{program, IsOrderOf}
+use Rattle.command_line.specs.Storming.{PrintsStorming}
 
 -- clap was asked for help or the version
 abbrev pub IsHelp : ErrorKind → Type 0
@@ -73,21 +74,24 @@ pub record HaveNoFault (reads : List ℕ → List ℕ → Type 0) (c : Checking)
 
 -- what is done for what the words ask for: the status is the tool's, and with status 0 its text is printed, or
 -- the files have no fault
-abbrev pub IsDone : (List ℕ → List ℕ → Type 0) → Result (Option Order) Error → ℕ → Known → Known → Type 0
-IsDone reads (Err e) status old new = IsStatusOf (kind_of e) status
-IsDone reads (Ok None) status old new = status ≡ 2
-IsDone reads (Ok (Some (Sim s))) status old new = (status ≤ 1) × (status ≡ 0 → PrintsSimulation reads s old new)
-IsDone reads (Ok (Some (Run r))) status old new = (status ≤ 2) × (status ≡ 0 → PrintsLive reads r old new)
-IsDone reads (Ok (Some (Check c))) status old new = (status ≤ 1) × (status ≡ 0 → HaveNoFault reads c)
-IsDone reads (Ok (Some (Answer words))) status old new =
+abbrev pub IsDone : (reads writes : List ℕ → List ℕ → Type 0) → Result (Option Order) Error → ℕ → Known → Known → Type 0
+IsDone reads writes (Err e) status old new = IsStatusOf (kind_of e) status
+IsDone reads writes (Ok None) status old new = status ≡ 2
+IsDone reads writes (Ok (Some (Sim s))) status old new = (status ≤ 1) × (status ≡ 0 → PrintsSimulation reads s old new)
+IsDone reads writes (Ok (Some (Storm s))) status old new =
+    (status ≤ 2) × (status ≡ 0 → PrintsStorming reads writes s old new)
+IsDone reads writes (Ok (Some (Run r))) status old new = (status ≤ 2) × (status ≡ 0 → PrintsLive reads r old new)
+IsDone reads writes (Ok (Some (Check c))) status old new = (status ≤ 1) × (status ≡ 0 → HaveNoFault reads c)
+IsDone reads writes (Ok (Some (Answer words))) status old new =
     (status ≤ 1)
     × (status ≡ 0 → PrintsAnswer (builtin_device {A = Global}) (text_of (map string_bytes words.items)) old new)
-IsDone reads (Ok (Some (Explain words))) status old new =
+IsDone reads writes (Ok (Some (Explain words))) status old new =
     (status ≤ 1) × (status ≡ 0 → PrintsExplained (text_of (map string_bytes words.items)) old new)
 
 -- what clap answers of the words, and what is done for that
-pub record Runs (reads : List ℕ → List ℕ → Type 0) (words : List Text) (status : ℕ) (old new : Known) : Type 0 where
+pub record Runs (reads writes : List ℕ → List ℕ → Type 0) (words : List Text) (status : ℕ) (old new : Known) :
+    Type 0 where
   pub asked : Result (Option Order) Error
   pub order : IfOk asked (IsOrderOf (subcommand_of program words))
   pub fault : FailsBy (fault_of program words) asked
-  pub done : IsDone reads asked status old new
+  pub done : IsDone reads writes asked status old new

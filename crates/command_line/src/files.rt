@@ -1,14 +1,17 @@
-//! Where files are read.
+//! Where files are read and written.
 
-ghost use Rattle.std.specs.Prelude.{ℕ, List, IfOk};
+ghost use Rattle.std.specs.Prelude.{ℕ, List, IfOk, OnOk};
 
 use std::alloc::Global;
 use std::io;
 
-/// What reads files whole: the operating system, or texts that stand for it.
+/// What reads and writes files whole: the operating system, or texts that stand for it.
 pub trait Files {
     /// A file of this name may be read as this text.
     ghost reads: { Self → List ℕ → List ℕ → Type 0 };
+
+    /// A file of this name may be written with this text.
+    ghost writes: { Self → List ℕ → List ℕ → Type 0 };
 
     /// The octets of the file of this name.
     ///
@@ -16,4 +19,11 @@ pub trait Files {
     /// Those of reading, and want of memory.
     fn read(&self, alloc: Global, name: &str) -> io::Result<Vec<u8>>
         ensures { IfOk result (λ text. reads self.now name.now text.items) };
+
+    /// Writes these octets into the file of this name, and nothing else is in it then.
+    ///
+    /// # Errors
+    /// Those of writing.
+    fn write(&self, name: &str, octets: &[u8]) -> io::Result<()>
+        ensures { OnOk result (writes self.now name.now octets.now) };
 }

@@ -9,6 +9,7 @@ ghost use Rattle.site_live.specs.Runs.{RunsLive};
 ghost use Rattle.site_run.specs.Simulate.{Simulates};
 
 use crate::files::Files;
+use crate::storming::storm_files;
 use clap::Error;
 use clap::error::ErrorKind;
 use command_order::{Checking, LiveRun, Order, Simulation, order_of};
@@ -35,7 +36,7 @@ pub fn run<R: Net + Clock, F: Files, W: Write, E: Write>(
     out: &mut W,
     err: &mut E,
 ) -> u8
-    ensures runs { spec.Runs (F.reads files.now) (map string_bytes words.now) result
+    ensures runs { spec.Runs (F.reads files.now) (F.writes files.now) (map string_bytes words.now) result
         (W.contents out.old) (W.contents out.new) }
 {
     let asked = order_of(alloc, words);
@@ -51,12 +52,14 @@ fn done<R: Net + Clock, F: Files, W: Write, E: Write>(
     out: &mut W,
     err: &mut E,
 ) -> u8
-    ensures { spec.IsDone (F.reads files.now) asked.now result (W.contents out.old) (W.contents out.new) }
+    ensures { spec.IsDone (F.reads files.now) (F.writes files.now) asked.now result
+        (W.contents out.old) (W.contents out.new) }
 {
     match asked {
         Ok(Some(Order::Answer(words))) => answer_line(alloc, words.as_slice(), out, err),
         Ok(Some(Order::Explain(words))) => explain_line(alloc, words.as_slice(), out, err),
         Ok(Some(Order::Sim(simulation))) => sim(alloc, simulation, files, out, err),
+        Ok(Some(Order::Storm(storming))) => storm_files(alloc, storming, files, out, err),
         Ok(Some(Order::Run(run))) => run_live(host, alloc, run, files, out, err),
         Ok(Some(Order::Check(checking))) => check_files(alloc, checking, files, out, err),
         Ok(None) => 2,
@@ -92,7 +95,7 @@ fn sim<F: Files, W: Write, E: Write>(
 }
 
 /// The octets of the site's file and of the script's, which have these names.
-fn texts_of<F: Files>(
+pub(crate) fn texts_of<F: Files>(
     alloc: Global,
     site: &String,
     script: &String,
@@ -251,7 +254,7 @@ fn check_texts<W: Write, E: Write>(
 }
 
 /// Tells that a file can't be read, or want of memory, and answers the exit status.
-fn say_unread<E: Write>(error: &io::Error, err: &mut E) -> u8
+pub(crate) fn say_unread<E: Write>(error: &io::Error, err: &mut E) -> u8
     ensures { result ≡ 1 }
 {
     if error.kind() == io::ErrorKind::OutOfMemory {

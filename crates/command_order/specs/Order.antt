@@ -1,13 +1,15 @@
 -- The command line of the program, and what its words ask for.
-use Rattle.std.specs.Prelude.{◌≡◌, ◌≢◌, List, [], Option, Some, None, codes, map, Bool, true, false, option_map}
+use Rattle.std.specs.Prelude.{◌≡◌, ◌≢◌, List, [], Option, Some, None, codes, map, true, option_map}
 use Rattle.std.specs.Prelude.{unwrap_or, string_bytes}
 use Rattle.clap.specs.Lexer.{usize_max}
 use Rattle.clap.specs.Words.{App, Rule, Row, Text, new_app, new_rule, with_rule, with_subcommand, all_of, first_of, one_of}
 use Rattle.clap.specs.declared.builder.ArgAction.TheVariants.{Append, Set, SetTrue}
+pub use Rattle.command_order.specs.Words.{IsFlag, file_rule, word_of}
+use Rattle.command_order.specs.Storming.{IsStormingOf, storm}
 use Rattle.command_order.specs.declared.order.Checking.{Checking}
 use Rattle.command_order.specs.declared.order.LiveRun.{LiveRun}
 use Rattle.command_order.specs.declared.order.Order.{Order}
-use Rattle.command_order.specs.declared.order.Order.TheVariants.{Answer, Check, Explain, Run, Sim}
+use Rattle.command_order.specs.declared.order.Order.TheVariants.{Answer, Check, Explain, Run, Sim, Storm}
 use Rattle.command_order.specs.declared.order.Simulation.{Simulation}
 
 -- one word or more, which spell a datagram
@@ -28,10 +30,6 @@ abbrev pub bare : App
 bare =
     let app = new_app (codes "bacsite") in
     record app { top = record app.top { subcommand_required = true; has_version = true } }
-
--- a word that names a file
-abbrev pub file_rule : Text → Rule
-file_rule id = record (new_rule id) { action = Some Set; value_names = 1; required = true }
 
 -- a word that names a file, or none
 abbrev pub optional_file_rule : Text → Rule
@@ -70,9 +68,13 @@ check =
 abbrev pub tools : App
 tools = with_subcommand (with_subcommand bare (tool (codes "answer")).top) (tool (codes "explain")).top
 
--- the program: those, sim SITE SCRIPT [--trace], run SITE SCRIPT [--open] [--for SECONDS] and check SITE [SCRIPT]
+-- .. with those of a simulated site: sim SITE SCRIPT [--trace], storm SITE SCRIPT --seed N --steps N ..
+abbrev pub simulators : App
+simulators = with_subcommand (with_subcommand tools sim.top) storm.top
+
+-- the program: those, run SITE SCRIPT [--open] [--for SECONDS] and check SITE [SCRIPT]
 abbrev pub program : App
-program = with_subcommand (with_subcommand (with_subcommand tools sim.top) run.top) check.top
+program = with_subcommand (with_subcommand simulators run.top) check.top
 
 -- the subcommand that the words name
 abbrev pub name_of : Option (Text × List Row) → Option Text
@@ -91,16 +93,6 @@ digits_of (Some p) = hex_of p.1
 abbrev pub rows_in : Option (Text × List Row) → List Row
 rows_in None = []
 rows_in (Some p) = p.1
-
--- the word of this name behind it, which is empty where there is none
-abbrev pub word_of : Text → List Row → Text
-word_of id rows = unwrap_or (first_of id rows) []
-
--- a flag is given, or isn't
-pub record IsFlag (word : Option Text) (flag : Bool) : Type 0 where
-  pub given : word ≡ Some (codes "true") → flag ≡ true
-  pub other : word ≡ Some (codes "false") → flag ≡ false
-  pub none : word ≡ None → flag ≡ false
 
 -- the simulation is of the files that are named, and is traced where that is asked for
 pub record IsSimulationOf (rows : List Row) (s : Simulation) : Type 0 where
@@ -123,8 +115,8 @@ pub record IsCheckingOf (rows : List Row) (c : Checking) : Type 0 where
 -- the words name no subcommand that there is
 abbrev pub NamesNone : Option (Text × List Row) → Type 0
 NamesNone found = (name_of found ≢ Some (codes "answer")) × (name_of found ≢ Some (codes "explain"))
-    × (name_of found ≢ Some (codes "sim")) × (name_of found ≢ Some (codes "run"))
-    × (name_of found ≢ Some (codes "check"))
+    × (name_of found ≢ Some (codes "sim")) × (name_of found ≢ Some (codes "storm"))
+    × (name_of found ≢ Some (codes "run")) × (name_of found ≢ Some (codes "check"))
 
 -- the order is the subcommand that the words name, with the words behind it
 abbrev pub IsOrderOf : Option (Text × List Row) → Option Order → Type 0
@@ -134,5 +126,6 @@ IsOrderOf found (Some (Answer words)) =
 IsOrderOf found (Some (Explain words)) =
     (name_of found ≡ Some (codes "explain")) × (map string_bytes words.items ≡ digits_of found)
 IsOrderOf found (Some (Sim s)) = (name_of found ≡ Some (codes "sim")) × IsSimulationOf (rows_in found) s
+IsOrderOf found (Some (Storm s)) = (name_of found ≡ Some (codes "storm")) × IsStormingOf (rows_in found) s
 IsOrderOf found (Some (Run r)) = (name_of found ≡ Some (codes "run")) × IsLiveRunOf (rows_in found) r
 IsOrderOf found (Some (Check c)) = (name_of found ≡ Some (codes "check")) × IsCheckingOf (rows_in found) c

@@ -4,8 +4,11 @@
 //! To the layer above it promises exactly that order, as the definitions of the command line's words have it.
 //!
 //! - `order`: what the command line asks for.
+//! - `storming`: what the command of a storm asks for.
 #![tactic(auto)]
 
 mod order;
+mod storming;
 
 pub use order::{Checking, LiveRun, Order, Simulation, order_of};
+pub use storming::{Percents, Storming};

@@ -3,10 +3,12 @@
 ghost use Rattle.std.specs.Prelude.{◌≡◌, true, false, IfOk, map, option_map, string_bytes};
 ghost use Rattle.clap.specs.Words.{app_of, first_of, rule_of, rows_of, found_of, with_subcommand};
 ghost use Rattle.clap.specs.Words.{subcommand_of, subcommand_rows_of, FailsBy, fault_of};
-ghost use Rattle.command_order.specs.Order.{program, bare, tool, tools, hex_rule, hex_of, sim, run, check, file_rule};
-ghost use Rattle.command_order.specs.Order.{open_rule, optional_file_rule, seconds_rule, trace_rule, word_of};
+ghost use Rattle.command_order.specs.Order.{program, bare, simulators, tool, tools, hex_rule, hex_of, sim, run, check};
+ghost use Rattle.command_order.specs.Storming.{IsStormingOf};
+ghost use Rattle.command_order.specs.Order.{file_rule, open_rule, optional_file_rule, seconds_rule, trace_rule, word_of};
 ghost use Rattle.command_order.specs.Order.{IsOrderOf, IsSimulationOf, IsLiveRunOf, IsCheckingOf};
 
+use crate::storming::{Storming, storm, storming_in};
 use clap::{Arg, ArgAction, ArgMatches, Command, Error};
 use std::alloc::{AllocError, Global};
 
@@ -22,6 +24,8 @@ pub enum Order {
     Explain(Vec<String>),
     /// Run a script at a site.
     Sim(Simulation),
+    /// Run a script at a site, and go on at random.
+    Storm(Storming),
     /// Run a site live, with a script.
     Run(LiveRun),
     /// Tell what is wrong with a site file, and with a script for it.
@@ -96,6 +100,9 @@ fn order_in(alloc: Global, matches: &ArgMatches<'_>) -> Result<Option<Order>, Al
     if let Some(sim) = matches.subcommand_matches("sim") {
         return Ok(Some(Order::Sim(simulation_in(alloc, sim)?)));
     }
+    if let Some(storm) = matches.subcommand_matches("storm") {
+        return Ok(Some(Order::Storm(storming_in(alloc, storm)?)));
+    }
     if let Some(run) = matches.subcommand_matches("run") {
         return Ok(Some(Order::Run(live_run_in(alloc, run)?)));
     }
@@ -139,7 +146,7 @@ fn checking_in(alloc: Global, matches: &ArgMatches<'_>) -> Result<Checking, Allo
 }
 
 /// The word of an argument, if there is one.
-fn optional_word(
+pub(crate) fn optional_word(
     alloc: Global,
     matches: &ArgMatches<'_>,
     id: &str,
@@ -153,7 +160,7 @@ fn optional_word(
 }
 
 /// The word of an argument, which is empty where there is none.
-fn word(alloc: Global, matches: &ArgMatches<'_>, id: &str) -> Result<String, AllocError>
+pub(crate) fn word(alloc: Global, matches: &ArgMatches<'_>, id: &str) -> Result<String, AllocError>
     ensures { IfOk result (λ word. string_bytes word ≡ word_of id.now (rows_of (found_of matches.now))) }
 {
     match matches.get_str(id) {
@@ -166,9 +173,16 @@ fn word(alloc: Global, matches: &ArgMatches<'_>, id: &str) -> Result<String, All
 fn command<'a>(alloc: Global) -> Result<Command<'a>, AllocError>
     ensures { IfOk result (λ c. app_of c ≡ program) }
 {
-    let command = add(tools(alloc)?, sim(alloc)?)?;
-    let command = add(command, run(alloc)?)?;
+    let command = add(simulators(alloc)?, run(alloc)?)?;
     add(command, check(alloc)?)
+}
+
+/// The program with the commands of one datagram, and those of a simulated site.
+fn simulators<'a>(alloc: Global) -> Result<Command<'a>, AllocError>
+    ensures { IfOk result (λ c. app_of c ≡ simulators) }
+{
+    let command = add(tools(alloc)?, sim(alloc)?)?;
+    add(command, storm(alloc)?)
 }
 
 /// The program with the commands of one datagram.
@@ -264,7 +278,7 @@ fn optional_file<'a>(alloc: Global, id: &'a str, name: &'a str, help: &'a str) -
 }
 
 /// The name of a file.
-fn file<'a>(alloc: Global, id: &'a str, name: &'a str, help: &'a str) -> Arg<'a>
+pub(crate) fn file<'a>(alloc: Global, id: &'a str, name: &'a str, help: &'a str) -> Arg<'a>
     ensures rule { rule_of result ≡ file_rule id.entry.now }
     ensures own { result.global ≡ false }
 {

@@ -140,13 +140,15 @@ const SCRIPT: &str = "whois c\nflow 50\nissue c 10 write 5:1 85 enum 1\nflow 50\
 /// The third line asks for nothing.
 const NO_SCRIPT: &str = "whois c\nflow 50\ndeliver x\n";
 
-/// Four files: `p.toml`, `none.toml`, `live.script` and `bad.script`.
+/// Four files, `p.toml`, `none.toml`, `live.script` and `bad.script`, and one that may be written, `storm.script`.
 #[derive(Clone, Copy)]
 struct Texts;
 
 impl Files for Texts {
     // No clause tells what they hold.
     ghost reads = { λ _ _ _. Unit {0} };
+
+    ghost writes = { λ _ _ _. Unit {0} };
 
     fn read(&self, alloc: Global, name: &str) -> io::Result<Vec<u8>> {
         let text = match name {
@@ -158,5 +160,12 @@ impl Files for Texts {
         };
         let octets = Vec::from_slice(alloc, text.as_bytes())?;
         Ok(octets)
+    }
+
+    fn write(&self, name: &str, _octets: &[u8]) -> io::Result<()> {
+        match name {
+            "storm.script" => Ok(()),
+            _ => Err(io::ErrorKind::PermissionDenied.into()),
+        }
     }
 }

@@ -20,7 +20,7 @@ pub(crate) fn run_examples(rt: &HostRuntime) -> io::Result<()> {
 }
 
 /// The names of examples, in order.
-fn sites(rt: &HostRuntime) -> io::Result<Vec<String>> {
+pub(crate) fn sites(rt: &HostRuntime) -> io::Result<Vec<String>> {
     let mut names = Vec::new(rt.alloc());
     for entry in fs::read_dir(rt, ".")? {
         let entry = entry?;
@@ -49,7 +49,7 @@ fn run_example(rt: &HostRuntime, name: &str) -> io::Result<String> {
 }
 
 /// The octets of a file of an example.
-fn read(rt: &HostRuntime, name: &str, kind: &str) -> io::Result<Vec<u8>> {
+pub(crate) fn read(rt: &HostRuntime, name: &str, kind: &str) -> io::Result<Vec<u8>> {
     let file = format!(in rt.alloc(); "{name}.{kind}")?;
     fs::read(rt, file.as_str())
 }

@@ -3,6 +3,7 @@
 //! each row, and prints a line for each row that differs and one with the counts of each file.
 //!
 //! - `examples`: sites and scripts as files, with what is printed of them.
+//! - `storms`: storms behind the scripts of the examples, and what their own scripts print.
 //! - `blocks`: sites, scripts and texts that rows describe.
 //! - `repeated`: words that stand for many.
 //! - `runs`: what is printed of a script, also where an allocation is refused.
@@ -15,6 +16,7 @@ mod examples;
 mod memory;
 mod repeated;
 mod runs;
+mod storms;
 mod strays;
 mod worlds;
 
@@ -57,6 +59,7 @@ fn run_row(given: Given<'_>, rows: &[Row<'_>], row: &Row<'_>) -> Result<Counts, 
 fn main(rt: HostRuntime) -> io::Result<()> {
     sheets::run_files::<Sim>(&rt)?;
     examples::run_examples(&rt)?;
+    storms::run_storms(&rt)?;
     memory::run_file(&rt)?;
     strays::run_file(&rt)
 }

@@ -1,0 +1,40 @@
+-- What is done for the command line of a storm.
+use Rattle.std.specs.Prelude.{◌≡◌, ◌⊎◌, ℕ, List, [], ◌∷◌, ◌++◌, Option, Some, None, Bool, true, false, option_map, string_bytes}
+use Rattle.std.specs.Global.{Global}
+use Rattle.command_order.specs.declared.storming.Storming.{Storming}
+use Rattle.site_storm.specs.Lines.{Known}
+use Rattle.site_storm.specs.Storming.{CountsStorm, Storms}
+
+-- a file was written, if one is named
+abbrev pub IsWrittenIfNamed : (List ℕ → List ℕ → Type 0) → Option (List ℕ) → List ℕ → Type 0
+IsWrittenIfNamed writes None text = Unit {0}
+IsWrittenIfNamed writes (Some name) text = writes name text
+
+-- a storm is printed, or its counts are
+abbrev pub PrintsOrCounts : Bool → (site script : List ℕ) → (n : ℕ) → (lines_old lines_new old new : Known) → Type 0
+PrintsOrCounts false site script n lines_old lines_new old new = Storms Global site script n lines_old lines_new old new
+PrintsOrCounts true site script n lines_old lines_new old new =
+    CountsStorm Global site script n lines_old lines_new old new
+
+-- the lines of a script, of which the last one ends too
+abbrev pub AreLinesOf : (script lines : List ℕ) → Type 0
+AreLinesOf script lines = (lines ≡ script) ⊎ (lines ≡ script ++ 10 ∷ [])
+
+-- a storm of so many events at these texts was printed or counted, and its script was written where a file is named:
+-- the lines of the one that was given, and behind them those of the events
+pub record PrintsTexts (writes : List ℕ → List ℕ → Type 0) (s : Storming) (site script : List ℕ) (n : ℕ)
+    (old new : Known) : Type 0 where
+  pub begun : List ℕ
+  pub lines : List ℕ
+  pub begins : AreLinesOf script begun
+  pub printed : PrintsOrCounts s.is_counted site script n (Some begun) (Some lines) old new
+  pub written : IsWrittenIfNamed writes (option_map string_bytes s.file) lines
+
+-- the files of a storm were read, by what reads them, and what came of it was printed and written
+pub record PrintsStorming (reads writes : List ℕ → List ℕ → Type 0) (s : Storming) (old new : Known) : Type 0 where
+  pub site : List ℕ
+  pub script : List ℕ
+  pub steps : ℕ
+  pub site_read : reads (string_bytes s.site) site
+  pub script_read : reads (string_bytes s.script) script
+  pub storms : PrintsTexts writes s site script steps old new

@@ -1,0 +1,197 @@
+//! What the command of a storm asks for.
+
+ghost use Rattle.std.specs.Prelude.{◌≡◌, false, IfOk};
+ghost use Rattle.clap.specs.Words.{app_of, found_of, rows_of, rule_of};
+ghost use Rattle.command_order.specs.Storming as spec;
+
+use crate::order::{file, optional_word, word};
+use clap::{Arg, ArgAction, ArgMatches, Command};
+use std::alloc::{AllocError, Global};
+
+/// Which storm goes on behind which script at which site, and what is printed of it.
+#[derive(Drop)]
+pub struct Storming {
+    /// The name of the site's file.
+    pub site: String,
+    /// The name of the script's file.
+    pub script: String,
+    /// The number that seeds it.
+    pub seed: String,
+    /// How many events there are.
+    pub steps: String,
+    pub percents: Percents,
+    /// The name of the file in which its script is written, if one is named.
+    pub file: Option<String>,
+    /// Whether one line of counts is printed in place of the entries.
+    pub is_counted: bool,
+}
+
+/// How often what happens, in percent, where that is told.
+#[derive(Drop)]
+pub struct Percents {
+    pub issue: Option<String>,
+    pub lose: Option<String>,
+    pub repeat: Option<String>,
+    pub reorder: Option<String>,
+    pub damage: Option<String>,
+    pub restart: Option<String>,
+}
+
+/// The storm that is asked for.
+pub(crate) fn storming_in(alloc: Global, matches: &ArgMatches<'_>) -> Result<Storming, AllocError>
+    ensures { IfOk result (spec.IsStormingOf (rows_of (found_of matches.now))) }
+{
+    Ok(Storming {
+        site: word(alloc, matches, "site")?,
+        script: word(alloc, matches, "script")?,
+        seed: word(alloc, matches, "seed")?,
+        steps: word(alloc, matches, "steps")?,
+        percents: percents_in(alloc, matches)?,
+        file: optional_word(alloc, matches, "file")?,
+        is_counted: matches.get_flag("count"),
+    })
+}
+
+/// The chances that are asked for.
+fn percents_in(alloc: Global, matches: &ArgMatches<'_>) -> Result<Percents, AllocError>
+    ensures { IfOk result (spec.ArePercentsOf (rows_of (found_of matches.now))) }
+{
+    Ok(Percents {
+        issue: optional_word(alloc, matches, "issue")?,
+        lose: optional_word(alloc, matches, "lose")?,
+        repeat: optional_word(alloc, matches, "repeat")?,
+        reorder: optional_word(alloc, matches, "reorder")?,
+        damage: optional_word(alloc, matches, "damage")?,
+        restart: optional_word(alloc, matches, "restart")?,
+    })
+}
+
+/// The command of a storm.
+pub(crate) fn storm<'a>(alloc: Global) -> Result<Command<'a>, AllocError>
+    ensures { IfOk result (λ c. app_of c ≡ spec.storm) }
+{
+    let command = chances(alloc, named(alloc)?)?;
+    command.arg(script_file(alloc))?.arg(count(alloc))
+}
+
+/// The command with the words that have to be there.
+fn named<'a>(alloc: Global) -> Result<Command<'a>, AllocError>
+    ensures { IfOk result (λ c. app_of c ≡ spec.named) }
+{
+    Command::new(alloc, "storm")
+        .about("Runs a script at a site, goes on at random, and prints what comes of it")
+        .arg(file(
+            alloc,
+            "site",
+            "SITE",
+            "A TOML file of networks and stations, as docs/site-file.md says",
+        ))?
+        .arg(file(
+            alloc,
+            "script",
+            "SCRIPT",
+            "A text with a step on each line, as docs/script.md says",
+        ))?
+        .arg(number(
+            alloc,
+            "seed",
+            "The number that seeds it: the same one gives the same storm",
+        ))?
+        .arg(number(
+            alloc,
+            "steps",
+            "How many events there are behind the script",
+        ))
+}
+
+/// A command with how often in a storm something begins, is lost and is repeated.
+fn losses<'a>(alloc: Global, command: Command<'a>) -> Result<Command<'a>, AllocError>
+    ensures { IfOk result (λ c. app_of c ≡ spec.with_losses (app_of command.entry)) }
+{
+    command
+        .arg(percent(
+            alloc,
+            "issue",
+            "How often of a hundred events something begins, mostly a request [default: 5]",
+        ))?
+        .arg(percent(
+            alloc,
+            "lose",
+            "How many of a hundred datagrams and frames are lost [default: 2]",
+        ))?
+        .arg(percent(
+            alloc,
+            "repeat",
+            "How many of a hundred deliveries are repeated [default: 2]",
+        ))
+}
+
+/// A command with the chances of a storm.
+fn chances<'a>(alloc: Global, command: Command<'a>) -> Result<Command<'a>, AllocError>
+    ensures { IfOk result (λ c. app_of c ≡ spec.with_chances (app_of command.entry)) }
+{
+    losses(alloc, command)?
+        .arg(percent(
+            alloc,
+            "reorder",
+            "How often of a hundred times another thing comes than what is next [default: 2]",
+        ))?
+        .arg(percent(
+            alloc,
+            "damage",
+            "How many of a hundred frames are damaged [default: 1]",
+        ))?
+        .arg(percent(
+            alloc,
+            "restart",
+            "How often of a hundred times a device restarts where something begins [default: 1]",
+        ))
+}
+
+/// A number that has to be there.
+fn number<'a>(alloc: Global, id: &'a str, help: &'a str) -> Arg<'a>
+    ensures rule { rule_of result ≡ spec.number_rule id.entry.now }
+    ensures own { result.global ≡ false }
+{
+    Arg::new(alloc, id)
+        .long(id)
+        .value_name("N")
+        .required(true)
+        .action(ArgAction::Set)
+        .help(help)
+}
+
+/// A chance, which may be left out.
+fn percent<'a>(alloc: Global, id: &'a str, help: &'a str) -> Arg<'a>
+    ensures rule { rule_of result ≡ spec.percent_rule id.entry.now }
+    ensures own { result.global ≡ false }
+{
+    Arg::new(alloc, id)
+        .long(id)
+        .value_name("PERCENT")
+        .action(ArgAction::Set)
+        .help(help)
+}
+
+/// The name of the file in which the script of a storm is written.
+fn script_file<'a>(alloc: Global) -> Arg<'a>
+    ensures rule { rule_of result ≡ spec.script_file_rule }
+    ensures own { result.global ≡ false }
+{
+    Arg::new(alloc, "file")
+        .long("script")
+        .value_name("FILE")
+        .action(ArgAction::Set)
+        .help("Writes the script, and the events behind it as its lines, to a file that `sim` runs")
+}
+
+/// Whether counts are printed.
+fn count<'a>(alloc: Global) -> Arg<'a>
+    ensures rule { rule_of result ≡ spec.count_rule }
+    ensures own { result.global ≡ false }
+{
+    Arg::new(alloc, "count")
+        .long("count")
+        .action(ArgAction::SetTrue)
+        .help("Prints one line of counts in place of what comes of it")
+}

@@ -1,0 +1,189 @@
+//! Storms behind the scripts of the examples: what is printed of a storm is what is printed of the script that it puts
+//! down, its counts are those of the same storm, and where an allocation is refused it says so.
+
+use crate::examples::{read, sites};
+use refusing::Refusing;
+use site_run::simulate;
+use site_storm::{Chances, Weather, storm, storm_counted};
+use std::alloc::{Allocator, Global};
+use std::io;
+
+/// The seeds at each example.
+const SEEDS: [u64; 5] = [1, 2, 3, 4, 5];
+
+/// How many events a storm has, and one in which each allocation is refused in turn.
+const STEPS: u64 = 300;
+
+const FEW_STEPS: u64 = 40;
+
+/// How many allocations of a storm are refused at most.
+const MANY: u64 = 100_000;
+
+/// What is told where memory is refused outside of an event, and in one, behind its moment.
+const ENDS: &[u8] = b"bacsite: refused 1 Memory\n";
+
+const NO_MEMORY: &str = " refused 1 Memory\n";
+
+/// What came of a storm.
+#[derive(Drop)]
+struct Came {
+    status: u8,
+    lines: Vec<u8>,
+    out: Vec<u8>,
+    err: Vec<u8>,
+}
+
+/// The storm of a seed.
+fn weather(seed: u64, steps: u64) -> Weather {
+    Weather {
+        seed,
+        steps,
+        chances: Chances::USUAL,
+    }
+}
+
+/// Lets storms happen behind the script of each example, and prints a line for each example.
+///
+/// # Errors
+/// Those of reading and of printing, and want of memory.
+pub(crate) fn run_storms(rt: &HostRuntime) -> io::Result<()> {
+    for name in sites(rt)?.as_slice() {
+        let said = storms_at(rt, name.as_str())?;
+        rt.print(said.as_str())?;
+    }
+    Ok(())
+}
+
+/// Lets storms happen at an example, and answers what is printed of that.
+fn storms_at(rt: &HostRuntime, name: &str) -> io::Result<String> {
+    let alloc = rt.alloc();
+    let site = read(rt, name, "toml")?;
+    let script = read(rt, name, "script")?;
+    let mut alike = 0u64;
+    for seed in SEEDS {
+        if is_alike(alloc, site.as_slice(), script.as_slice(), seed)? {
+            alike = alike.saturating_add(1);
+        }
+    }
+    let refused = refused_in(alloc, site.as_slice())?;
+    let said = format!(in alloc;
+        "storms {name}: {alike} print what their scripts print, {refused} refused allocations\n"
+    )?;
+    Ok(said)
+}
+
+/// What comes of a storm in this memory.
+fn came_of<A: Allocator + Copy>(
+    alloc: Global,
+    memory: A,
+    site: &[u8],
+    script: &[u8],
+    weather: Weather,
+) -> io::Result<Came> {
+    let mut lines = Vec::from_slice(alloc, script)?;
+    let mut out = Vec::new(alloc);
+    let mut err = Vec::new(alloc);
+    let status = storm(
+        alloc, memory, site, script, weather, &mut lines, &mut out, &mut err,
+    );
+    Ok(Came {
+        status,
+        lines,
+        out,
+        err,
+    })
+}
+
+/// Whether a storm prints what the script prints that it puts down, and is counted with as many entries.
+fn is_alike(alloc: Global, site: &[u8], script: &[u8], seed: u64) -> io::Result<bool> {
+    let weather = weather(seed, STEPS);
+    let came = came_of(alloc, alloc, site, script, weather)?;
+    let mut out = Vec::new(alloc);
+    let mut err = Vec::new(alloc);
+    let status = simulate(
+        alloc,
+        alloc,
+        site,
+        came.lines.as_slice(),
+        &mut out,
+        &mut err,
+    );
+    let counted = is_counted(alloc, site, script, weather, &came)?;
+    Ok(
+        came.status == 0
+            && status == 0
+            && came.err.is_empty()
+            && err.is_empty()
+            && out.as_slice() == came.out.as_slice()
+            && counted,
+    )
+}
+
+/// Whether the counts of a storm are those of the last line that it prints, and it puts down the same lines.
+fn is_counted(
+    alloc: Global,
+    site: &[u8],
+    script: &[u8],
+    weather: Weather,
+    came: &Came,
+) -> io::Result<bool> {
+    let mut lines = Vec::from_slice(alloc, script)?;
+    let mut out = Vec::new(alloc);
+    let mut err = Vec::new(alloc);
+    let status = storm_counted(
+        alloc, alloc, site, script, weather, &mut lines, &mut out, &mut err,
+    );
+    let counted = std::str::from_utf8(out.as_slice()).unwrap_or("");
+    let printed = std::str::from_utf8(came.out.as_slice()).unwrap_or("");
+    let last = printed
+        .trim_end()
+        .rsplit_once('\n')
+        .map_or(printed, |x| x.1);
+    Ok(
+        status == 0
+            && err.is_empty()
+            && lines.as_slice() == came.lines.as_slice()
+            && number_behind(counted, "issues ") == number_behind(last, "issued ")
+            && number_behind(counted, "answered ") == number_behind(last, "answered ")
+            && number_behind(counted, "executed ") == number_behind(last, "executed ")
+            && number_behind(counted, " ms ") == number_behind(last, "end "),
+    )
+}
+
+/// The word that stands behind another in a line.
+fn number_behind<'a>(line: &'a str, word: &str) -> Option<&'a str> {
+    let (_, behind) = line.split_once(word)?;
+    match behind.split_once(' ') {
+        Some((number, _)) => Some(number),
+        None => Some(behind.trim_end()),
+    }
+}
+
+/// Refuses each allocation of a short storm without a script in turn, and answers how many were refused; 0 where one
+/// wasn't told.
+fn refused_in(alloc: Global, site: &[u8]) -> io::Result<u64> {
+    let weather = weather(1, FEW_STEPS);
+    let plain = came_of(alloc, alloc, site, &[], weather)?;
+    for n in 1..MANY {
+        let memory = Refusing::new(alloc);
+        memory.refuse_only(n);
+        let came = came_of(alloc, &memory, site, &[], weather)?;
+        if memory.is_waiting() {
+            let is_plain = came.status == 0 && came.out.as_slice() == plain.out.as_slice();
+            return Ok(if is_plain { n - 1 } else { 0 });
+        }
+        if !is_told(&came) {
+            return Ok(0);
+        }
+    }
+    Ok(0)
+}
+
+/// Whether a storm that was refused memory says so.
+fn is_told(came: &Came) -> bool {
+    if came.status == 1 {
+        return came.err.as_slice() == ENDS;
+    }
+    let out = std::str::from_utf8(came.out.as_slice()).unwrap_or("");
+    came.status == 0 && out.contains(NO_MEMORY)
+}

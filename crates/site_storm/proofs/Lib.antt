@@ -1,0 +1,2 @@
+pub mod RageLaws
+pub mod WaitLaws

@@ -1,0 +1,16 @@
+use Rattle.std.proofs.Common.{◌∙◌, ap, length, rules}
+use Rattle.site_storm.specs.Counting.{outcomes_in}
+use Rattle.site_storm.specs.Waits.{greatest_wait}
+use Rattle.site_storm.proofs.counts.counts_of.Goals as goal
+
+pub returns-clause-counts : goal.returns-clause-counts
+returns-clause-counts g c = record {
+  messages = c.said.result.now;
+  said = search rules;
+  outcomes = c.outcomes_in.ensures ∙ ap (λ h. outcomes_in h) c.history-history.ensures.history;
+  types = c.messages_in.ensures;
+  datagrams = search rules;
+  frames = search rules;
+  moment = search rules;
+  wait = c.in_ok-wait.ensures ∙ ap (λ h. greatest_wait h) c.history-history.ensures.history;
+}

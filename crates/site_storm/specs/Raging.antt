@@ -1,0 +1,25 @@
+-- So many events of a storm, one after another.
+use Rattle.std.specs.Prelude.{◌≡◌, ℕ, List, length}
+use Rattle.std.specs.Io.KnownBytes.{Appends}
+use Rattle.std.specs.List.{AllByRecursion}
+use Rattle.simulator.specs.internetwork.Step.{IsSoundEvent}
+use Rattle.simulator.specs.internetwork.World.{WorldState}
+use Rattle.simulator.specs.internetwork.declared.event.Event.{Event}
+use Rattle.site_run.specs.Running.{PrintsEvent, PrintsEvents}
+use Rattle.site_run.specs.declared.running.Telling.TheVariants.{Entries}
+use Rattle.site_storm.specs.Lines.{Known, event_text, events_text, line}
+
+-- a sound event was made or refused, what came of it is printed, and its line put down
+pub record RagesOnce {A : Type 0} (w v : WorldState A) (lines_old lines_new old new : Known) : Type 0 where
+  pub event : Event A
+  pub sound : IsSoundEvent event
+  pub printed : PrintsEvent Entries event w v old new
+  pub put_down : Appends lines_old lines_new (line (event_text event))
+
+-- so many sound events were made or refused, one after another, what came of each is printed, and its line put down
+pub record Rages {A : Type 0} (steps : ℕ) (w v : WorldState A) (lines_old lines_new old new : Known) : Type 0 where
+  pub events : List (Event A)
+  pub many : length events ≡ steps
+  pub sound : AllByRecursion IsSoundEvent events
+  pub printed : PrintsEvents Entries events w v old new
+  pub put_down : Appends lines_old lines_new (events_text events)

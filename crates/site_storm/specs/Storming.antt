@@ -1,0 +1,62 @@
+-- What is printed of a storm behind a script at a site, as their texts describe them.
+use Rattle.std.specs.Prelude.{◌≡◌, ℕ, List, None}
+use Rattle.std.specs.Io.KnownBytes.{Appends}
+use Rattle.simulator.specs.carry_world.Laws.{IsLegal}
+use Rattle.script.specs.declared.step.Step.{Step}
+use Rattle.simulator.specs.hosts.Opening.{object_site}
+use Rattle.simulator.specs.hosts.Stations.{devices_of}
+use Rattle.simulator.specs.internetwork.World.{WorldState}
+use Rattle.site_history.specs.Counting.{counts_of}
+use Rattle.site_history.specs.Printed.{end_text}
+use Rattle.site_run.specs.Running.{PrintsSteps}
+use Rattle.site_run.specs.Simulate.{IsOpened}
+use Rattle.site_run.specs.declared.running.Telling.TheVariants.{Entries}
+use Rattle.site_storm.specs.Counting.{AreCounts, count_text}
+use Rattle.site_storm.specs.Lines.{Known, line}
+use Rattle.site_storm.specs.Raging.{Rages}
+use Rattle.site_storm.specs.declared.counts.Counts.{Counts}
+
+-- steps were taken in a world, one after another, then so many events of a storm were made, and all is printed
+pub record StormsOver {A : Type 0} (steps : List (Step A)) (n : ℕ) (fresh left : WorldState A)
+    (lines_old lines_new old new : Known) : Type 0 where
+  pub begun : WorldState A
+  pub at_storm : Known
+  pub taken : PrintsSteps Entries steps fresh begun old at_storm
+  pub rages : Rages n begun left lines_old lines_new at_storm new
+
+-- so it was, and at last what there was of all is printed; the history that was printed is legal (5.4)
+pub record PrintsStorm {A : Type 0} (steps : List (Step A)) (n : ℕ) (fresh : WorldState A)
+    (lines_old lines_new old new : Known) : Type 0 where
+  pub left : WorldState A
+  pub at_end : Known
+  pub storms : StormsOver steps n fresh left lines_old lines_new old at_end
+  pub end_printed : Appends at_end new (line (end_text (counts_of left.history) left.moment))
+  pub legal : IsLegal (object_site left.site) left.history (devices_of left.stations)
+
+-- how many there were of what in a world is printed
+pub record PrintsCountsOf {A : Type 0} (left : WorldState A) (old new : Known) : Type 0 where
+  pub counts : Counts
+  pub are_counts : AreCounts left counts
+  pub printed : Appends old new (line (count_text counts))
+
+-- so it was, and how many there were of what is all that is printed; the history that was counted is legal
+pub record PrintsCounts {A : Type 0} (steps : List (Step A)) (n : ℕ) (fresh : WorldState A)
+    (lines_old lines_new old new : Known) : Type 0 where
+  pub left : WorldState A
+  pub storms : StormsOver steps n fresh left lines_old lines_new None None
+  pub printed : PrintsCountsOf left old new
+  pub legal : IsLegal (object_site left.site) left.history (devices_of left.stations)
+
+-- the texts are those of a sound site and of a script, and a storm went on behind its steps there
+pub record Storms (A : Type 0) (site script : List ℕ) (n : ℕ) (lines_old lines_new old new : Known) : Type 0 where
+  pub fresh : WorldState A
+  pub steps : List (Step A)
+  pub opened : IsOpened site script fresh steps
+  pub run : PrintsStorm steps n fresh lines_old lines_new old new
+
+-- .. of which the counts are printed
+pub record CountsStorm (A : Type 0) (site script : List ℕ) (n : ℕ) (lines_old lines_new old new : Known) : Type 0 where
+  pub fresh : WorldState A
+  pub steps : List (Step A)
+  pub opened : IsOpened site script fresh steps
+  pub run : PrintsCounts steps n fresh lines_old lines_new old new

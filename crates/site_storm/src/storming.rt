@@ -1,0 +1,188 @@
+//! A site, a script and a storm behind it, from their texts to what is printed, and the exit status.
+
+ghost use Rattle.std.specs.Prelude.{◌≡◌, ◌≤◌, OnOk};
+ghost use Rattle.std.specs.Io.KnownBytes.{Appends};
+ghost use Rattle.std.specs.List.{AllByRecursion};
+ghost use Rattle.script.specs.Steps.{IsSoundStep};
+ghost use Rattle.site_storm.specs.Counting.{count_text};
+ghost use Rattle.site_storm.specs.Lines.{line};
+ghost use Rattle.site_storm.specs.Storming.{CountsStorm, PrintsCounts, PrintsCountsOf, PrintsStorm, Storms, StormsOver};
+ghost use Rattle.simulator.specs.carry_world.Laws.{IsLegal};
+ghost use Rattle.simulator.specs.hosts.Opening.{object_site};
+ghost use Rattle.simulator.specs.hosts.Stations.{devices_of};
+
+use crate::counts::{CountLine, Counts, counts_of};
+use crate::raging::{Weather, rage};
+use crate::unwritten::Unwritten;
+use console::say_failed;
+use script::Step;
+use simulator::World;
+use site_history::say_stop;
+use site_run::{Opened, Telling, open, print_end, take_steps};
+use std::alloc::{Allocator, Global};
+use std::io;
+use std::io::Write;
+use tags::Items;
+
+/// Takes the steps of a script in a world of a site, as their texts describe them, and then the events of a storm, and
+/// prints on `out` each entry of its history, each refusal at its place, and at last what there was of all. Puts down
+/// the lines of the storm's events on `lines`: behind those of the script they are a script of all that happened.
+/// Answers the exit status: 0; or 1 for a text that is none, which is told on `err` and nothing runs then, for want of
+/// memory where it ends the program, and for a failed write. The document is read in memory of `reading`.
+pub fn storm<A: Allocator + Copy, L: Write, W: Write, E: Write>(
+    reading: Global,
+    alloc: A,
+    site: &[u8],
+    script: &[u8],
+    weather: Weather,
+    lines: &mut L,
+    out: &mut W,
+    err: &mut E,
+) -> u8
+    ensures status { result ≤ 1 }
+    ensures storms { result ≡ 0 → Storms A site.now script.now weather.steps
+        (L.contents lines.old) (L.contents lines.new) (W.contents out.old) (W.contents out.new) }
+{
+    match open(reading, alloc, site, script) {
+        Ok(opened) => match run(alloc, opened, weather, lines, out) {
+            Ok(()) => 0,
+            Err(error) => say_failed(&error, err),
+        },
+        Err(stop) => say_stop(stop, err),
+    }
+}
+
+/// The same, but nothing is printed of what comes of steps and events: behind them one line tells how many there were
+/// of what, for sums over many seeds.
+pub fn storm_counted<A: Allocator + Copy, L: Write, W: Write, E: Write>(
+    reading: Global,
+    alloc: A,
+    site: &[u8],
+    script: &[u8],
+    weather: Weather,
+    lines: &mut L,
+    out: &mut W,
+    err: &mut E,
+) -> u8
+    ensures status { result ≤ 1 }
+    ensures counts { result ≡ 0 → CountsStorm A site.now script.now weather.steps
+        (L.contents lines.old) (L.contents lines.new) (W.contents out.old) (W.contents out.new) }
+{
+    match open(reading, alloc, site, script) {
+        Ok(opened) => match run_counted(alloc, opened, weather, lines, out) {
+            Ok(()) => 0,
+            Err(error) => say_failed(&error, err),
+        },
+        Err(stop) => say_stop(stop, err),
+    }
+}
+
+/// Takes the steps, and then the events of a storm, and prints what comes of them, and what there was of all.
+fn run<A: Allocator + Copy, L: Write, W: Write>(
+    alloc: A,
+    opened: Opened<A>,
+    weather: Weather,
+    lines: &mut L,
+    out: &mut W,
+) -> io::Result<()>
+    requires sound { AllByRecursion IsSoundStep opened.steps }
+    ensures { OnOk result (PrintsStorm opened.steps weather.steps opened.world
+        (L.contents lines.old) (L.contents lines.new) (W.contents out.old) (W.contents out.new)) }
+{
+    let Opened { world, steps } = opened;
+    let mut world = world;
+    let printed = print_all(alloc, &mut world, steps, weather, lines, out);
+    world.close();
+    printed
+}
+
+/// Takes the steps in a world, and then the events, and prints what comes of them, and what there was of all.
+fn print_all<A: Allocator + Copy, L: Write, W: Write>(
+    alloc: A,
+    world: &mut World<A>,
+    steps: Items<Step<A>, A>,
+    weather: Weather,
+    lines: &mut L,
+    out: &mut W,
+) -> io::Result<()>
+    requires sound { AllByRecursion IsSoundStep steps }
+    ensures { OnOk result (PrintsStorm steps weather.steps world.old
+        (L.contents lines.old) (L.contents lines.new) (W.contents out.old) (W.contents out.new)) }
+{
+    take_all(alloc, world, steps, weather, lines, out)?;
+    print_end(world, out)
+}
+
+/// Takes the steps in a world, and then the events, and prints what comes of them.
+fn take_all<A: Allocator + Copy, L: Write, W: Write>(
+    alloc: A,
+    world: &mut World<A>,
+    steps: Items<Step<A>, A>,
+    weather: Weather,
+    lines: &mut L,
+    out: &mut W,
+) -> io::Result<()>
+    requires sound { AllByRecursion IsSoundStep steps }
+    ensures { OnOk result (StormsOver steps weather.steps world.old world.new
+        (L.contents lines.old) (L.contents lines.new) (W.contents out.old) (W.contents out.new)) }
+{
+    take_steps(world, steps, Telling::Entries, out)?;
+    rage(alloc, world, weather, lines, out)
+}
+
+/// Takes the steps, and then the events of a storm, and prints how many there were of what.
+fn run_counted<A: Allocator + Copy, L: Write, W: Write>(
+    alloc: A,
+    opened: Opened<A>,
+    weather: Weather,
+    lines: &mut L,
+    out: &mut W,
+) -> io::Result<()>
+    requires sound { AllByRecursion IsSoundStep opened.steps }
+    ensures { OnOk result (PrintsCounts opened.steps weather.steps opened.world
+        (L.contents lines.old) (L.contents lines.new) (W.contents out.old) (W.contents out.new)) }
+{
+    let Opened { world, steps } = opened;
+    let mut world = world;
+    let printed = print_counted(alloc, &mut world, steps, weather, lines, out);
+    world.close();
+    printed
+}
+
+/// Takes the steps in a world, and then the events, and prints how many there were of what.
+fn print_counted<A: Allocator + Copy, L: Write, W: Write>(
+    alloc: A,
+    world: &mut World<A>,
+    steps: Items<Step<A>, A>,
+    weather: Weather,
+    lines: &mut L,
+    out: &mut W,
+) -> io::Result<()>
+    requires sound { AllByRecursion IsSoundStep steps }
+    ensures { OnOk result (PrintsCounts steps weather.steps world.old
+        (L.contents lines.old) (L.contents lines.new) (W.contents out.old) (W.contents out.new)) }
+{
+    let mut unwritten = Unwritten;
+    take_all(alloc, world, steps, weather, lines, &mut unwritten)?;
+    print_counts(alloc, world, out)
+}
+
+/// Prints how many there were of what in a world.
+fn print_counts<A: Allocator + Copy, W: Write>(
+    alloc: A,
+    world: &World<A>,
+    out: &mut W,
+) -> io::Result<()>
+    ensures printed { OnOk result (PrintsCountsOf world.now (W.contents out.old) (W.contents out.new)) }
+    ensures legal { IsLegal (object_site world.now.site) world.now.history (devices_of world.now.stations) }
+{
+    let counts = counts_of(alloc, world)?;
+    print_line(counts, out)
+}
+
+/// Prints counts on a line.
+fn print_line<W: Write>(counts: Counts, out: &mut W) -> io::Result<()>
+    ensures { OnOk result (Appends (W.contents out.old) (W.contents out.new) (line (count_text counts))) }
+{
+    writeln!(out, "{}", CountLine(counts))
+}
