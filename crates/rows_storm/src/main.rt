@@ -1,0 +1,29 @@
+//! The program `rows_storm`: random events at sites, judged by what the promise of the whole internetwork says
+//! (ANSI/ASHRAE 135, clauses 5.4, 6, 9, 12, 15 and J). At each site of `storms.list`, `NAME.site` opened by the steps
+//! of `NAME.script`, it lets a storm of events go over the world for each of so many seeds; the crate `judge` then
+//! judges the history and all that was put out and heard, by plain means. It prints what there was of all; and of the
+//! first storm in which something is wrong, what that is, and few of its events that still bring it about, none of
+//! which can be left out, as lines of a script.
+//!
+//! - `events`: those of a script, whether one may happen, and one as a line.
+//! - `counts`: what there was of all.
+//! - `ears`: what stations on buses heard.
+//! - `weather`: one event and what it breaks, and the end of a storm.
+//! - `storms`: the storms at a site.
+//! - `fewest`: few events of a storm, none of which can be left out.
+//! - `sites`: the files of sites.
+#![tactic(auto)]
+
+mod counts;
+mod ears;
+mod events;
+mod fewest;
+mod sites;
+mod storms;
+mod weather;
+
+use std::io;
+
+fn main(rt: HostRuntime) -> io::Result<()> {
+    sites::run_sites(&rt)
+}

@@ -1,0 +1,120 @@
+//! The storms at a site.
+
+use crate::counts::Counts;
+use crate::ears::Ears;
+use crate::fewest::fewest;
+use crate::weather::{Wrong, judge_end, make};
+use simulator::{Event, World};
+use std::alloc::{AllocError, Global};
+use storm::{Chances, Storm};
+use tags::Fault;
+
+/// How many events a storm has.
+const EVENTS: u32 = 100;
+
+/// How often what happens, in percents: much, so that little is enough to break what can be broken.
+const CHANCES: Chances = Chances {
+    issue: 15,
+    lose: 15,
+    repeat: 20,
+    reorder: 20,
+    damage: 5,
+    restart: 5,
+};
+
+/// A storm in which something is wrong: its seed, few of its events that still bring that about, none of which can be
+/// left out, and what it is.
+#[derive(Drop)]
+pub(crate) struct Broken {
+    pub(crate) seed: u64,
+    pub(crate) events: Vec<Event<Global>>,
+    pub(crate) wrong: Wrong,
+}
+
+/// The storms at a site: what there was of all, up to the first that isn't as it should be, if there is one.
+#[derive(Drop)]
+pub(crate) struct Told {
+    pub(crate) counts: Counts,
+    pub(crate) broken: Option<Broken>,
+}
+
+/// Lets storms of the seeds from one to another go over a world that stays as it is, each over a copy, up to the
+/// first that isn't as it should be.
+///
+/// # Errors
+/// Want of memory.
+pub(crate) fn run_storms(
+    alloc: Global,
+    opened: &World<Global>,
+    first: u64,
+    last: u64,
+) -> Result<Told, Fault> {
+    let mut counts = Counts::default();
+    for seed in first..=last {
+        let broken = run_storm(alloc, opened, seed, &mut counts)?;
+        if broken.is_some() {
+            return Ok(Told { counts, broken });
+        }
+    }
+    Ok(Told {
+        counts,
+        broken: None,
+    })
+}
+
+/// Lets a storm go over a copy of a world.
+fn run_storm(
+    alloc: Global,
+    opened: &World<Global>,
+    seed: u64,
+    counts: &mut Counts,
+) -> Result<Option<Broken>, Fault> {
+    counts.begin();
+    let mut world = opened.copy()?;
+    let mut events = Vec::new(alloc);
+    let came = blow(alloc, &mut world, seed, &mut events, counts);
+    world.close();
+    let Some(_) = came? else {
+        return Ok(None);
+    };
+    let (events, wrong) = fewest(alloc, opened, events)?;
+    Ok(Some(Broken {
+        seed,
+        events,
+        wrong,
+    }))
+}
+
+/// Lets a storm go over a world, keeps its events, and judges what came of it.
+fn blow(
+    alloc: Global,
+    world: &mut World<Global>,
+    seed: u64,
+    events: &mut Vec<Event<Global>>,
+    counts: &mut Counts,
+) -> Result<Option<Wrong>, Fault> {
+    let mut storm = Storm::new(seed, CHANCES);
+    let mut ears = Ears::new(alloc);
+    for _ in 0..EVENTS {
+        let wrong = next(alloc, world, &mut storm, &mut ears, events, counts)?;
+        if wrong.is_some() {
+            return Ok(wrong);
+        }
+    }
+    judge_end(alloc, world, counts)
+}
+
+/// Makes the next event of a storm in a world, and keeps it.
+fn next(
+    alloc: Global,
+    world: &mut World<Global>,
+    storm: &mut Storm,
+    ears: &mut Ears,
+    events: &mut Vec<Event<Global>>,
+    counts: &mut Counts,
+) -> Result<Option<Wrong>, AllocError> {
+    let event = storm.next_event(alloc, world)?;
+    let wrong = make(alloc, world, ears, &event, counts)?;
+    events.push(event)?;
+    Ok(wrong)
+}
