@@ -7,11 +7,10 @@ use Rattle.clap.specs.declared.error.kind.ErrorKind.{ErrorKind}
 use Rattle.clap.specs.declared.error.kind.ErrorKind.TheVariants.{OutOfMemory, DisplayHelp, DisplayVersion}
 use Rattle.console.specs.Answer.{Known, text_of, PrintsAnswer}
 use Rattle.console.specs.Builtin.{builtin_device}
-use Rattle.console.specs.Explain.{PrintsExplained}
 use Rattle.command_order.specs.declared.order.Checking.{Checking}
 use Rattle.command_order.specs.declared.order.LiveRun.{LiveRun}
 use Rattle.command_order.specs.declared.order.Order.{Order}
-use Rattle.command_order.specs.declared.order.Order.TheVariants.{Answer, Check, Explain, Run, Sim, Storm}
+use Rattle.command_order.specs.declared.order.Order.TheVariants.{Answer, Check, Explain, Pics, Run, Sim, Storm}
 use Rattle.command_order.specs.declared.order.Simulation.{Simulation}
 use Rattle.site_check.specs.Judged.{AreJudged}
 use Rattle.site_live.specs.Runs.{RunsLive}
@@ -19,6 +18,7 @@ use Rattle.site_run.specs.Simulate.{Simulates}
 use Rattle.site_run.specs.declared.running.Telling.{Telling}
 use Rattle.site_run.specs.declared.running.Telling.TheVariants.{Entries, All}
 use Rattle.command_order.specs.Order.{program, IsOrderOf}
+use Rattle.command_line.specs.Describing.{Explains}
 use Rattle.command_line.specs.Storming.{PrintsStorming}
 
 -- clap was asked for help or the version
@@ -85,8 +85,10 @@ IsDone reads writes (Ok (Some (Check c))) status old new = (status ≤ 1) × (st
 IsDone reads writes (Ok (Some (Answer words))) status old new =
     (status ≤ 1)
     × (status ≡ 0 → PrintsAnswer (builtin_device {A = Global}) (text_of (map string_bytes words.items)) old new)
-IsDone reads writes (Ok (Some (Explain words))) status old new =
-    (status ≤ 1) × (status ≡ 0 → PrintsExplained (text_of (map string_bytes words.items)) old new)
+IsDone reads writes (Ok (Some (Explain e))) status old new =
+    (status ≤ 2)
+    × (status ≡ 0 → Explains (option_map string_bytes e.capture) (map string_bytes e.words.items) old new)
+IsDone reads writes (Ok (Some (Pics p))) status old new = status ≤ 1
 
 -- what clap answers of the words, and what is done for that
 pub record Runs (reads writes : List ℕ → List ℕ → Type 0) (words : List Text) (status : ℕ) (old new : Known) :

@@ -8,12 +8,13 @@ ghost use Rattle.site_check.specs.Judged.{AreJudged};
 ghost use Rattle.site_live.specs.Runs.{RunsLive};
 ghost use Rattle.site_run.specs.Simulate.{Simulates};
 
+use crate::describing::{explain, print_statement};
 use crate::files::Files;
 use crate::storming::storm_files;
 use clap::Error;
 use clap::error::ErrorKind;
 use command_order::{Checking, LiveRun, Order, Simulation, order_of};
-use console::{answer_line, explain_line, say_failed, say_refused};
+use console::{answer_line, say_failed, say_refused};
 use site_check::check;
 use site_live::{Ending, Settings, run_over_udp};
 use site_run::{simulate, simulate_traced};
@@ -57,11 +58,12 @@ fn done<R: Net + Clock, F: Files, W: Write, E: Write>(
 {
     match asked {
         Ok(Some(Order::Answer(words))) => answer_line(alloc, words.as_slice(), out, err),
-        Ok(Some(Order::Explain(words))) => explain_line(alloc, words.as_slice(), out, err),
+        Ok(Some(Order::Explain(explaining))) => explain(alloc, explaining, files, out, err),
         Ok(Some(Order::Sim(simulation))) => sim(alloc, simulation, files, out, err),
         Ok(Some(Order::Storm(storming))) => storm_files(alloc, storming, files, out, err),
         Ok(Some(Order::Run(run))) => run_live(host, alloc, run, files, out, err),
         Ok(Some(Order::Check(checking))) => check_files(alloc, checking, files, out, err),
+        Ok(Some(Order::Pics(stating))) => print_statement(alloc, *stating, out, err),
         Ok(None) => 2,
         Err(error) => show(error, out, err),
     }

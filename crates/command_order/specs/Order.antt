@@ -1,15 +1,18 @@
 -- The command line of the program, and what its words ask for.
-use Rattle.std.specs.Prelude.{◌≡◌, ◌≢◌, List, [], Option, Some, None, codes, map, true, option_map}
+use Rattle.std.specs.Prelude.{◌≡◌, ◌≢◌, List, [], Option, Some, None, codes, map, true, false, option_map}
 use Rattle.std.specs.Prelude.{unwrap_or, string_bytes}
 use Rattle.clap.specs.Lexer.{usize_max}
-use Rattle.clap.specs.Words.{App, Rule, Row, Text, new_app, new_rule, with_rule, with_subcommand, all_of, first_of, one_of}
+use Rattle.clap.specs.Words.{App, Rule, Row, Text, new_app, new_rule, with_rule, with_subcommand}
+use Rattle.clap.specs.Words.{all_of, first_of, one_of}
 use Rattle.clap.specs.declared.builder.ArgAction.TheVariants.{Append, Set, SetTrue}
 pub use Rattle.command_order.specs.Words.{IsFlag, file_rule, word_of}
+use Rattle.command_order.specs.Describing.{IsStatingOf, pcap_rule, pics}
 use Rattle.command_order.specs.Storming.{IsStormingOf, storm}
 use Rattle.command_order.specs.declared.order.Checking.{Checking}
+use Rattle.command_order.specs.declared.order.Explaining.{Explaining}
 use Rattle.command_order.specs.declared.order.LiveRun.{LiveRun}
 use Rattle.command_order.specs.declared.order.Order.{Order}
-use Rattle.command_order.specs.declared.order.Order.TheVariants.{Answer, Check, Explain, Run, Sim, Storm}
+use Rattle.command_order.specs.declared.order.Order.TheVariants.{Answer, Check, Explain, Pics, Run, Sim, Storm}
 use Rattle.command_order.specs.declared.order.Simulation.{Simulation}
 
 -- one word or more, which spell a datagram
@@ -24,6 +27,14 @@ hex_rule = record (new_rule (codes "hex")) {
 -- a subcommand with these words behind it
 abbrev pub tool : Text → App
 tool name = with_rule (new_app name) hex_rule
+
+-- the words that spell a datagram, or none
+abbrev pub optional_hex_rule : Rule
+optional_hex_rule = record hex_rule { required = false }
+
+-- the subcommand that explains a datagram, or a file with a capture
+abbrev pub explain : App
+explain = with_rule (with_rule (new_app (codes "explain")) optional_hex_rule) pcap_rule
 
 -- the program without its subcommands, one of which has to be there; it has a version
 abbrev pub bare : App
@@ -64,17 +75,17 @@ abbrev pub check : App
 check =
     with_rule (with_rule (new_app (codes "check")) (file_rule (codes "site"))) (optional_file_rule (codes "script"))
 
--- the program with the subcommands of one datagram: answer HEX.., explain HEX..
+-- the program with the subcommands of one datagram: answer HEX.., explain HEX.. or explain --pcap FILE
 abbrev pub tools : App
-tools = with_subcommand (with_subcommand bare (tool (codes "answer")).top) (tool (codes "explain")).top
+tools = with_subcommand (with_subcommand bare (tool (codes "answer")).top) explain.top
 
 -- .. with those of a simulated site: sim SITE SCRIPT [--trace], storm SITE SCRIPT --seed N --steps N ..
 abbrev pub simulators : App
 simulators = with_subcommand (with_subcommand tools sim.top) storm.top
 
--- the program: those, run SITE SCRIPT [--open] [--for SECONDS] and check SITE [SCRIPT]
+-- the program: those, run SITE SCRIPT [--open] [--for SECONDS], check SITE [SCRIPT] and pics [--markdown]
 abbrev pub program : App
-program = with_subcommand (with_subcommand simulators run.top) check.top
+program = with_subcommand (with_subcommand (with_subcommand simulators run.top) check.top) pics.top
 
 -- the subcommand that the words name
 abbrev pub name_of : Option (Text × List Row) → Option Text
@@ -93,6 +104,11 @@ digits_of (Some p) = hex_of p.1
 abbrev pub rows_in : Option (Text × List Row) → List Row
 rows_in None = []
 rows_in (Some p) = p.1
+
+-- the words that are given are taken apart, and the capture that is named
+pub record IsExplainingOf (rows : List Row) (e : Explaining) : Type 0 where
+  pub words : map string_bytes e.words.items ≡ hex_of rows
+  pub capture : option_map string_bytes e.capture ≡ first_of (codes "pcap") rows
 
 -- the simulation is of the files that are named, and is traced where that is asked for
 pub record IsSimulationOf (rows : List Row) (s : Simulation) : Type 0 where
@@ -117,15 +133,16 @@ abbrev pub NamesNone : Option (Text × List Row) → Type 0
 NamesNone found = (name_of found ≢ Some (codes "answer")) × (name_of found ≢ Some (codes "explain"))
     × (name_of found ≢ Some (codes "sim")) × (name_of found ≢ Some (codes "storm"))
     × (name_of found ≢ Some (codes "run")) × (name_of found ≢ Some (codes "check"))
+    × (name_of found ≢ Some (codes "pics"))
 
 -- the order is the subcommand that the words name, with the words behind it
 abbrev pub IsOrderOf : Option (Text × List Row) → Option Order → Type 0
 IsOrderOf found None = NamesNone found
 IsOrderOf found (Some (Answer words)) =
     (name_of found ≡ Some (codes "answer")) × (map string_bytes words.items ≡ digits_of found)
-IsOrderOf found (Some (Explain words)) =
-    (name_of found ≡ Some (codes "explain")) × (map string_bytes words.items ≡ digits_of found)
+IsOrderOf found (Some (Explain e)) = (name_of found ≡ Some (codes "explain")) × IsExplainingOf (rows_in found) e
 IsOrderOf found (Some (Sim s)) = (name_of found ≡ Some (codes "sim")) × IsSimulationOf (rows_in found) s
 IsOrderOf found (Some (Storm s)) = (name_of found ≡ Some (codes "storm")) × IsStormingOf (rows_in found) s
 IsOrderOf found (Some (Run r)) = (name_of found ≡ Some (codes "run")) × IsLiveRunOf (rows_in found) r
 IsOrderOf found (Some (Check c)) = (name_of found ≡ Some (codes "check")) × IsCheckingOf (rows_in found) c
+IsOrderOf found (Some (Pics p)) = (name_of found ≡ Some (codes "pics")) × IsStatingOf (rows_in found) p

@@ -5,9 +5,11 @@ ghost use Rattle.clap.specs.Words.{app_of, first_of, rule_of, rows_of, found_of,
 ghost use Rattle.clap.specs.Words.{subcommand_of, subcommand_rows_of, FailsBy, fault_of};
 ghost use Rattle.command_order.specs.Order.{program, bare, simulators, tool, tools, hex_rule, hex_of, sim, run, check};
 ghost use Rattle.command_order.specs.Storming.{IsStormingOf};
+ghost use Rattle.command_order.specs.Order.{explain, optional_hex_rule, IsExplainingOf};
 ghost use Rattle.command_order.specs.Order.{file_rule, open_rule, optional_file_rule, seconds_rule, trace_rule, word_of};
 ghost use Rattle.command_order.specs.Order.{IsOrderOf, IsSimulationOf, IsLiveRunOf, IsCheckingOf};
 
+use crate::describing::{Stating, pcap, pics, stating_in};
 use crate::storming::{Storming, storm, storming_in};
 use clap::{Arg, ArgAction, ArgMatches, Command, Error};
 use std::alloc::{AllocError, Global};
@@ -20,8 +22,8 @@ const VERSION: &str = "0.1.0";
 pub enum Order {
     /// Answer the datagram that these words spell.
     Answer(Vec<String>),
-    /// Take the datagram apart that these words spell.
-    Explain(Vec<String>),
+    /// Take a datagram apart, or each packet of a capture.
+    Explain(Explaining),
     /// Run a script at a site.
     Sim(Simulation),
     /// Run a script at a site, and go on at random.
@@ -30,6 +32,17 @@ pub enum Order {
     Run(LiveRun),
     /// Tell what is wrong with a site file, and with a script for it.
     Check(Checking),
+    /// Print the conformance statement.
+    Pics(Stating),
+}
+
+/// What is taken apart.
+#[derive(Drop)]
+pub struct Explaining {
+    /// The words that spell a datagram, if there are any.
+    pub words: Vec<String>,
+    /// The name of a capture's file, if one is named.
+    pub capture: Option<String>,
 }
 
 /// Which script is run at which site, and what is printed of it.
@@ -95,7 +108,7 @@ fn order_in(alloc: Global, matches: &ArgMatches<'_>) -> Result<Option<Order>, Al
         return Ok(Some(Order::Answer(hex_words(alloc, answer)?)));
     }
     if let Some(explain) = matches.subcommand_matches("explain") {
-        return Ok(Some(Order::Explain(hex_words(alloc, explain)?)));
+        return Ok(Some(Order::Explain(explaining_in(alloc, explain)?)));
     }
     if let Some(sim) = matches.subcommand_matches("sim") {
         return Ok(Some(Order::Sim(simulation_in(alloc, sim)?)));
@@ -109,7 +122,20 @@ fn order_in(alloc: Global, matches: &ArgMatches<'_>) -> Result<Option<Order>, Al
     if let Some(check) = matches.subcommand_matches("check") {
         return Ok(Some(Order::Check(checking_in(alloc, check)?)));
     }
+    if let Some(pics) = matches.subcommand_matches("pics") {
+        return Ok(Some(Order::Pics(stating_in(pics))));
+    }
     Ok(None)
+}
+
+/// What is to be taken apart.
+fn explaining_in(alloc: Global, matches: &ArgMatches<'_>) -> Result<Explaining, AllocError>
+    ensures { IfOk result (IsExplainingOf (rows_of (found_of matches.now))) }
+{
+    Ok(Explaining {
+        words: hex_words(alloc, matches)?,
+        capture: optional_word(alloc, matches, "pcap")?,
+    })
 }
 
 /// The simulation that is asked for.
@@ -174,7 +200,8 @@ fn command<'a>(alloc: Global) -> Result<Command<'a>, AllocError>
     ensures { IfOk result (λ c. app_of c ≡ program) }
 {
     let command = add(simulators(alloc)?, run(alloc)?)?;
-    add(command, check(alloc)?)
+    let command = add(command, check(alloc)?)?;
+    add(command, pics(alloc)?)
 }
 
 /// The program with the commands of one datagram, and those of a simulated site.
@@ -194,13 +221,18 @@ fn tools<'a>(alloc: Global) -> Result<Command<'a>, AllocError>
         "answer",
         "Prints what the built-in device answers to a BACnet/IP datagram",
     )?;
-    let explain = tool(
-        alloc,
-        "explain",
-        "Takes a BACnet/IP datagram apart: its headers, and its tags one by one",
-    )?;
     let command = add(bare(alloc), answer)?;
-    add(command, explain)
+    add(command, explain(alloc)?)
+}
+
+/// The command that explains a datagram, or a file with a capture.
+fn explain<'a>(alloc: Global) -> Result<Command<'a>, AllocError>
+    ensures { IfOk result (λ c. app_of c ≡ explain) }
+{
+    Command::new(alloc, "explain")
+        .about("Takes a BACnet/IP datagram apart: its headers, and its tags one by one")
+        .arg(optional_hex_argument(alloc))?
+        .arg(pcap(alloc))
 }
 
 /// The command that runs a script at a site.
@@ -366,6 +398,14 @@ fn hex_argument<'a>(alloc: Global) -> Arg<'a>
             "A BACnet/IP datagram: pairs of hexadecimal digits, with spaces between pairs or none, \
              as 81 0A 00 11 01 04 02 65 01 0C 0C 01 40 00 01 19 55",
         )
+}
+
+/// The words that spell a datagram, or none.
+fn optional_hex_argument<'a>(alloc: Global) -> Arg<'a>
+    ensures rule { rule_of result ≡ optional_hex_rule }
+    ensures own { result.global ≡ false }
+{
+    hex_argument(alloc).required(false)
 }
 
 /// The words behind a subcommand.

@@ -14,6 +14,7 @@ fn main(rt: HostRuntime) -> io::Result<()> {
     run_folder::<rows_site::Sites>(&rt, "site")?;
     run_folder::<rows_site_text::Texts>(&rt, "site_text")?;
     run_folder::<rows_check::Checks>(&rt, "check")?;
+    run_folder::<rows_captures::CaptureRows>(&rt, "captures")?;
     run_folder::<rows_judge::Judged>(&rt, "judge")?;
     run_folder::<rows_transactions::Transactions>(&rt, "transactions")?;
     run_folder::<rows_state_machines::Machines>(&rt, "state_machines")?;

@@ -140,7 +140,18 @@ const SCRIPT: &str = "whois c\nflow 50\nissue c 10 write 5:1 85 enum 1\nflow 50\
 /// The third line asks for nothing.
 const NO_SCRIPT: &str = "whois c\nflow 50\ndeliver x\n";
 
-/// Four files, `p.toml`, `none.toml`, `live.script` and `bad.script`, and one that may be written, `storm.script`.
+/// A file of pcap with one packet of IP, in which a client reads 5:1 of a device.
+const CAPTURE: &[u8] = &[
+    0xA1, 0xB2, 0xC3, 0xD4, 0x00, 0x02, 0x00, 0x04, 0x00, 0x00, 0x00, 0x00, 0x00, 0x00, 0x00, 0x00,
+    0x00, 0x00, 0xFF, 0xFF, 0x00, 0x00, 0x00, 0x65, 0x00, 0x00, 0x00, 0x64, 0x00, 0x00, 0x00, 0x01,
+    0x00, 0x00, 0x00, 0x2D, 0x00, 0x00, 0x00, 0x2D, 0x45, 0x00, 0x00, 0x2D, 0x00, 0x00, 0x40, 0x00,
+    0x40, 0x11, 0x3C, 0xBE, 0x7F, 0x00, 0x00, 0x01, 0x7F, 0x00, 0x00, 0x01, 0xBA, 0xC1, 0xBA, 0xC0,
+    0x00, 0x19, 0x64, 0x8C, 0x81, 0x0A, 0x00, 0x11, 0x01, 0x04, 0x02, 0x65, 0x01, 0x0C, 0x0C, 0x01,
+    0x40, 0x00, 0x01, 0x19, 0x55,
+];
+
+/// Five files, `p.toml`, `none.toml`, `live.script`, `bad.script` and `one.pcap`, and one that may be written,
+/// `storm.script`.
 #[derive(Clone, Copy)]
 struct Texts;
 
@@ -151,14 +162,15 @@ impl Files for Texts {
     ghost writes = { λ _ _ _. Unit {0} };
 
     fn read(&self, alloc: Global, name: &str) -> io::Result<Vec<u8>> {
-        let text = match name {
-            "p.toml" => SITE,
-            "none.toml" => NO_SITE,
-            "live.script" => SCRIPT,
-            "bad.script" => NO_SCRIPT,
+        let file = match name {
+            "p.toml" => SITE.as_bytes(),
+            "none.toml" => NO_SITE.as_bytes(),
+            "live.script" => SCRIPT.as_bytes(),
+            "bad.script" => NO_SCRIPT.as_bytes(),
+            "one.pcap" => CAPTURE,
             _ => return Err(io::ErrorKind::NotFound.into()),
         };
-        let octets = Vec::from_slice(alloc, text.as_bytes())?;
+        let octets = Vec::from_slice(alloc, file)?;
         Ok(octets)
     }
 

@@ -1,0 +1,5 @@
+use Rattle.std.proofs.Common.{length}
+use Rattle.capture_lines.proofs.explaining.print_packets.Given as goal
+
+abbrev pub decreases-loop-capture : goal.decreases-loop-capture
+decreases-loop-capture g l = length l.capture
