@@ -15,7 +15,9 @@ use clap::Error;
 use clap::error::ErrorKind;
 use command_order::{Checking, LiveRun, Order, Simulation, order_of};
 use console::{answer_line, say_failed, say_refused};
+use site_capture::capture;
 use site_check::check;
+use site_history::say_stop;
 use site_live::{Ending, Settings, run_over_udp};
 use site_run::{simulate, simulate_traced};
 use std::alloc::Global;
@@ -83,11 +85,12 @@ fn sim<F: Files, W: Write, E: Write>(
 {
     match texts_of(alloc, &simulation.site, &simulation.script, files) {
         Ok((site, script)) => {
-            run_texts(
+            sim_texts(
                 alloc,
                 site.as_slice(),
                 script.as_slice(),
-                simulation.is_traced,
+                simulation,
+                files,
                 out,
                 err,
             )
@@ -176,6 +179,50 @@ fn run_live_texts<R: Net + Clock, W: Write, E: Write>(
     match host {
         Some(host) => run_over_udp(host, alloc, alloc, site, script, settings, out, err),
         None => say_refused(Fault::Wire, err),
+    }
+}
+
+/// Runs a script at a site, and writes a capture of what is put out, if a file is named for it.
+fn sim_texts<F: Files, W: Write, E: Write>(
+    alloc: Global,
+    site: &[u8],
+    script: &[u8],
+    simulation: &Simulation,
+    files: &F,
+    out: &mut W,
+    err: &mut E,
+) -> u8
+    ensures status { result ≤ 1 }
+    ensures simulates { result ≡ 0 → Simulates Global (spec.telling_of simulation.now.is_traced) site.now script.now
+        (W.contents out.old) (W.contents out.new) }
+{
+    let status = run_texts(alloc, site, script, simulation.is_traced, out, err);
+    if status != 0 {
+        return status;
+    }
+    match &simulation.capture {
+        Some(name) => write_capture(alloc, name, site, script, files, err),
+        None => 0,
+    }
+}
+
+/// Writes a capture of what a script puts out at a site, and answers the exit status.
+fn write_capture<F: Files, E: Write>(
+    alloc: Global,
+    name: &String,
+    site: &[u8],
+    script: &[u8],
+    files: &F,
+    err: &mut E,
+) -> u8
+    ensures { result ≤ 1 }
+{
+    match capture(alloc, alloc, site, script) {
+        Ok(file) => match files.write(name.as_str(), file.as_slice()) {
+            Ok(()) => 0,
+            Err(error) => say_unread(&error, err),
+        },
+        Err(stop) => say_stop(stop, err),
     }
 }
 

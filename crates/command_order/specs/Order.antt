@@ -53,8 +53,8 @@ trace_rule = record (new_rule (codes "trace")) { long = Some (codes "trace"); ac
 -- the subcommand that runs a script at a site
 abbrev pub sim : App
 sim =
-    with_rule (with_rule (with_rule (new_app (codes "sim")) (file_rule (codes "site"))) (file_rule (codes "script")))
-    trace_rule
+    with_rule (with_rule (with_rule (with_rule (new_app (codes "sim")) (file_rule (codes "site")))
+    (file_rule (codes "script"))) trace_rule) pcap_rule
 
 -- a number of seconds that is given or not
 abbrev pub seconds_rule : Rule
@@ -79,7 +79,7 @@ check =
 abbrev pub tools : App
 tools = with_subcommand (with_subcommand bare (tool (codes "answer")).top) explain.top
 
--- .. with those of a simulated site: sim SITE SCRIPT [--trace], storm SITE SCRIPT --seed N --steps N ..
+-- .. with those of a simulated site: sim SITE SCRIPT [--trace] [--pcap FILE], storm SITE SCRIPT --seed N --steps N ..
 abbrev pub simulators : App
 simulators = with_subcommand (with_subcommand tools sim.top) storm.top
 
@@ -110,11 +110,12 @@ pub record IsExplainingOf (rows : List Row) (e : Explaining) : Type 0 where
   pub words : map string_bytes e.words.items ≡ hex_of rows
   pub capture : option_map string_bytes e.capture ≡ first_of (codes "pcap") rows
 
--- the simulation is of the files that are named, and is traced where that is asked for
+-- the simulation is of the files that are named, is traced where that is asked for, and captured where a file is named
 pub record IsSimulationOf (rows : List Row) (s : Simulation) : Type 0 where
   pub site : string_bytes s.site ≡ word_of (codes "site") rows
   pub script : string_bytes s.script ≡ word_of (codes "script") rows
   pub trace : IsFlag (one_of (codes "trace") rows) s.is_traced
+  pub capture : option_map string_bytes s.capture ≡ first_of (codes "pcap") rows
 
 -- the live run is of the files that are named, is open where that is asked for, and goes on for the seconds given
 pub record IsLiveRunOf (rows : List Row) (r : LiveRun) : Type 0 where

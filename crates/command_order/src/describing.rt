@@ -54,3 +54,15 @@ pub(crate) fn pcap<'a>(alloc: Global) -> Arg<'a>
         .action(ArgAction::Set)
         .help("Explains each packet of a file of pcap or pcapng, in place of HEX")
 }
+
+/// The name of a file for a capture of what is put out.
+pub(crate) fn written_pcap<'a>(alloc: Global) -> Arg<'a>
+    ensures rule { rule_of result ≡ spec.pcap_rule }
+    ensures own { result.global ≡ false }
+{
+    Arg::new(alloc, "pcap")
+        .long("pcap")
+        .value_name("FILE")
+        .action(ArgAction::Set)
+        .help("Writes each datagram and each frame that is put out to a file of pcapng")
+}

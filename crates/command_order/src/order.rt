@@ -9,7 +9,7 @@ ghost use Rattle.command_order.specs.Order.{explain, optional_hex_rule, IsExplai
 ghost use Rattle.command_order.specs.Order.{file_rule, open_rule, optional_file_rule, seconds_rule, trace_rule, word_of};
 ghost use Rattle.command_order.specs.Order.{IsOrderOf, IsSimulationOf, IsLiveRunOf, IsCheckingOf};
 
-use crate::describing::{Stating, pcap, pics, stating_in};
+use crate::describing::{Stating, pcap, pics, stating_in, written_pcap};
 use crate::storming::{Storming, storm, storming_in};
 use clap::{Arg, ArgAction, ArgMatches, Command, Error};
 use std::alloc::{AllocError, Global};
@@ -54,6 +54,8 @@ pub struct Simulation {
     pub script: String,
     /// Whether each datagram is printed that is put out.
     pub is_traced: bool,
+    /// The name of a file for a capture of what is put out, if one is named.
+    pub capture: Option<String>,
 }
 
 /// Which site is run live, with which script, and how.
@@ -146,6 +148,7 @@ fn simulation_in(alloc: Global, matches: &ArgMatches<'_>) -> Result<Simulation, 
         site: word(alloc, matches, "site")?,
         script: word(alloc, matches, "script")?,
         is_traced: matches.get_flag("trace"),
+        capture: optional_word(alloc, matches, "pcap")?,
     })
 }
 
@@ -253,7 +256,8 @@ fn sim<'a>(alloc: Global) -> Result<Command<'a>, AllocError>
             "SCRIPT",
             "A text with a step on each line, as docs/script.md says",
         ))?
-        .arg(trace(alloc))
+        .arg(trace(alloc))?
+        .arg(written_pcap(alloc))
 }
 
 /// The command that runs a site live.

@@ -150,8 +150,11 @@ const CAPTURE: &[u8] = &[
     0x40, 0x00, 0x01, 0x19, 0x55,
 ];
 
-/// Five files, `p.toml`, `none.toml`, `live.script`, `bad.script` and `one.pcap`, and one that may be written,
-/// `storm.script`.
+/// What a file of pcapng begins with: the type of its first block.
+const SECTION: &[u8] = &[0x0A, 0x0D, 0x0D, 0x0A];
+
+/// Five files, `p.toml`, `none.toml`, `live.script`, `bad.script` and `one.pcap`, and two that may be written,
+/// `storm.script`, and `live.pcapng` if it is one of pcapng.
 #[derive(Clone, Copy)]
 struct Texts;
 
@@ -174,9 +177,10 @@ impl Files for Texts {
         Ok(octets)
     }
 
-    fn write(&self, name: &str, _octets: &[u8]) -> io::Result<()> {
+    fn write(&self, name: &str, octets: &[u8]) -> io::Result<()> {
         match name {
             "storm.script" => Ok(()),
+            "live.pcapng" if octets.starts_with(SECTION) => Ok(()),
             _ => Err(io::ErrorKind::PermissionDenied.into()),
         }
     }

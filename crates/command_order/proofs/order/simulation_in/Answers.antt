@@ -15,4 +15,5 @@ returns c =
         other = λ e. c.get_flag.ensures.other (read ∙ e);
         none = λ e. c.get_flag.ensures.none (read ∙ e);
       };
+      capture = c.in_ok-optional_word.ensures;
     }
