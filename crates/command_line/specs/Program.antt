@@ -18,7 +18,7 @@ use Rattle.site_run.specs.Simulate.{Simulates}
 use Rattle.site_run.specs.declared.running.Telling.{Telling}
 use Rattle.site_run.specs.declared.running.Telling.TheVariants.{Entries, All}
 use Rattle.command_order.specs.Order.{program, IsOrderOf}
-use Rattle.command_line.specs.Describing.{Explains}
+use Rattle.command_line.specs.Describing.{IsExplained}
 use Rattle.command_line.specs.Storming.{PrintsStorming}
 
 -- clap was asked for help or the version
@@ -86,8 +86,7 @@ IsDone reads writes (Ok (Some (Answer words))) status old new =
     (status ≤ 1)
     × (status ≡ 0 → PrintsAnswer (builtin_device {A = Global}) (text_of (map string_bytes words.items)) old new)
 IsDone reads writes (Ok (Some (Explain e))) status old new =
-    (status ≤ 2)
-    × (status ≡ 0 → Explains (option_map string_bytes e.capture) (map string_bytes e.words.items) old new)
+    IsExplained (option_map string_bytes e.capture) (map string_bytes e.words.items) status old new
 IsDone reads writes (Ok (Some (Pics p))) status old new = status ≤ 1
 
 -- what clap answers of the words, and what is done for that

@@ -4,6 +4,7 @@ use Rattle.std.specs.Global.{Global}
 use Rattle.command_order.specs.declared.storming.Storming.{Storming}
 use Rattle.site_storm.specs.Lines.{Known}
 use Rattle.site_storm.specs.Storming.{CountsStorm, Storms}
+use Rattle.words.specs.Says.{SaysUnsigned}
 
 -- a file was written, if one is named
 abbrev pub IsWrittenIfNamed : (List ℕ → List ℕ → Type 0) → Option (List ℕ) → List ℕ → Type 0
@@ -30,11 +31,13 @@ pub record PrintsTexts (writes : List ℕ → List ℕ → Type 0) (s : Storming
   pub printed : PrintsOrCounts s.is_counted site script n (Some begun) (Some lines) old new
   pub written : IsWrittenIfNamed writes (option_map string_bytes s.file) lines
 
--- the files of a storm were read, by what reads them, and what came of it was printed and written
+-- the files of a storm were read, by what reads them, and what came of as many events as its word says was printed and
+-- written
 pub record PrintsStorming (reads writes : List ℕ → List ℕ → Type 0) (s : Storming) (old new : Known) : Type 0 where
   pub site : List ℕ
   pub script : List ℕ
   pub steps : ℕ
+  pub steps_said : SaysUnsigned 64 (string_bytes s.steps) steps
   pub site_read : reads (string_bytes s.site) site
   pub script_read : reads (string_bytes s.script) script
   pub storms : PrintsTexts writes s site script steps old new

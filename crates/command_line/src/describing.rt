@@ -20,15 +20,13 @@ pub(crate) fn explain<F: Files, W: Write, E: Write>(
     out: &mut W,
     err: &mut E,
 ) -> u8
-    ensures status { result ≤ 2 }
-    ensures explained { result ≡ 0
-        → spec.Explains (option_map string_bytes explaining.now.capture)
-        (map string_bytes explaining.now.words.items) (W.contents out.old) (W.contents out.new) }
+    ensures { spec.IsExplained (option_map string_bytes explaining.now.capture)
+        (map string_bytes explaining.now.words.items) result (W.contents out.old) (W.contents out.new) }
 {
-    match (&explaining.capture, explaining.words.is_empty()) {
-        (None, false) => explain_line(alloc, explaining.words.as_slice(), out, err),
-        (Some(name), true) => explain_file(alloc, name, files, out, err),
-        (None, true) | (Some(_), false) => {
+    match (&explaining.capture, explaining.words.as_slice()) {
+        (None, [_, ..]) => explain_line(alloc, explaining.words.as_slice(), out, err),
+        (Some(name), []) => explain_file(alloc, name, files, out, err),
+        (None, []) | (Some(_), [_, ..]) => {
             let _ = writeln!(err, "bacsite: explain takes HEX or --pcap FILE");
             2
         }

@@ -1,7 +1,8 @@
 //! What is done for the command line of a storm.
 
-ghost use Rattle.std.specs.Prelude.{◌≡◌, ◌≤◌, Some, IfOk, OnOk, option_map, string_bytes};
+ghost use Rattle.std.specs.Prelude.{◌≡◌, ◌≤◌, Some, IfOk, IfSome, OnOk, option_map, string_bytes};
 ghost use Rattle.std.specs.Global.{Global};
+ghost use Rattle.words.specs.Says.{SaysUnsigned};
 ghost use Rattle.command_line.specs.Storming as spec;
 
 use crate::files::Files;
@@ -13,6 +14,7 @@ use std::alloc::{AllocError, Global};
 use std::io;
 use std::io::Write;
 use tags::Fault;
+use words::parse_u64;
 
 /// The percents that a word says, 0 to 100, or those that hold where there is no word.
 fn percent_of(word: Option<&str>, usual: u8) -> Option<u8> {
@@ -39,11 +41,13 @@ fn chances_of(percents: &Percents) -> Option<Chances> {
 }
 
 /// The storm that is asked for; one of the words may be no number.
-fn weather_of(storming: &Storming) -> Option<Weather> {
-    let Ok(seed) = storming.seed.as_str().parse::<u64>() else {
+fn weather_of(storming: &Storming) -> Option<Weather>
+    ensures { IfSome result (λ weather. SaysUnsigned 64 (string_bytes storming.now.steps) weather.steps) }
+{
+    let Ok(seed) = parse_u64(storming.seed.as_str()) else {
         return None;
     };
-    let Ok(steps) = storming.steps.as_str().parse::<u64>() else {
+    let Ok(steps) = parse_u64(storming.steps.as_str()) else {
         return None;
     };
     Some(Weather {
