@@ -132,6 +132,7 @@ impl<'a> Apdu<'a> {
     /// `Short` where the header is cut, `BadTag` for a type over 7, or an Error whose contents are
     /// not those of its service, also where they are cut, `BadLength` for octets left over behind a
     /// SimpleACK, SegmentACK, Reject or Abort.
+    #[inline(always)]
     pub fn read(octets: &'a [u8]) -> Result<Apdu<'a>, Fault>
         ensures read { IfOk result (λ a. Spells octets.entry.now (apdu_of a)) }
         ensures only { IfOk result (λ a. OnlyApdu octets.entry.now (apdu_of a)) }
@@ -143,11 +144,36 @@ impl<'a> Apdu<'a> {
             return Err(Fault::Short);
         };
         let kind = PduType::try_from(*first >> 4)?;
-        apdu_from(kind, *first, rest)
+        apdu_behind(kind, *first, rest)
     }
 }
 
-/// The APDU of this type that stands behind its first octet.
+/// The APDU of this type that stands behind its first octet. A request that is no segment is told at once.
+#[inline(always)]
+fn apdu_behind(kind: PduType, first: u8, rest: &[u8]) -> Result<Apdu<'_>, Fault>
+    ensures read { IfOk result (λ a. SpellsBehind kind first rest.now (apdu_of a)) }
+    ensures named { IfOk result HasNamedNumbers }
+    ensures fault { IfErr result (λ e. RefusesBehind e kind first rest.now) }
+{
+    if kind != PduType::ConfirmedRequest || says_segment(first) {
+        return apdu_from(kind, first, rest);
+    }
+    let [sizes, invoke_id, service, data @ ..] = rest else {
+        return apdu_from(kind, first, rest);
+    };
+    Ok(Apdu::ConfirmedRequest {
+        segment: None,
+        segmented_response_accepted: (first >> 1) & 1 == 1,
+        max_segments: MaxSegments::try_from((*sizes >> 4) & 7).unwrap(),
+        max_apdu: MaxApdu::from(*sizes & 15),
+        invoke_id: *invoke_id,
+        service: *service,
+        data,
+    })
+}
+
+/// The APDU of this type, whichever it is, that stands behind its first octet.
+#[inline(never)]
 fn apdu_from(kind: PduType, first: u8, rest: &[u8]) -> Result<Apdu<'_>, Fault>
     ensures read { IfOk result (λ a. SpellsBehind kind first rest.now (apdu_of a)) }
     ensures named { IfOk result HasNamedNumbers }
@@ -491,6 +517,7 @@ fn put_data<B: Allocator>(service: u8, data: &[u8], out: &mut Vec<u8, B>) -> Res
 }
 
 /// Invoke ID, the segment's numbers, service and data.
+#[inline(always)]
 fn put_segmented<B: Allocator>(
     invoke_id: u8,
     segment: &Option<Segment>,

@@ -55,7 +55,8 @@ fn control_of(view: &View<'_>) -> u8
         + u8::from(view.priority)
 }
 
-/// The header whose control octet this is, with these octets behind it.
+/// The header whose control octet this is, with these octets behind it, field by field.
+#[inline(never)]
 fn fields_from(control: u8, octets: &[u8]) -> Result<View<'_>, Fault>
     ensures read { IfOk result (λ view. SpellsFields control octets.now (header_of view)) }
     ensures refused { OnErr result (NoFields control octets.now) }
@@ -73,6 +74,26 @@ fn fields_from(control: u8, octets: &[u8]) -> Result<View<'_>, Fault>
         source,
         message,
         body,
+    })
+}
+
+/// The header whose control octet this is, with these octets behind it. Most announce no field, and are told at once.
+fn view_from(control: u8, octets: &[u8]) -> Result<View<'_>, Fault>
+    ensures read { IfOk result (λ view. SpellsFields control octets.now (header_of view)) }
+    ensures refused { OnErr result (NoFields control octets.now) }
+    ensures fault { IfErr result (λ fault. RefusesFields fault control octets.now) }
+{
+    let bits = control_in(control);
+    if bits.message || bits.destination || bits.source {
+        return fields_from(control, octets);
+    }
+    Ok(View {
+        expects_reply: bits.expects_reply,
+        priority: bits.priority,
+        destination: None,
+        source: None,
+        message: None,
+        body: octets,
     })
 }
 
@@ -107,7 +128,7 @@ impl<'a> View<'a> {
         ensures fault { IfErr result (λ fault. Refuses fault octets.entry.now) }
     {
         match octets {
-            [VERSION, control, rest @ ..] => fields_from(*control, rest),
+            [VERSION, control, rest @ ..] => view_from(*control, rest),
             [] => Err(Fault::Short),
             [VERSION] => Err(Fault::Short),
             _ => Err(Fault::BadVersion),

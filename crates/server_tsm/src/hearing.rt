@@ -445,6 +445,27 @@ impl<E: Executor<A> + Drop, A: Allocator + Copy> ServerTsm<E, A> {
         self.heard(origin, apdu, now)
     }
 
+    /// What the server plans for a Confirmed-Request, whole or a segment.
+    fn request_heard(
+        &self,
+        asked: Asked,
+        by_broadcast: bool,
+        segment: Option<Segment>,
+        octets: &[u8],
+        now: u64,
+    ) -> Result<ServerPlan<A>, AllocError>
+        ensures { IfOk result (IsFinished now (unless (is_deaf now by_broadcast self.now)
+            (request_heard segment now asked octets.now self.now)) self.now) }
+    {
+        let heard = HeardRequest {
+            alloc: self.alloc,
+            moment: now,
+            asked,
+            octets,
+        };
+        self.asked(&heard, by_broadcast, segment)
+    }
+
     /// What the server plans for this APDU.
     fn heard(&self, origin: &Origin, apdu: &Apdu<'_>, now: u64) -> Result<ServerPlan<A>, AllocError>
         ensures { IfOk result (IsPlan now origin.now (heard_of apdu.now) self.now) }
@@ -468,18 +489,13 @@ impl<E: Executor<A> + Drop, A: Allocator + Copy> ServerTsm<E, A> {
                     max_segments: *max_segments,
                     max_apdu: *max_apdu,
                 };
-                let heard = HeardRequest {
-                    alloc: self.alloc,
-                    moment: now,
-                    asked: Asked {
-                        asker,
-                        way: origin.way,
-                        limits,
-                        service: *service,
-                    },
-                    octets: data,
+                let asked = Asked {
+                    asker,
+                    way: origin.way,
+                    limits,
+                    service: *service,
                 };
-                self.asked(&heard, origin.by_broadcast, *segment)
+                self.request_heard(asked, origin.by_broadcast, *segment, data, now)
             }
             Apdu::SegmentAck {
                 server: false,

@@ -271,6 +271,7 @@ impl<E: Executor<A> + Drop, A: Allocator + Copy> ServerTsm<E, A> {
 
     /// A request is executed, and this remembered of it. No memory is taken after the execution.
     #[tactic(auto, using(crate::proofs::Kept::kept_rules, crate::proofs::Names::left_name))]
+    #[inline(never)]
     fn execute(
         &mut self,
         request: &Request<A>,

@@ -41,6 +41,7 @@ pub(crate) struct WriteParameters<A: Allocator> {
 }
 
 /// The object and the property with which ReadProperty and WriteProperty begin (15.5.1, 15.9.1).
+#[inline(always)]
 fn read_property(reader: &mut Reader<'_>) -> Result<(ObjectId, u32), RejectReason>
     ensures read { IfOk result (λ x. TakesProperty reader.old x.0 x.1 reader.new) }
     ensures sound { IfOk result (λ x. IsSoundId x.0) }

@@ -7,14 +7,14 @@ use Rattle.npdu.proofs.HeaderLaws.{no_header, cut_none, cut_version}
 use Rattle.npdu.proofs.view.View.read.Goals as goal
 
 pub returns-in-1-clause-only : goal.returns-in-1-clause-only
-returns-in-1-clause-only c = IfOk-weaker c.fields_from.result _ _
+returns-in-1-clause-only c = IfOk-weaker c.view_from.result _ _
     (λ view s. only_header c.args.octets.now (slice_index_or c.args.octets.now 1 0) (take (length c.args.octets.now - 2) (drop 2 c.args.octets.now))
-    (header_of view) (grind (arith, common_steps)) s) c.fields_from.ensures.read
+    (header_of view) (grind (arith, common_steps)) s) c.view_from.ensures.read
 
 pub returns-in-1-clause-refused : goal.returns-in-1-clause-refused
-returns-in-1-clause-refused c = on_err_weaker c.fields_from.result
+returns-in-1-clause-refused c = on_err_weaker c.view_from.result
     (no_header c.args.octets.now (slice_index_or c.args.octets.now 1 0) (take (length c.args.octets.now - 2) (drop 2 c.args.octets.now))
-    (grind (arith, common_steps))) c.fields_from.ensures.refused
+    (grind (arith, common_steps))) c.view_from.ensures.refused
 
 pub returns-in-empty-clause-fault : goal.returns-in-empty-clause-fault
 returns-in-empty-clause-fault c = cut_none c.args.octets.now (omega arith)
