@@ -3,3 +3,5 @@ pub mod Raging
 pub mod Waits
 pub mod Counting
 pub mod Storming
+-- What the layers above cite of those below.
+pub use Rattle.site_run.specs as site_run

@@ -24,5 +24,8 @@ mod waits;
 pub use counts::{CountLine, Counts, MessageCounts, OutcomeCounts, counts_of};
 pub use event_line::EventLine;
 pub use raging::Weather;
+pub use site_run::{
+    EntryLine, Event, Opened, Step, Stop, Telling, World, WorldEntry, open, say_stop, take_steps,
+};
 pub use storm::Chances;
 pub use storming::{storm, storm_counted};

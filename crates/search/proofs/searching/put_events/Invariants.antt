@@ -1,0 +1,6 @@
+use Rattle.std.specs.List.{AllByRecursion}
+use Rattle.simulator.specs.internetwork.Step.{IsSoundEvent}
+use Rattle.search.proofs.searching.put_events.Given as goal
+
+abbrev pub invariant-loop-choice : goal.invariant-loop-choice
+invariant-loop-choice g l = AllByRecursion IsSoundEvent l.events

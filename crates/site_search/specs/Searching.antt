@@ -1,0 +1,74 @@
+-- What is written of a search behind a script at a site, as their texts describe them.
+use Rattle.std.specs.Prelude.{◌≡◌, ◌≤◌, ◌⊎◌, ℕ, List, [], ◌∷◌, ◌++◌, Some, length}
+use Rattle.std.specs.Io.KnownBytes.{Appends}
+use Rattle.std.specs.List.{AllByRecursion}
+use Rattle.site_storm.specs.site_run.script.declared.step.Step.{Step}
+use Rattle.site_storm.specs.site_run.simulator.carry_world.Laws.{IsLegal}
+use Rattle.site_storm.specs.site_run.simulator.hosts.Opening.{object_site}
+use Rattle.site_storm.specs.site_run.simulator.hosts.Stations.{devices_of}
+use Rattle.site_storm.specs.site_run.simulator.internetwork.Hearing.{Then}
+use Rattle.site_storm.specs.site_run.simulator.internetwork.Step.{IsSoundEvent, Steps}
+use Rattle.site_storm.specs.site_run.simulator.internetwork.World.{WorldState}
+use Rattle.site_storm.specs.site_run.simulator.internetwork.declared.event.Event.{Event}
+use Rattle.site_storm.specs.site_run.site_history.Printed.{Known}
+use Rattle.site_storm.specs.site_run.Running.{PrintsSteps}
+use Rattle.site_storm.specs.site_run.Simulate.{IsOpened}
+use Rattle.site_storm.specs.site_run.declared.running.Telling.TheVariants.{Entries}
+use Rattle.site_search.specs.declared.searching.Found.{Found}
+use Rattle.site_search.specs.declared.searching.Found.TheVariants.{Written, NoneWithin}
+use Rattle.site_search.specs.Words.{HasNewEntry}
+use Rattle.site_storm.specs.Lines.{events_text}
+
+-- events happened in a world, one after another, and none was refused
+abbrev pub Happen : {A : Type 0} → List (Event A) → WorldState A → WorldState A → Type 0
+Happen [] w v = v ≡ w
+Happen (e ∷ es) w v = Then (Steps e w) (λ u. Happen es u v)
+
+-- so many sound events, or fewer, happened in a world, and the history that is left, which is legal, has a new entry of
+-- these words
+pub record Leads {A : Type 0} (words : List ℕ) (depth : ℕ) (events : List (Event A)) (begun left : WorldState A) :
+    Type 0 where
+  pub few : length events ≤ depth
+  pub sound : AllByRecursion IsSoundEvent events
+  pub happen : Happen events begun left
+  pub entry : HasNewEntry words (length begun.history) left
+  pub legal : IsLegal (object_site left.site) left.history (devices_of left.stations)
+
+-- a script is written, with an end of its last line where that has none, and lines behind it
+pub record IsWritten (script lines : List ℕ) (old new : Known) : Type 0 where
+  pub end_of_line : List ℕ
+  pub one_at_most : (end_of_line ≡ []) ⊎ (end_of_line ≡ 10 ∷ [])
+  pub written : Appends old new (script ++ (end_of_line ++ lines))
+
+-- nothing is written where there are no such events
+abbrev pub WritesNothingIfNone : (old new : Known) → Found → Type 0
+WritesNothingIfNone old new Written = Unit {0}
+WritesNothingIfNone old new (NoneWithin depth) = new ≡ old
+
+-- a script is written, and behind it events that lead to a new entry of these words, each on a line
+pub record WritesFound {A : Type 0} (script words : List ℕ) (depth : ℕ) (begun : WorldState A) (old new : Known) :
+    Type 0 where
+  pub events : List (Event A)
+  pub left : WorldState A
+  pub leads : Leads words depth events begun left
+  pub written : IsWritten script (events_text events) old new
+
+-- steps were taken in a world, one after another
+pub record Begins {A : Type 0} (steps : List (Step A)) (fresh begun : WorldState A) : Type 0 where
+  pub printed : Known
+  pub taken : PrintsSteps Entries steps fresh begun (Some []) printed
+
+-- .. and from there events lead to a new entry of these words
+pub record Continues {A : Type 0} (script words : List ℕ) (depth : ℕ) (steps : List (Step A)) (fresh : WorldState A)
+    (old new : Known) : Type 0 where
+  pub begun : WorldState A
+  pub begins : Begins steps fresh begun
+  pub found : WritesFound script words depth begun old new
+
+-- the texts are those of a sound site and of a script, its steps were taken there, and from there events lead to a new
+-- entry of these words
+pub record Searches (A : Type 0) (site script words : List ℕ) (depth : ℕ) (old new : Known) : Type 0 where
+  pub fresh : WorldState A
+  pub steps : List (Step A)
+  pub opened : IsOpened site script fresh steps
+  pub continues : Continues script words depth steps fresh old new

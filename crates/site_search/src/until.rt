@@ -1,0 +1,114 @@
+//! Which entry of the history is searched for.
+
+ghost use Rattle.std.specs.Prelude.{◌≡◌, true, IfOk};
+ghost use Rattle.site_storm.specs.site_run.site_history.Printed.{entry_text};
+ghost use Rattle.site_search.specs.Words as spec;
+ghost use Rattle.site_search.specs.Words.{HasEntry, HasNewEntry, HasWords, IsWordEnd};
+
+use search::Goal;
+use site_parts::Station;
+use site_storm::{EntryLine, World, WorldEntry};
+use std::alloc::{AllocError, Allocator};
+
+/// An entry of the history behind so many, whose words behind its moment are these or begin with them.
+#[derive(Clone, Copy)]
+pub(crate) struct Until<'a, A: Allocator + Copy> {
+    /// The memory in which entries are printed.
+    pub(crate) alloc: A,
+    pub(crate) words: &'a [u8],
+    pub(crate) entries: usize,
+}
+
+impl<A: Allocator + Copy> Goal<A> for Until<'_, A> {
+    fn is_met(&self, world: &World<A>) -> Result<bool, AllocError> {
+        has_new_entry(self.alloc, world, self.entries, self.words)
+    }
+}
+
+/// Whether a history has an entry of these words behind so many. It is printed in memory of `alloc` for that.
+///
+/// # Errors
+/// Want of memory.
+fn has_new_entry<A: Allocator + Copy>(
+    alloc: A,
+    world: &World<A>,
+    entries: usize,
+    words: &[u8],
+) -> Result<bool, AllocError>
+    ensures { IfOk result (λ b. b ≡ true → HasNewEntry words.now entries world.now) }
+{
+    has_entry(
+        alloc,
+        world.site().stations(),
+        world.history(),
+        entries,
+        words,
+    )
+}
+
+/// Whether an entry at this place or behind it has these words.
+pub(crate) fn has_entry<A: Allocator + Copy>(
+    alloc: A,
+    stations: &[Station<A>],
+    history: &[WorldEntry<A>],
+    first: usize,
+    words: &[u8],
+) -> Result<bool, AllocError>
+    ensures { IfOk result (λ b. b ≡ true → HasEntry words.now stations.now first history.now) }
+{
+    for place in first..history.len() {
+        if is_entry(alloc, stations, &history[place], words)? {
+            return Ok(true);
+        }
+    }
+    Ok(false)
+}
+
+/// Whether an entry has these words.
+fn is_entry<A: Allocator + Copy>(
+    alloc: A,
+    stations: &[Station<A>],
+    entry: &WorldEntry<A>,
+    words: &[u8],
+) -> Result<bool, AllocError>
+    ensures { IfOk result (λ b. b ≡ true → HasWords words.now
+        (spec.behind_moment (entry_text stations.now entry.now))) }
+{
+    let line = format!(in alloc; "{}", EntryLine { entry, stations })?;
+    Ok(has_words(behind_moment(line.as_bytes()), words))
+}
+
+/// What stands in a line behind its first blank.
+#[tactic(auto, unfolding(crate::specs::Words::behind_moment))]
+pub(crate) fn behind_moment(line: &[u8]) -> &[u8]
+    ensures { result.now ≡ spec.behind_moment line.now }
+{
+    let mut left = line;
+    while let [first, rest @ ..] = left {
+        left = rest;
+        if *first == b' ' {
+            return left;
+        }
+    }
+    left
+}
+
+/// Whether a text has these words, or begins with them: whole words alone.
+pub(crate) fn has_words(text: &[u8], words: &[u8]) -> bool
+    ensures { result ≡ true → HasWords words.now text.now }
+{
+    match text.strip_prefix(words) {
+        Some(rest) => is_word_end(rest),
+        None => false,
+    }
+}
+
+/// Whether nothing stands here, or a blank first.
+fn is_word_end(text: &[u8]) -> bool
+    ensures { result ≡ true → IsWordEnd text.now }
+{
+    match text {
+        [] => true,
+        [first, ..] => *first == b' ',
+    }
+}
