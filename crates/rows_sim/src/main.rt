@@ -3,6 +3,7 @@
 //! each row, and prints a line for each row that differs and one with the counts of each file.
 //!
 //! - `examples`: sites and scripts as files, with what is printed of them.
+//! - `as_json`: what is printed of them as objects of JSON.
 //! - `storms`: storms behind the scripts of the examples, and what their own scripts print.
 //! - `blocks`: sites, scripts and texts that rows describe.
 //! - `repeated`: words that stand for many.
@@ -11,6 +12,7 @@
 //!   nobody of a site sent; `worlds`: worlds and their steps.
 #![tactic(auto)]
 
+mod as_json;
 mod blocks;
 mod examples;
 mod memory;
@@ -59,6 +61,7 @@ fn run_row(given: Given<'_>, rows: &[Row<'_>], row: &Row<'_>) -> Result<Counts, 
 fn main(rt: HostRuntime) -> io::Result<()> {
     sheets::run_files::<Sim>(&rt)?;
     examples::run_examples(&rt)?;
+    as_json::run_objects(&rt)?;
     storms::run_storms(&rt)?;
     memory::run_file(&rt)?;
     strays::run_file(&rt)

@@ -1,0 +1,110 @@
+//! An object of JSON (RFC 8259), member by member.
+
+use json::Writer;
+use std::alloc::{AllocError, Allocator};
+use std::fmt::Display;
+use tags::ObjectId;
+use words::{Hex, Words};
+
+/// An object that grows by members, which may be objects and lists themselves.
+#[derive(Drop)]
+pub(crate) struct Object<A: Allocator> {
+    alloc: A,
+    writer: Writer<A>,
+}
+
+impl<A: Allocator + Copy> Object<A> {
+    /// The object without members.
+    ///
+    /// # Errors
+    /// Want of memory, as of each of its calls.
+    pub(crate) fn new(alloc: A) -> Result<Self, AllocError> {
+        let mut writer = Writer::new(Vec::new(alloc));
+        writer.begin_object()?;
+        Ok(Object { alloc, writer })
+    }
+
+    /// Its text.
+    pub(crate) fn into_text(self) -> Result<Vec<u8, A>, AllocError> {
+        let Object { writer, .. } = self;
+        let mut writer = writer;
+        writer.end_object()?;
+        Ok(writer.into_inner())
+    }
+
+    /// Adds a number.
+    pub(crate) fn number(&mut self, name: &str, number: u64) -> Result<(), AllocError> {
+        self.writer.key(name)?;
+        self.writer.u64(number)
+    }
+
+    /// Adds a number with a sign.
+    pub(crate) fn signed(&mut self, name: &str, number: i64) -> Result<(), AllocError> {
+        self.writer.key(name)?;
+        self.writer.i64(number)
+    }
+
+    /// Adds `true` or `false`.
+    pub(crate) fn boolean(&mut self, name: &str, value: bool) -> Result<(), AllocError> {
+        self.writer.key(name)?;
+        self.writer.boolean(value)
+    }
+
+    /// Adds `null`.
+    pub(crate) fn null(&mut self, name: &str) -> Result<(), AllocError> {
+        self.writer.key(name)?;
+        self.writer.null()
+    }
+
+    /// Adds a text.
+    pub(crate) fn text(&mut self, name: &str, text: &str) -> Result<(), AllocError> {
+        self.writer.key(name)?;
+        self.writer.string(text)
+    }
+
+    /// Adds octets as a text of pairs of hexadecimal digits, which is empty where there are none.
+    pub(crate) fn octets(&mut self, name: &str, octets: &[u8]) -> Result<(), AllocError> {
+        if octets.is_empty() {
+            return self.text(name, "");
+        }
+        self.shown(name, &Hex(octets))
+    }
+
+    /// Adds the type and the instance of an object, as `5:1`.
+    pub(crate) fn object_id(&mut self, name: &str, object: &ObjectId) -> Result<(), AllocError> {
+        self.shown(name, &Words(object))
+    }
+
+    /// Adds as a text how something is printed.
+    fn shown<D: Display>(&mut self, name: &str, shown: &D) -> Result<(), AllocError> {
+        let text = format!(in self.alloc; "{shown}")?;
+        self.text(name, text.as_str())
+    }
+
+    /// Begins an object under this name.
+    pub(crate) fn begin(&mut self, name: &str) -> Result<(), AllocError> {
+        self.writer.key(name)?;
+        self.writer.begin_object()
+    }
+
+    /// Begins an object in a list.
+    pub(crate) fn begin_item(&mut self) -> Result<(), AllocError> {
+        self.writer.begin_object()
+    }
+
+    /// Ends an object that was begun in this one.
+    pub(crate) fn end(&mut self) -> Result<(), AllocError> {
+        self.writer.end_object()
+    }
+
+    /// Begins a list under this name.
+    pub(crate) fn begin_list(&mut self, name: &str) -> Result<(), AllocError> {
+        self.writer.key(name)?;
+        self.writer.begin_array()
+    }
+
+    /// Ends a list.
+    pub(crate) fn end_list(&mut self) -> Result<(), AllocError> {
+        self.writer.end_array()
+    }
+}
