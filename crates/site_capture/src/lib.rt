@@ -1,14 +1,17 @@
-//! What is put out in a run of a script at a site, as a capture: each datagram and each frame with its moment, in one file
-//! of pcapng (ANSI/ASHRAE 135, Annex J and clause 9.3).
+//! What is put out in a run of a site, of a script or live, as a capture: each datagram and each frame with its moment,
+//! in one file of pcapng (ANSI/ASHRAE 135, Annex J and clause 9.3).
 //!
-//! To the layer above it promises that it returns. What stands in the file is shown by rows and by an outside reader, and
-//! isn't proved.
+//! To the layer above it promises that it returns. What stands in the file is shown by rows and by an outside reader,
+//! and isn't proved.
 //!
 //! - `capturing`: the steps of a script, and what each puts out.
-//! - `putting`: what is written of a world's datagrams and frames.
+//! - `living`: a live run, and what each of its turns puts out.
+//! - `putting`: what is written of a site's datagrams and frames.
 #![tactic(auto)]
 
 mod capturing;
+mod living;
 mod putting;
 
 pub use capturing::capture;
+pub use living::LiveCapture;

@@ -1,10 +1,10 @@
 //! What is written of a world's datagrams and frames.
 
 use bus_traffic::{Bus, Recent};
+use buses::Buses;
 use bvll::Address;
 use captures::{Datagram, write_datagram, write_frame};
 use npdu::Mac;
-use simulator::World;
 use std::alloc::{AllocError, Allocator};
 use tags::Fault;
 use traffic::Item;
@@ -21,21 +21,52 @@ pub(crate) fn networks<A: Allocator + Copy>(
     Ok(networks)
 }
 
-/// Writes what was put out behind so many datagrams and frames.
-pub(crate) fn put_behind<A: Allocator + Copy>(
-    world: &World<A>,
-    items: usize,
-    frames: u64,
-    file: &mut Vec<u8, A>,
+/// How much of what a site puts out stands in a file.
+#[derive(Clone, Copy, Debug, PartialEq, Eq)]
+pub(crate) struct Seen {
+    /// How many datagrams.
+    pub(crate) items: usize,
+    /// How many frames on all buses.
+    pub(crate) frames: u64,
+}
+
+impl Seen {
+    /// Nothing.
+    pub(crate) fn nothing() -> Self {
+        Seen {
+            items: 0,
+            frames: 0,
+        }
+    }
+
+    /// All of this.
+    pub(crate) fn all<A: Allocator>(items: &[Item<A>], buses: &Buses<A>) -> Self {
+        Seen {
+            items: items.len(),
+            frames: buses.frames,
+        }
+    }
+}
+
+/// Writes what was put out behind what stands in the file, the frames at this moment, in milliseconds.
+pub(crate) fn put_behind<A: Allocator, B: Allocator>(
+    seen: Seen,
+    items: &[Item<A>],
+    buses: &Buses<A>,
+    moment: u64,
+    file: &mut Vec<u8, B>,
 ) -> Result<(), Fault> {
-    if let Some(items) = world.items().get(items..) {
+    if let Some(items) = items.get(seen.items..) {
         put_items(items, file)?;
     }
-    put_buses(world.buses().buses.as_slice(), frames, world.moment(), file)
+    put_buses(buses.buses.as_slice(), seen.frames, moment, file)
 }
 
 /// Writes datagrams.
-fn put_items<A: Allocator>(items: &[Item<A>], file: &mut Vec<u8, A>) -> Result<(), Fault> {
+fn put_items<A: Allocator, B: Allocator>(
+    items: &[Item<A>],
+    file: &mut Vec<u8, B>,
+) -> Result<(), Fault> {
     for item in items {
         put_item(item, file)?;
     }
@@ -43,12 +74,29 @@ fn put_items<A: Allocator>(items: &[Item<A>], file: &mut Vec<u8, A>) -> Result<(
 }
 
 /// Writes a datagram at the moment at which it was put out.
-fn put_item<A: Allocator>(item: &Item<A>, file: &mut Vec<u8, A>) -> Result<(), Fault> {
-    match (address(item.from), address(item.to)) {
-        (Some(from), Some(to)) => {
-            let octets = item.octets.as_slice();
-            write_datagram(&Datagram { from, to, octets }, item.put_out, file)
-        }
+fn put_item<A: Allocator, B: Allocator>(
+    item: &Item<A>,
+    file: &mut Vec<u8, B>,
+) -> Result<(), Fault> {
+    put_datagram(
+        item.from,
+        item.to,
+        item.octets.as_slice(),
+        item.put_out,
+        file,
+    )
+}
+
+/// Writes a datagram between addresses of BACnet/IP.
+pub(crate) fn put_datagram<B: Allocator>(
+    from: Mac,
+    to: Mac,
+    octets: &[u8],
+    moment: u64,
+    file: &mut Vec<u8, B>,
+) -> Result<(), Fault> {
+    match (address(from), address(to)) {
+        (Some(from), Some(to)) => { write_datagram(&Datagram { from, to, octets }, moment, file) }
         (None, _) | (_, None) => Ok(()),
     }
 }
@@ -62,11 +110,11 @@ fn address(mac: Mac) -> Option<Address> {
 }
 
 /// Writes the frames that were put out on buses behind so many, bus by bus.
-fn put_buses<A: Allocator>(
+fn put_buses<A: Allocator, B: Allocator>(
     buses: &[Bus<A>],
     before: u64,
     moment: u64,
-    file: &mut Vec<u8, A>,
+    file: &mut Vec<u8, B>,
 ) -> Result<(), Fault> {
     let mut place = 0u16;
     for bus in buses {
@@ -77,12 +125,12 @@ fn put_buses<A: Allocator>(
 }
 
 /// Writes the frames that were put out behind so many on the bus at this place.
-fn put_bus<A: Allocator>(
+fn put_bus<A: Allocator, B: Allocator>(
     place: u16,
     bus: &Bus<A>,
     before: u64,
     moment: u64,
-    file: &mut Vec<u8, A>,
+    file: &mut Vec<u8, B>,
 ) -> Result<(), Fault> {
     for recent in &bus.recent {
         put_frame(place, recent, before, moment, file)?;
@@ -91,12 +139,12 @@ fn put_bus<A: Allocator>(
 }
 
 /// Writes a frame, if it was put out behind so many.
-fn put_frame<A: Allocator>(
+fn put_frame<A: Allocator, B: Allocator>(
     place: u16,
     recent: &Recent<A>,
     before: u64,
     moment: u64,
-    file: &mut Vec<u8, A>,
+    file: &mut Vec<u8, B>,
 ) -> Result<(), Fault> {
     let sending = &recent.sending;
     if sending.place.frames < before {

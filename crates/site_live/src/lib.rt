@@ -10,11 +10,13 @@
 //! - `step`: what a line of a script asks of a live run.
 //! - `reading`: the lines of a script.
 //! - `turning`: a turn, and what is printed of it.
+//! - `observer`: who looks on at a live run, as a capture does.
 //! - `live`: a live run, round by round.
 //! - `running`: the two texts, and the exit status.
 #![tactic(auto)]
 
 mod live;
+mod observer;
 mod reading;
 mod running;
 mod step;
@@ -22,7 +24,10 @@ mod timer;
 mod turning;
 
 pub use live::Live;
+pub use observer::{Nobody, Observer};
 pub use reading::live_steps_of;
-pub use running::{Ending, Opened, Settings, open, run, run_over_udp};
+pub use runner::Internetwork;
+pub use running::{Ending, Opened, Settings, open, run, run_over_udp, run_over_udp_observed};
 pub use step::LiveStep;
 pub use timer::{SystemTimer, Timer};
+pub use wire::Got;

@@ -3,6 +3,7 @@
 ghost use Rattle.std.specs.Prelude.{◌≡◌, OnOk};
 ghost use Rattle.runner.specs.internetwork.Step.{IsSoundIfAny};
 
+use crate::observer::Observer;
 use crate::step::LiveStep;
 use crate::timer::Timer;
 use crate::turning::print_turn;
@@ -14,24 +15,27 @@ use std::io;
 use std::io::Write;
 use std::marker::Model;
 use tags::{Fault, Items, Octets};
-use wire::Wire;
+use wire::{Got, Wire};
 
 /// The milliseconds that pass at once, at most.
 const MAX_TICK_MS: u64 = 60_000;
 
 /// A site at a wire, and the clock that its time comes from. It is not dropped, but closed.
-pub struct Live<W: Wire + Drop, T: Timer + Drop, A: Allocator + Copy> {
+pub struct Live<W: Wire + Drop, T: Timer + Drop, S: Observer<A> + Drop, A: Allocator + Copy> {
     alloc: A,
     runner: Runner<A>,
     wire: W,
     timer: T,
+    /// Who looks on.
+    observer: S,
     /// How far the frames of the buses were heard.
     heard: Heard,
     /// The moment at which each station of the site registers next, in milliseconds, where it is a foreign device.
     due: Vec<u64, A>,
 }
 
-impl<W: Wire + Drop, T: Timer + Drop, A: Allocator + Copy> Model for Live<W, T, A> {
+impl<W: Wire + Drop, T: Timer + Drop, S: Observer<A> + Drop, A: Allocator + Copy> Model
+    for Live<W, T, S, A> {
     ghost use Rattle.runner.specs.Runner.{RunnerState};
 
     ghost Value = { RunnerState A };
@@ -67,14 +71,19 @@ fn seconds_to_live<A: Allocator + Copy>(world: &Internetwork<A>, place: usize) -
     Some(foreign.seconds_to_live)
 }
 
-impl<W: Wire + Drop, T: Timer + Drop, A: Allocator + Copy> Live<W, T, A> {
+/// The datagram of a stranger that the latest turn had, if it had one that was heard.
+fn stray_of<'w, W: Wire, A: Allocator + Copy>(runner: &Runner<A>, wire: &'w W) -> Option<Got<'w>> {
+    if runner.strayed() { wire.last() } else { None }
+}
+
+impl<W: Wire + Drop, T: Timer + Drop, S: Observer<A> + Drop, A: Allocator + Copy> Live<W, T, S, A> {
     ghost use Rattle.std.specs.Prelude.{◌≡◌, ◌<◌, [], true, false, IfOk, OnOk};
     ghost use Rattle.frame_hearing.specs.Hearing.{left_to_hear};
     ghost use Rattle.runner.specs.Runner.{RunnerState};
     ghost use Rattle.site_live.specs.Running.{Lives};
     ghost use Rattle.site_live.specs.Steps.{IsSoundLiveStep, asked_at, asked_in};
 
-    /// A world at a wire, which is open or not. The clock begins with it.
+    /// A world at a wire, which is open or not. The clock begins with it, and the observer sees each turn.
     ///
     /// # Errors
     /// Want of memory.
@@ -84,6 +93,7 @@ impl<W: Wire + Drop, T: Timer + Drop, A: Allocator + Copy> Live<W, T, A> {
         is_open: bool,
         wire: W,
         timer: T,
+        observer: S,
     ) -> Result<Self, AllocError>
         ensures { IfOk result (λ live.
             live ≡ record { world = world; is_open = is_open; strayed = false; is_led = true }) }
@@ -94,6 +104,7 @@ impl<W: Wire + Drop, T: Timer + Drop, A: Allocator + Copy> Live<W, T, A> {
                 runner: Runner::new(world, is_open),
                 wire,
                 timer,
+                observer,
                 heard: Heard::new(),
                 due,
             }),
@@ -111,6 +122,7 @@ impl<W: Wire + Drop, T: Timer + Drop, A: Allocator + Copy> Live<W, T, A> {
             runner,
             wire: _wire,
             timer: _timer,
+            observer: _observer,
             heard: _heard,
             due: _due,
         } = self;
@@ -130,7 +142,7 @@ impl<W: Wire + Drop, T: Timer + Drop, A: Allocator + Copy> Live<W, T, A> {
         self.runner.world()
     }
 
-    /// Takes a turn, and prints what comes of it.
+    /// Takes a turn, lets it be seen, and prints what comes of it.
     #[tactic(auto, using(crate::proofs::LiveLaws::turn_laws))]
     fn take_turn<O: Write>(&mut self, next: Option<Event<A>>, out: &mut O) -> io::Result<()>
         requires sound { IsSoundIfAny next }
@@ -138,6 +150,8 @@ impl<W: Wire + Drop, T: Timer + Drop, A: Allocator + Copy> Live<W, T, A> {
     {
         let entries = self.runner.history().len();
         let answer = self.runner.turn(&mut self.wire, next);
+        let stray = stray_of(&self.runner, &self.wire);
+        self.observer.see(self.runner.world(), stray)?;
         print_turn(&self.runner, entries, answer, out)
     }
 

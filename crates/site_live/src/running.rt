@@ -10,6 +10,7 @@ ghost use Rattle.site_history.specs.Counting.{counts_of};
 ghost use Rattle.site_history.specs.Printed.{end_text, line};
 
 use crate::live::Live;
+use crate::observer::{Nobody, Observer};
 use crate::reading::live_steps_of;
 use crate::step::LiveStep;
 use crate::timer::{SystemTimer, Timer};
@@ -113,17 +114,18 @@ fn addresses_of<A: Allocator + Copy>(
 }
 
 /// Takes steps at a site live, over a wire, and prints on `out` each entry of its history, each stray that was heard,
-/// each refusal at its place, and at last what there was of all.
+/// each refusal at its place, and at last what there was of all. The observer sees each turn.
 ///
 /// # Errors
-/// Those of writing and of the clock, and want of memory at the beginning.
+/// Those of writing, of the observer and of the clock, and want of memory at the beginning.
 #[tactic(auto, using(crate::proofs::LiveLaws::run_laws))]
-pub fn run<W: Wire + Drop, T: Timer + Drop, A: Allocator + Copy, O: Write>(
+pub fn run<W: Wire + Drop, T: Timer + Drop, S: Observer<A> + Drop, A: Allocator + Copy, O: Write>(
     alloc: A,
     opened: Opened<A>,
     settings: Settings,
     wire: W,
     timer: T,
+    observer: S,
     out: &mut O,
 ) -> io::Result<()>
     requires sound { AllByRecursion IsSoundLiveStep opened.steps }
@@ -135,7 +137,7 @@ pub fn run<W: Wire + Drop, T: Timer + Drop, A: Allocator + Copy, O: Write>(
         steps,
         addresses: _addresses,
     } = opened;
-    let mut live = Live::new(alloc, world, settings.is_open, wire, timer)?;
+    let mut live = Live::new(alloc, world, settings.is_open, wire, timer, observer)?;
     let printed = print_all(&mut live, steps, settings.ending, out);
     live.close();
     printed
@@ -143,8 +145,8 @@ pub fn run<W: Wire + Drop, T: Timer + Drop, A: Allocator + Copy, O: Write>(
 
 /// Takes steps at a site that has just begun to live, and prints at last what there was of all.
 #[tactic(auto, using(crate::proofs::LiveLaws::run_laws))]
-fn print_all<W: Wire + Drop, T: Timer + Drop, A: Allocator + Copy, O: Write>(
-    live: &mut Live<W, T, A>,
+fn print_all<W: Wire + Drop, T: Timer + Drop, S: Observer<A> + Drop, A: Allocator + Copy, O: Write>(
+    live: &mut Live<W, T, S, A>,
     steps: Items<LiveStep<A>, A>,
     ending: Ending,
     out: &mut O,
@@ -159,8 +161,8 @@ fn print_all<W: Wire + Drop, T: Timer + Drop, A: Allocator + Copy, O: Write>(
 }
 
 /// The first round, the steps of a script, and what comes behind them.
-fn take_all<W: Wire + Drop, T: Timer + Drop, A: Allocator + Copy, O: Write>(
-    live: &mut Live<W, T, A>,
+fn take_all<W: Wire + Drop, T: Timer + Drop, S: Observer<A> + Drop, A: Allocator + Copy, O: Write>(
+    live: &mut Live<W, T, S, A>,
     steps: Items<LiveStep<A>, A>,
     ending: Ending,
     out: &mut O,
@@ -176,11 +178,13 @@ fn take_all<W: Wire + Drop, T: Timer + Drop, A: Allocator + Copy, O: Write>(
 
 /// Takes steps in their order.
 #[tactic(auto, using(crate::proofs::LiveLaws::step_laws))]
-fn take_steps<W: Wire + Drop, T: Timer + Drop, A: Allocator + Copy, O: Write>(
-    live: &mut Live<W, T, A>,
-    steps: Items<LiveStep<A>, A>,
-    out: &mut O,
-) -> io::Result<()>
+fn take_steps<
+    W: Wire + Drop,
+    T: Timer + Drop,
+    S: Observer<A> + Drop,
+    A: Allocator + Copy,
+    O: Write,
+>(live: &mut Live<W, T, S, A>, steps: Items<LiveStep<A>, A>, out: &mut O) -> io::Result<()>
     requires sound { AllByRecursion IsSoundLiveStep steps }
     ensures { OnOk result (Lives (asked_of steps) live.old live.new (O.contents out.old) (O.contents out.new)) }
 {
@@ -192,8 +196,8 @@ fn take_steps<W: Wire + Drop, T: Timer + Drop, A: Allocator + Copy, O: Write>(
 
 /// Goes on behind the last step, for so long as is asked for.
 #[tactic(auto, using(crate::proofs::LiveLaws::live_laws))]
-fn go_on<W: Wire + Drop, T: Timer + Drop, A: Allocator + Copy, O: Write>(
-    live: &mut Live<W, T, A>,
+fn go_on<W: Wire + Drop, T: Timer + Drop, S: Observer<A> + Drop, A: Allocator + Copy, O: Write>(
+    live: &mut Live<W, T, S, A>,
     ending: Ending,
     out: &mut O,
 ) -> io::Result<()>
@@ -235,8 +239,33 @@ pub fn run_over_udp<R: Net + Clock, A: Allocator + Copy, O: Write, E: Write>(
     ensures runs { result ≡ 0
         → RunsLive A settings.is_open site.now script.now (O.contents out.old) (O.contents out.new) }
 {
+    run_over_udp_observed(rt, reading, alloc, site, script, settings, Nobody, out, err)
+}
+
+/// The same, where the observer sees each turn.
+pub fn run_over_udp_observed<
+    R: Net + Clock,
+    S: Observer<A> + Drop,
+    A: Allocator + Copy,
+    O: Write,
+    E: Write,
+>(
+    rt: &R,
+    reading: Global,
+    alloc: A,
+    site: &[u8],
+    script: &[u8],
+    settings: Settings,
+    observer: S,
+    out: &mut O,
+    err: &mut E,
+) -> u8
+    ensures status { result ≤ 1 }
+    ensures runs { result ≡ 0
+        → RunsLive A settings.is_open site.now script.now (O.contents out.old) (O.contents out.new) }
+{
     match open(reading, alloc, site, script) {
-        Ok(opened) => run_opened(rt, alloc, opened, settings, out, err),
+        Ok(opened) => run_opened(rt, alloc, opened, settings, observer, out, err),
         Err(stop) => say_stop(stop, err),
     }
 }
@@ -255,11 +284,12 @@ fn wire_of<'a, R: Net + Clock, A: Allocator + Copy>(
 }
 
 /// Runs what was opened, and answers the exit status.
-fn run_opened<R: Net + Clock, A: Allocator + Copy, O: Write, E: Write>(
+fn run_opened<R: Net + Clock, S: Observer<A> + Drop, A: Allocator + Copy, O: Write, E: Write>(
     rt: &R,
     alloc: A,
     opened: Opened<A>,
     settings: Settings,
+    observer: S,
     out: &mut O,
     err: &mut E,
 ) -> u8
@@ -269,10 +299,12 @@ fn run_opened<R: Net + Clock, A: Allocator + Copy, O: Write, E: Write>(
         → PrintsLiveRun settings.is_open opened.steps opened.world (O.contents out.old) (O.contents out.new) }
 {
     match wire_of(rt, alloc, opened.addresses.as_slice()) {
-        Ok((wire, timer)) => match run(alloc, opened, settings, wire, timer, out) {
-            Ok(()) => 0,
-            Err(error) => say_failed(&error, err),
-        },
+        Ok((wire, timer)) => {
+            match run(alloc, opened, settings, wire, timer, observer, out) {
+                Ok(()) => 0,
+                Err(error) => say_failed(&error, err),
+            }
+        }
         Err(fault) => {
             opened.close();
             say_refused(fault, err)

@@ -1,0 +1,122 @@
+//! What stands in a picture and in a page, in words.
+
+use sheets::Stop;
+use std::alloc::Global;
+
+/// Appends a part behind others.
+fn push_part(part: &str, out: &mut String) -> Result<(), Stop> {
+    if !out.is_empty() {
+        out.push_str(" / ")?;
+    }
+    out.push_str(part)?;
+    Ok(())
+}
+
+/// What stands between two marks in a line.
+fn between<'a>(line: &'a str, before: &str, behind: &str) -> Option<&'a str> {
+    let (_, rest) = line.split_once(before)?;
+    let (inner, _) = rest.split_once(behind)?;
+    Some(inner)
+}
+
+/// The rows of a picture in words, as its titles say them.
+pub(crate) fn titles(alloc: Global, text: &str) -> Result<String, Stop> {
+    let mut out = String::new(alloc);
+    for line in text.lines() {
+        let is_row = !line.starts_with("<g class=\"lane\">") && !line.starts_with("<title>");
+        if let Some(title) = between(line, "<title>", "</title>") {
+            if is_row {
+                push_part(title, &mut out)?;
+            }
+        }
+    }
+    Ok(out)
+}
+
+/// The shapes of paths and the places of dots and of texts beside the names of lanes, in order: `M305 58H768`,
+/// `dot 305 58`, `Who-Is 536 53`.
+pub(crate) fn shapes(alloc: Global, text: &str) -> Result<String, Stop> {
+    let mut out = String::new(alloc);
+    for line in text.lines() {
+        if let Some(shape) = between(line, " d=\"", "\"") {
+            push_part(shape, &mut out)?;
+        } else if let Some(x) = between(line, " cx=\"", "\"") {
+            let y = between(line, " cy=\"", "\"").unwrap_or("");
+            push_part(format!(in alloc; "dot {x} {y}")?.as_str(), &mut out)?;
+        } else if is_beside(line) {
+            push_part(placed(alloc, line)?.as_str(), &mut out)?;
+        }
+    }
+    Ok(out)
+}
+
+/// Whether a line is a label, or the text of a note.
+fn is_beside(line: &str) -> bool {
+    line.starts_with("<text class=\"label\"")
+        || line.starts_with("<text class=\"before\"")
+        || line.starts_with("<text x=\"") && !line.starts_with("<text x=\"8\"")
+}
+
+/// A text and its place.
+fn placed(alloc: Global, line: &str) -> Result<String, Stop> {
+    let x = between(line, " x=\"", "\"").unwrap_or("");
+    let y = between(line, " y=\"", "\"").unwrap_or("");
+    let shown = between(line, ">", "</text>").unwrap_or("");
+    Ok(format!(in alloc; "{shown} {x} {y}")?)
+}
+
+/// What a page says of each message, with the name of its place: `d0 Datagram 0, put out at 0 ms, c to d: Who-Is`.
+pub(crate) fn summaries(alloc: Global, text: &str) -> Result<String, Stop> {
+    let mut out = String::new(alloc);
+    let mut said = "";
+    for line in text.lines() {
+        if let Some(summary) = between(line, "<summary>", "</summary>") {
+            said = summary;
+        }
+        if let Some(id) = between(line, "<pre id=\"", "\"") {
+            push_part(format!(in alloc; "{id} {said}")?.as_str(), &mut out)?;
+        }
+    }
+    Ok(out)
+}
+
+/// The lines that a page has of the octets of the message at a place.
+pub(crate) fn explained(alloc: Global, place: &str, text: &str) -> Result<String, Stop> {
+    let mut out = String::new(alloc);
+    let begin = format!(in alloc; "<pre id=\"{place}\">")?;
+    if let Some(lines) = between(text, begin.as_str(), "</pre>") {
+        for line in lines.lines() {
+            push_part(line, &mut out)?;
+        }
+    }
+    Ok(out)
+}
+
+/// The rows of a page's history: `4 d executed 0 values enum 0`.
+pub(crate) fn history(alloc: Global, text: &str) -> Result<String, Stop> {
+    let mut out = String::new(alloc);
+    for line in text.lines() {
+        if let Some(moment) = between(line, "<td class=\"moment\">", "<") {
+            let station = between(line, "</td><td>", "<").unwrap_or("");
+            let entry = between(line, "<td class=\"entry\">", "</td>").unwrap_or("");
+            push_part(
+                format!(in alloc; "{moment} {station} {entry}")?.as_str(),
+                &mut out,
+            )?;
+        }
+    }
+    Ok(out)
+}
+
+/// Whether each link of a page leads to a place of it.
+pub(crate) fn are_links_there(alloc: Global, text: &str) -> Result<bool, Stop> {
+    for line in text.lines() {
+        if let Some(place) = between(line, "<a href=\"#", "\"") {
+            let id = format!(in alloc; " id=\"{place}\"")?;
+            if !text.contains(id.as_str()) {
+                return Ok(false);
+            }
+        }
+    }
+    Ok(true)
+}

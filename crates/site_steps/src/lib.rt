@@ -1,0 +1,11 @@
+//! The steps of a script at a site, event by event, for whoever looks at a run: what captures it, or draws it.
+//!
+//! To the layer above it promises that it returns, and that each event that a [`Watcher`] is to make is sound.
+//!
+//! - `watching`: the steps of a script, one after another.
+#![tactic(auto)]
+
+mod watching;
+
+pub use site_run::{EndLine, EntryLine, Event, Stop, World, WorldEntry, counted, open};
+pub use watching::{Watcher, watch};

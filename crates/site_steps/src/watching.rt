@@ -1,0 +1,160 @@
+//! The steps of a script in a world, one after another, each event made by who looks at it.
+
+ghost use Rattle.std.specs.Prelude.{IfOk};
+ghost use Rattle.std.specs.List.{AllByRecursion};
+ghost use Rattle.site_run.specs.script.Steps.{IsSoundStep};
+ghost use Rattle.site_run.specs.simulator.internetwork.Step.{IsSoundEvent};
+
+use site_run::{Event, Flow, Opened, Step, Stop, World, open};
+use std::alloc::{Allocator, Global};
+use tags::{Fault, Items};
+
+/// What looks at a run.
+pub trait Watcher<A: Allocator + Copy> {
+    /// Looks at a world as it opens.
+    ///
+    /// # Errors
+    /// Why it can't go on.
+    fn begin(&mut self, world: &World<A>) -> Result<(), Fault>;
+
+    /// Makes an event in a world, which may refuse it, and looks at what comes of it.
+    ///
+    /// # Errors
+    /// Why it can't go on. That the event is refused need not be such a cause.
+    fn make(&mut self, world: &mut World<A>, event: &Event<A>) -> Result<(), Fault>
+        requires sound { IsSoundEvent event.now };
+
+    /// Looks at a world in which a flow is refused: one of no milliseconds, or of over 60000.
+    ///
+    /// # Errors
+    /// Why it can't go on.
+    fn refuse(&mut self, world: &World<A>, fault: Fault) -> Result<(), Fault>;
+
+    /// Looks at a world as it is at the end.
+    ///
+    /// # Errors
+    /// Why it can't go on.
+    fn end(&mut self, world: &World<A>) -> Result<(), Fault>;
+}
+
+/// Takes the steps of a script in a world of a site, as their texts describe them. The document is read in memory of
+/// `reading`.
+///
+/// # Errors
+/// Those of `site_run::open`, those of the watcher, and `Memory`.
+pub fn watch<A: Allocator + Copy, V: Watcher<A>>(
+    reading: Global,
+    alloc: A,
+    site: &[u8],
+    script: &[u8],
+    watcher: &mut V,
+) -> Result<(), Stop> {
+    let Opened { world, steps } = open(reading, alloc, site, script)?;
+    let mut world = world;
+    let watched = watch_all(&mut world, steps, watcher);
+    world.close();
+    match watched {
+        Ok(()) => Ok(()),
+        Err(fault) => Err(Stop::from(fault)),
+    }
+}
+
+/// Takes the steps, between the beginning and the end.
+fn watch_all<A: Allocator + Copy, V: Watcher<A>>(
+    world: &mut World<A>,
+    steps: Items<Step<A>, A>,
+    watcher: &mut V,
+) -> Result<(), Fault>
+    requires sound { AllByRecursion IsSoundStep steps }
+{
+    watcher.begin(world)?;
+    take_steps(world, steps, watcher)?;
+    watcher.end(world)
+}
+
+/// Takes the steps in their order.
+fn take_steps<A: Allocator + Copy, V: Watcher<A>>(
+    world: &mut World<A>,
+    steps: Items<Step<A>, A>,
+    watcher: &mut V,
+) -> Result<(), Fault>
+    requires sound { AllByRecursion IsSoundStep steps }
+{
+    for step in steps.into_vec() {
+        take_step(world, step, watcher)?;
+    }
+    Ok(())
+}
+
+/// Takes a step: an event, or a flow of them.
+fn take_step<A: Allocator + Copy, V: Watcher<A>>(
+    world: &mut World<A>,
+    step: Step<A>,
+    watcher: &mut V,
+) -> Result<(), Fault>
+    requires sound { IsSoundStep step }
+{
+    match event_of(step) {
+        Ok(event) => watcher.make(world, &event),
+        Err(n) => flow(world, n, watcher),
+    }
+}
+
+/// The event that a step is, or the milliseconds of a flow.
+fn event_of<A: Allocator>(step: Step<A>) -> Result<Event<A>, u64>
+    requires sound { IsSoundStep step }
+    ensures { IfOk result IsSoundEvent }
+{
+    match step {
+        Step::Issue {
+            client,
+            instance,
+            request,
+        } => Ok(Event::Issue {
+            client,
+            instance,
+            request,
+        }),
+        Step::WhoIs { client, limits } => Ok(Event::WhoIs { client, limits }),
+        Step::Tick(n) => Ok(Event::Tick(n)),
+        Step::Wake(station) => Ok(Event::Wake(station)),
+        Step::Deliver(number) => Ok(Event::Deliver(number)),
+        Step::Hear {
+            network,
+            station,
+            octets,
+        } => Ok(Event::Hear {
+            network,
+            station,
+            octets,
+        }),
+        Step::Register(station) => Ok(Event::Register(station)),
+        Step::Restart(station) => Ok(Event::Restart(station)),
+        Step::Flow(n) => Err(n),
+    }
+}
+
+/// Makes the events of a flow, unless it is refused.
+fn flow<A: Allocator + Copy, V: Watcher<A>>(
+    world: &mut World<A>,
+    n: u64,
+    watcher: &mut V,
+) -> Result<(), Fault> {
+    match Flow::new(n) {
+        Ok(flow) => make_all(world, flow, watcher),
+        Err(fault) => watcher.refuse(world, fault),
+    }
+}
+
+/// Makes the events of a flow, one after another, up to its end.
+fn make_all<A: Allocator + Copy, V: Watcher<A>>(
+    world: &mut World<A>,
+    flow: Flow,
+    watcher: &mut V,
+) -> Result<(), Fault> {
+    let mut flow = flow;
+    while let Some(event) = world.next_of(&mut flow)? {
+        watcher.make(world, &event)?;
+    }
+    Ok(())
+}
