@@ -55,12 +55,18 @@ impl Files for Host<'_> {
 
     ghost writes = { λ _ _ _. Unit {0} };
 
+    type File = fs::File;
+
     fn read(&self, _alloc: Global, name: &str) -> io::Result<Vec<u8>> {
         fs::read(self.0, name)
     }
 
     fn write(&self, name: &str, octets: &[u8]) -> io::Result<()> {
         fs::write(self.0, name, octets)
+    }
+
+    fn create(&self, name: &str) -> io::Result<fs::File> {
+        fs::File::create(self.0, name)
     }
 }
 

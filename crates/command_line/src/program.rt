@@ -5,21 +5,20 @@ ghost use Rattle.std.specs.Global.{Global};
 ghost use Rattle.clap.specs.Words.{kind_of};
 ghost use Rattle.command_line.specs.Program as spec;
 ghost use Rattle.site_check.specs.Judged.{AreJudged};
-ghost use Rattle.site_live.specs.Runs.{RunsLive};
-ghost use Rattle.site_run.specs.Simulate.{Simulates};
 
 use crate::describing::{explain, print_statement};
 use crate::files::Files;
+use crate::json::ended;
+use crate::living::run_live;
+use crate::searching::search_files;
+use crate::simulating::sim;
 use crate::storming::storm_files;
 use clap::Error;
 use clap::error::ErrorKind;
-use command_order::{Checking, LiveRun, Order, Simulation, order_of};
+use command_order::{Checking, Order, order_of};
 use console::{answer_line, say_failed, say_refused};
-use site_capture::capture;
+use json_lines::{JsonOut, Kind};
 use site_check::check;
-use site_history::say_stop;
-use site_live::{Ending, Settings, run_over_udp};
-use site_run::{simulate, simulate_traced};
 use std::alloc::Global;
 use std::io;
 use std::io::Write;
@@ -63,39 +62,12 @@ fn done<R: Net + Clock, F: Files, W: Write, E: Write>(
         Ok(Some(Order::Explain(explaining))) => explain(alloc, explaining, files, out, err),
         Ok(Some(Order::Sim(simulation))) => sim(alloc, simulation, files, out, err),
         Ok(Some(Order::Storm(storming))) => storm_files(alloc, storming, files, out, err),
+        Ok(Some(Order::Search(searching))) => search_files(alloc, searching, files, out, err),
         Ok(Some(Order::Run(run))) => run_live(host, alloc, run, files, out, err),
-        Ok(Some(Order::Check(checking))) => check_files(alloc, checking, files, out, err),
+        Ok(Some(Order::Check(checking))) => check_told(alloc, checking, files, out, err),
         Ok(Some(Order::Pics(stating))) => print_statement(alloc, *stating, out, err),
         Ok(None) => 2,
         Err(error) => show(error, out, err),
-    }
-}
-
-/// Reads the files of a simulation, the site first, and runs it.
-fn sim<F: Files, W: Write, E: Write>(
-    alloc: Global,
-    simulation: &Simulation,
-    files: &F,
-    out: &mut W,
-    err: &mut E,
-) -> u8
-    ensures status { result ≤ 1 }
-    ensures simulates { result ≡ 0
-        → spec.PrintsSimulation (F.reads files.now) simulation.now (W.contents out.old) (W.contents out.new) }
-{
-    match texts_of(alloc, &simulation.site, &simulation.script, files) {
-        Ok((site, script)) => {
-            sim_texts(
-                alloc,
-                site.as_slice(),
-                script.as_slice(),
-                simulation,
-                files,
-                out,
-                err,
-            )
-        }
-        Err(error) => say_unread(&error, err),
     }
 }
 
@@ -114,135 +86,23 @@ pub(crate) fn texts_of<F: Files>(
     Ok((site, script))
 }
 
-/// Reads the files of a live run, the site first, and runs the site.
-fn run_live<R: Net + Clock, F: Files, W: Write, E: Write>(
-    host: Option<&R>,
+/// Tells what is wrong with a site file, and with a script for it, as JSON where that is asked for.
+fn check_told<F: Files, W: Write, E: Write>(
     alloc: Global,
-    run: &LiveRun,
-    files: &F,
-    out: &mut W,
-    err: &mut E,
-) -> u8
-    ensures status { result ≤ 2 }
-    ensures lives { result ≡ 0 → spec.PrintsLive (F.reads files.now) run.now (W.contents out.old) (W.contents out.new) }
-{
-    let Some(ending) = ending_of(run.seconds.as_deref()) else {
-        let _ = writeln!(err, "bacsite: --for takes a number of seconds");
-        return 2;
-    };
-    let settings = Settings {
-        is_open: run.is_open,
-        ending,
-    };
-    match texts_of(alloc, &run.site, &run.script, files) {
-        Ok((site, script)) => {
-            run_live_texts(
-                host,
-                alloc,
-                site.as_slice(),
-                script.as_slice(),
-                settings,
-                out,
-                err,
-            )
-        }
-        Err(error) => say_unread(&error, err),
-    }
-}
-
-/// When a live run ends, by the number of seconds that was given, if any was.
-fn ending_of(seconds: Option<&str>) -> Option<Ending> {
-    let Some(seconds) = seconds else {
-        return Some(Ending::WithScript);
-    };
-    match seconds.parse::<u64>() {
-        Ok(0) => Some(Ending::Never),
-        Ok(seconds) => Some(Ending::After { seconds }),
-        Err(_) => None,
-    }
-}
-
-/// Runs a site live over the sockets of a host; without one it is refused.
-fn run_live_texts<R: Net + Clock, W: Write, E: Write>(
-    host: Option<&R>,
-    alloc: Global,
-    site: &[u8],
-    script: &[u8],
-    settings: Settings,
-    out: &mut W,
-    err: &mut E,
-) -> u8
-    ensures status { result ≤ 1 }
-    ensures lives { result ≡ 0
-        → RunsLive Global settings.is_open site.now script.now (W.contents out.old) (W.contents out.new) }
-{
-    match host {
-        Some(host) => run_over_udp(host, alloc, alloc, site, script, settings, out, err),
-        None => say_refused(Fault::Wire, err),
-    }
-}
-
-/// Runs a script at a site, and writes a capture of what is put out, if a file is named for it.
-fn sim_texts<F: Files, W: Write, E: Write>(
-    alloc: Global,
-    site: &[u8],
-    script: &[u8],
-    simulation: &Simulation,
+    checking: &Checking,
     files: &F,
     out: &mut W,
     err: &mut E,
 ) -> u8
     ensures status { result ≤ 1 }
-    ensures simulates { result ≡ 0 → Simulates Global (spec.telling_of simulation.now.is_traced) site.now script.now
-        (W.contents out.old) (W.contents out.new) }
+    ensures judged { result ≡ 0 → spec.HaveNoFault (F.reads files.now) checking.now }
 {
-    let status = run_texts(alloc, site, script, simulation.is_traced, out, err);
-    if status != 0 {
-        return status;
-    }
-    match &simulation.capture {
-        Some(name) => write_capture(alloc, name, site, script, files, err),
-        None => 0,
-    }
-}
-
-/// Writes a capture of what a script puts out at a site, and answers the exit status.
-fn write_capture<F: Files, E: Write>(
-    alloc: Global,
-    name: &String,
-    site: &[u8],
-    script: &[u8],
-    files: &F,
-    err: &mut E,
-) -> u8
-    ensures { result ≤ 1 }
-{
-    match capture(alloc, alloc, site, script) {
-        Ok(file) => match files.write(name.as_str(), file.as_slice()) {
-            Ok(()) => 0,
-            Err(error) => say_unread(&error, err),
-        },
-        Err(stop) => say_stop(stop, err),
-    }
-}
-
-/// Runs a script at a site, with a trace or without.
-fn run_texts<W: Write, E: Write>(
-    alloc: Global,
-    site: &[u8],
-    script: &[u8],
-    is_traced: bool,
-    out: &mut W,
-    err: &mut E,
-) -> u8
-    ensures status { result ≤ 1 }
-    ensures simulates { result ≡ 0
-        → Simulates Global (spec.telling_of is_traced) site.now script.now (W.contents out.old) (W.contents out.new) }
-{
-    if is_traced {
-        simulate_traced(alloc, alloc, site, script, out, err)
+    if checking.is_json {
+        let mut lines = JsonOut::new(alloc, Kind::Check, &mut *out);
+        let status = check_files(alloc, checking, files, &mut lines, err);
+        ended(status, lines.flush(), err)
     } else {
-        simulate(alloc, alloc, site, script, out, err)
+        check_files(alloc, checking, files, out, err)
     }
 }
 

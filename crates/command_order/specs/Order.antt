@@ -4,16 +4,18 @@ use Rattle.std.specs.Prelude.{unwrap_or, string_bytes}
 use Rattle.clap.specs.Lexer.{usize_max}
 use Rattle.clap.specs.Words.{App, Rule, Row, Text, new_app, new_rule, with_rule, with_subcommand}
 use Rattle.clap.specs.Words.{all_of, first_of, one_of}
-use Rattle.clap.specs.declared.builder.ArgAction.TheVariants.{Append, Set, SetTrue}
-pub use Rattle.command_order.specs.Words.{IsFlag, file_rule, word_of}
-use Rattle.command_order.specs.Describing.{IsStatingOf, pcap_rule, pics}
+use Rattle.clap.specs.declared.builder.ArgAction.TheVariants.{Append}
+use Rattle.command_order.specs.Words.{IsFlag, at_site, capture_rule, flag_rule, json_rule, option_rule}
+use Rattle.command_order.specs.Words.{optional_file_rule, site_rule, word_of}
+use Rattle.command_order.specs.Describing.{IsStatingOf, pics}
+use Rattle.command_order.specs.Searching.{IsSearchingOf, search}
+use Rattle.command_order.specs.Simulating.{IsSimulationOf, sim}
 use Rattle.command_order.specs.Storming.{IsStormingOf, storm}
 use Rattle.command_order.specs.declared.order.Checking.{Checking}
 use Rattle.command_order.specs.declared.order.Explaining.{Explaining}
 use Rattle.command_order.specs.declared.order.LiveRun.{LiveRun}
 use Rattle.command_order.specs.declared.order.Order.{Order}
-use Rattle.command_order.specs.declared.order.Order.TheVariants.{Answer, Check, Explain, Pics, Run, Sim, Storm}
-use Rattle.command_order.specs.declared.order.Simulation.{Simulation}
+use Rattle.command_order.specs.declared.order.Order.TheVariants.{Answer, Check, Explain, Pics, Run, Search, Sim, Storm}
 
 -- one word or more, which spell a datagram
 abbrev pub hex_rule : Rule
@@ -34,7 +36,7 @@ optional_hex_rule = record hex_rule { required = false }
 
 -- the subcommand that explains a datagram, or a file with a capture
 abbrev pub explain : App
-explain = with_rule (with_rule (new_app (codes "explain")) optional_hex_rule) pcap_rule
+explain = with_rule (with_rule (with_rule (new_app (codes "explain")) optional_hex_rule) capture_rule) json_rule
 
 -- the program without its subcommands, one of which has to be there; it has a version
 abbrev pub bare : App
@@ -42,48 +44,31 @@ bare =
     let app = new_app (codes "bacsite") in
     record app { top = record app.top { subcommand_required = true; has_version = true } }
 
--- a word that names a file, or none
-abbrev pub optional_file_rule : Text → Rule
-optional_file_rule id = record (new_rule id) { action = Some Set; value_names = 1 }
+-- the subcommand that runs a site live, with how it goes on
+abbrev pub live : App
+live = with_rule (with_rule (at_site (codes "run")) (flag_rule (codes "open"))) (option_rule (codes "for"))
 
--- a flag that is given or not
-abbrev pub trace_rule : Rule
-trace_rule = record (new_rule (codes "trace")) { long = Some (codes "trace"); action = Some SetTrue }
-
--- the subcommand that runs a script at a site
-abbrev pub sim : App
-sim =
-    with_rule (with_rule (with_rule (with_rule (new_app (codes "sim")) (file_rule (codes "site")))
-    (file_rule (codes "script"))) trace_rule) pcap_rule
-
--- a number of seconds that is given or not
-abbrev pub seconds_rule : Rule
-seconds_rule = record (new_rule (codes "for")) { long = Some (codes "for"); action = Some Set; value_names = 1 }
-
--- a flag that is given or not
-abbrev pub open_rule : Rule
-open_rule = record (new_rule (codes "open")) { long = Some (codes "open"); action = Some SetTrue }
-
--- the subcommand that runs a site live
+-- .. and with how it is written: run SITE SCRIPT [--open] [--for SECONDS] [--pcap FILE] [--json]
 abbrev pub run : App
-run =
-    with_rule (with_rule (with_rule (with_rule (new_app (codes "run")) (file_rule (codes "site")))
-    (file_rule (codes "script"))) open_rule) seconds_rule
+run = with_rule (with_rule live capture_rule) json_rule
 
 -- the subcommand that tells what is wrong with a site file, and with a script for it
 abbrev pub check : App
 check =
-    with_rule (with_rule (new_app (codes "check")) (file_rule (codes "site"))) (optional_file_rule (codes "script"))
+    with_rule (with_rule (with_rule (new_app (codes "check")) site_rule) (optional_file_rule (codes "script")))
+    json_rule
 
--- the program with the subcommands of one datagram: answer HEX.., explain HEX.. or explain --pcap FILE
+-- the program with the subcommands of one datagram: answer HEX.., explain HEX.. or explain --pcap FILE,
+-- each explain with --json or without
 abbrev pub tools : App
 tools = with_subcommand (with_subcommand bare (tool (codes "answer")).top) explain.top
 
--- .. with those of a simulated site: sim SITE SCRIPT [--trace] [--pcap FILE], storm SITE SCRIPT --seed N --steps N ..
+-- .. with those of a simulated site: sim SITE SCRIPT .., storm SITE SCRIPT --seed N --steps N .. and
+-- search SITE SCRIPT --until WORDS [--depth N]
 abbrev pub simulators : App
-simulators = with_subcommand (with_subcommand tools sim.top) storm.top
+simulators = with_subcommand (with_subcommand (with_subcommand tools sim.top) storm.top) search.top
 
--- the program: those, run SITE SCRIPT [--open] [--for SECONDS], check SITE [SCRIPT] and pics [--markdown]
+-- the program: those, run SITE SCRIPT .., check SITE [SCRIPT] [--json] and pics [--markdown]
 abbrev pub program : App
 program = with_subcommand (with_subcommand (with_subcommand simulators run.top) check.top) pics.top
 
@@ -105,36 +90,34 @@ abbrev pub rows_in : Option (Text × List Row) → List Row
 rows_in None = []
 rows_in (Some p) = p.1
 
--- the words that are given are taken apart, and the capture that is named
+-- the words that are given are taken apart, and the capture that is named, as JSON where that is asked for
 pub record IsExplainingOf (rows : List Row) (e : Explaining) : Type 0 where
   pub words : map string_bytes e.words.items ≡ hex_of rows
   pub capture : option_map string_bytes e.capture ≡ first_of (codes "pcap") rows
+  pub json : IsFlag (one_of (codes "json") rows) e.is_json
 
--- the simulation is of the files that are named, is traced where that is asked for, and captured where a file is named
-pub record IsSimulationOf (rows : List Row) (s : Simulation) : Type 0 where
-  pub site : string_bytes s.site ≡ word_of (codes "site") rows
-  pub script : string_bytes s.script ≡ word_of (codes "script") rows
-  pub trace : IsFlag (one_of (codes "trace") rows) s.is_traced
-  pub capture : option_map string_bytes s.capture ≡ first_of (codes "pcap") rows
-
--- the live run is of the files that are named, is open where that is asked for, and goes on for the seconds given
+-- the live run is of the files that are named, is open and printed as JSON where that is asked for, goes on for the
+-- seconds given, and is captured where a file is named
 pub record IsLiveRunOf (rows : List Row) (r : LiveRun) : Type 0 where
   pub site : string_bytes r.site ≡ word_of (codes "site") rows
   pub script : string_bytes r.script ≡ word_of (codes "script") rows
   pub flag : IsFlag (one_of (codes "open") rows) r.is_open
   pub seconds : option_map string_bytes r.seconds ≡ first_of (codes "for") rows
+  pub capture : option_map string_bytes r.capture ≡ first_of (codes "pcap") rows
+  pub json : IsFlag (one_of (codes "json") rows) r.is_json
 
--- the check is of the files that are named, and without a script where none is
+-- the check is of the files that are named, without a script where none is, and as JSON where that is asked for
 pub record IsCheckingOf (rows : List Row) (c : Checking) : Type 0 where
   pub site : string_bytes c.site ≡ word_of (codes "site") rows
   pub script : option_map string_bytes c.script ≡ first_of (codes "script") rows
+  pub json : IsFlag (one_of (codes "json") rows) c.is_json
 
 -- the words name no subcommand that there is
 abbrev pub NamesNone : Option (Text × List Row) → Type 0
 NamesNone found = (name_of found ≢ Some (codes "answer")) × (name_of found ≢ Some (codes "explain"))
     × (name_of found ≢ Some (codes "sim")) × (name_of found ≢ Some (codes "storm"))
     × (name_of found ≢ Some (codes "run")) × (name_of found ≢ Some (codes "check"))
-    × (name_of found ≢ Some (codes "pics"))
+    × (name_of found ≢ Some (codes "search")) × (name_of found ≢ Some (codes "pics"))
 
 -- the order is the subcommand that the words name, with the words behind it
 abbrev pub IsOrderOf : Option (Text × List Row) → Option Order → Type 0
@@ -144,6 +127,7 @@ IsOrderOf found (Some (Answer words)) =
 IsOrderOf found (Some (Explain e)) = (name_of found ≡ Some (codes "explain")) × IsExplainingOf (rows_in found) e
 IsOrderOf found (Some (Sim s)) = (name_of found ≡ Some (codes "sim")) × IsSimulationOf (rows_in found) s
 IsOrderOf found (Some (Storm s)) = (name_of found ≡ Some (codes "storm")) × IsStormingOf (rows_in found) s
+IsOrderOf found (Some (Search s)) = (name_of found ≡ Some (codes "search")) × IsSearchingOf (rows_in found) s
 IsOrderOf found (Some (Run r)) = (name_of found ≡ Some (codes "run")) × IsLiveRunOf (rows_in found) r
 IsOrderOf found (Some (Check c)) = (name_of found ≡ Some (codes "check")) × IsCheckingOf (rows_in found) c
 IsOrderOf found (Some (Pics p)) = (name_of found ≡ Some (codes "pics")) × IsStatingOf (rows_in found) p

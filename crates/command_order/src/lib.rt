@@ -4,14 +4,22 @@
 //! To the layer above it promises exactly that order, as the definitions of the command line's words have it.
 //!
 //! - `order`: what the command line asks for.
-//! - `describing`: what the commands of a capture and of the conformance statement ask for.
+//! - `describing`: what the command of the conformance statement asks for.
+//! - `searching`: what the command of a search asks for.
+//! - `simulating`: what the command of a simulation asks for.
 //! - `storming`: what the command of a storm asks for.
+//! - `words`: words that several commands have.
 #![tactic(auto)]
 
 mod describing;
 mod order;
+mod searching;
+mod simulating;
 mod storming;
+mod words;
 
 pub use describing::Stating;
-pub use order::{Checking, Explaining, LiveRun, Order, Simulation, order_of};
+pub use order::{Checking, Explaining, LiveRun, Order, order_of};
+pub use searching::Searching;
+pub use simulating::{Outputs, Simulation};
 pub use storming::{Percents, Storming};

@@ -1,16 +1,20 @@
 //! The command line.
 
-ghost use Rattle.std.specs.Prelude.{◌≡◌, true, false, IfOk, map, option_map, string_bytes};
-ghost use Rattle.clap.specs.Words.{app_of, first_of, rule_of, rows_of, found_of, with_subcommand};
+ghost use Rattle.std.specs.Prelude.{◌≡◌, true, false, IfOk, map, string_bytes};
+ghost use Rattle.clap.specs.Words.{app_of, rule_of, rows_of, found_of, with_subcommand};
 ghost use Rattle.clap.specs.Words.{subcommand_of, subcommand_rows_of, FailsBy, fault_of};
-ghost use Rattle.command_order.specs.Order.{program, bare, simulators, tool, tools, hex_rule, hex_of, sim, run, check};
-ghost use Rattle.command_order.specs.Storming.{IsStormingOf};
-ghost use Rattle.command_order.specs.Order.{explain, optional_hex_rule, IsExplainingOf};
-ghost use Rattle.command_order.specs.Order.{file_rule, open_rule, optional_file_rule, seconds_rule, trace_rule, word_of};
-ghost use Rattle.command_order.specs.Order.{IsOrderOf, IsSimulationOf, IsLiveRunOf, IsCheckingOf};
+ghost use Rattle.command_order.specs.Order.{program, bare, simulators, tool, tools, hex_rule, hex_of, run, check};
+ghost use Rattle.command_order.specs.Order.{explain, live, optional_hex_rule, IsExplainingOf};
+ghost use Rattle.command_order.specs.Order.{IsOrderOf, IsLiveRunOf, IsCheckingOf};
 
-use crate::describing::{Stating, pcap, pics, stating_in, written_pcap};
+use crate::describing::{Stating, pics, stating_in};
+use crate::searching::{Searching, search, searching_in};
+use crate::simulating::{Simulation, sim, simulation_in};
 use crate::storming::{Storming, storm, storming_in};
+use crate::words::{
+    at_site, flag, is_given, json, option, optional_file, optional_word, site_file, word,
+    written_capture,
+};
 use clap::{Arg, ArgAction, ArgMatches, Command, Error};
 use std::alloc::{AllocError, Global};
 
@@ -28,6 +32,8 @@ pub enum Order {
     Sim(Simulation),
     /// Run a script at a site, and go on at random.
     Storm(Storming),
+    /// Seek what may come behind a script at a site.
+    Search(Searching),
     /// Run a site live, with a script.
     Run(LiveRun),
     /// Tell what is wrong with a site file, and with a script for it.
@@ -43,19 +49,8 @@ pub struct Explaining {
     pub words: Vec<String>,
     /// The name of a capture's file, if one is named.
     pub capture: Option<String>,
-}
-
-/// Which script is run at which site, and what is printed of it.
-#[derive(Drop)]
-pub struct Simulation {
-    /// The name of the site's file.
-    pub site: String,
-    /// The name of the script's file.
-    pub script: String,
-    /// Whether each datagram is printed that is put out.
-    pub is_traced: bool,
-    /// The name of a file for a capture of what is put out, if one is named.
-    pub capture: Option<String>,
+    /// Whether each line is printed as JSON.
+    pub is_json: bool,
 }
 
 /// Which site is run live, with which script, and how.
@@ -69,6 +64,10 @@ pub struct LiveRun {
     pub is_open: bool,
     /// For how many seconds it goes on behind its script, if that is told: 0 until it is ended.
     pub seconds: Option<String>,
+    /// The name of a file for a capture of what is put out, if one is named.
+    pub capture: Option<String>,
+    /// Whether each line is printed as JSON.
+    pub is_json: bool,
 }
 
 /// Which site file is checked, and with which script.
@@ -78,6 +77,8 @@ pub struct Checking {
     pub site: String,
     /// The name of the script's file, if a script is checked too.
     pub script: Option<String>,
+    /// Whether each line is printed as JSON.
+    pub is_json: bool,
 }
 
 /// What the words ask for, the first of them being the program's name: `None` where they name
@@ -118,6 +119,9 @@ fn order_in(alloc: Global, matches: &ArgMatches<'_>) -> Result<Option<Order>, Al
     if let Some(storm) = matches.subcommand_matches("storm") {
         return Ok(Some(Order::Storm(storming_in(alloc, storm)?)));
     }
+    if let Some(search) = matches.subcommand_matches("search") {
+        return Ok(Some(Order::Search(searching_in(alloc, search)?)));
+    }
     if let Some(run) = matches.subcommand_matches("run") {
         return Ok(Some(Order::Run(live_run_in(alloc, run)?)));
     }
@@ -137,18 +141,7 @@ fn explaining_in(alloc: Global, matches: &ArgMatches<'_>) -> Result<Explaining, 
     Ok(Explaining {
         words: hex_words(alloc, matches)?,
         capture: optional_word(alloc, matches, "pcap")?,
-    })
-}
-
-/// The simulation that is asked for.
-fn simulation_in(alloc: Global, matches: &ArgMatches<'_>) -> Result<Simulation, AllocError>
-    ensures { IfOk result (IsSimulationOf (rows_of (found_of matches.now))) }
-{
-    Ok(Simulation {
-        site: word(alloc, matches, "site")?,
-        script: word(alloc, matches, "script")?,
-        is_traced: matches.get_flag("trace"),
-        capture: optional_word(alloc, matches, "pcap")?,
+        is_json: is_given(matches, "json"),
     })
 }
 
@@ -159,8 +152,10 @@ fn live_run_in(alloc: Global, matches: &ArgMatches<'_>) -> Result<LiveRun, Alloc
     Ok(LiveRun {
         site: word(alloc, matches, "site")?,
         script: word(alloc, matches, "script")?,
-        is_open: matches.get_flag("open"),
+        is_open: is_given(matches, "open"),
         seconds: optional_word(alloc, matches, "for")?,
+        capture: optional_word(alloc, matches, "pcap")?,
+        is_json: is_given(matches, "json"),
     })
 }
 
@@ -171,31 +166,8 @@ fn checking_in(alloc: Global, matches: &ArgMatches<'_>) -> Result<Checking, Allo
     Ok(Checking {
         site: word(alloc, matches, "site")?,
         script: optional_word(alloc, matches, "script")?,
+        is_json: is_given(matches, "json"),
     })
-}
-
-/// The word of an argument, if there is one.
-pub(crate) fn optional_word(
-    alloc: Global,
-    matches: &ArgMatches<'_>,
-    id: &str,
-) -> Result<Option<String>, AllocError>
-    ensures { IfOk result (λ word. option_map string_bytes word ≡ first_of id.now (rows_of (found_of matches.now))) }
-{
-    match matches.get_str(id) {
-        Some(word) => Ok(Some(String::from_str(alloc, word)?)),
-        None => Ok(None),
-    }
-}
-
-/// The word of an argument, which is empty where there is none.
-pub(crate) fn word(alloc: Global, matches: &ArgMatches<'_>, id: &str) -> Result<String, AllocError>
-    ensures { IfOk result (λ word. string_bytes word ≡ word_of id.now (rows_of (found_of matches.now))) }
-{
-    match matches.get_str(id) {
-        Some(word) => String::from_str(alloc, word),
-        None => Ok(String::new(alloc)),
-    }
 }
 
 /// The commands of the program.
@@ -212,7 +184,8 @@ fn simulators<'a>(alloc: Global) -> Result<Command<'a>, AllocError>
     ensures { IfOk result (λ c. app_of c ≡ simulators) }
 {
     let command = add(tools(alloc)?, sim(alloc)?)?;
-    add(command, storm(alloc)?)
+    let command = add(command, storm(alloc)?)?;
+    add(command, search(alloc)?)
 }
 
 /// The program with the commands of one datagram.
@@ -235,51 +208,42 @@ fn explain<'a>(alloc: Global) -> Result<Command<'a>, AllocError>
     Command::new(alloc, "explain")
         .about("Takes a BACnet/IP datagram apart: its headers, and its tags one by one")
         .arg(optional_hex_argument(alloc))?
-        .arg(pcap(alloc))
-}
-
-/// The command that runs a script at a site.
-fn sim<'a>(alloc: Global) -> Result<Command<'a>, AllocError>
-    ensures { IfOk result (λ c. app_of c ≡ sim) }
-{
-    Command::new(alloc, "sim")
-        .about("Runs a script at a site, and prints what comes of it")
-        .arg(file(
+        .arg(option(
             alloc,
-            "site",
-            "SITE",
-            "A TOML file of networks and stations, as docs/site-file.md says",
+            "pcap",
+            "FILE",
+            "Explains each packet of a file of pcap or pcapng, in place of HEX",
         ))?
-        .arg(file(
-            alloc,
-            "script",
-            "SCRIPT",
-            "A text with a step on each line, as docs/script.md says",
-        ))?
-        .arg(trace(alloc))?
-        .arg(written_pcap(alloc))
+        .arg(json(alloc))
 }
 
 /// The command that runs a site live.
 fn run<'a>(alloc: Global) -> Result<Command<'a>, AllocError>
     ensures { IfOk result (λ c. app_of c ≡ run) }
 {
-    Command::new(alloc, "run")
-        .about("Runs a site over UDP, with a script, and prints what comes of it")
-        .arg(file(
-            alloc,
-            "site",
-            "SITE",
-            "A TOML file of networks and stations, as docs/site-file.md says",
-        ))?
-        .arg(file(
-            alloc,
-            "script",
-            "SCRIPT",
-            "A text with a step on each line, as docs/script.md says",
-        ))?
-        .arg(open(alloc))?
-        .arg(seconds(alloc))
+    live(alloc)?.arg(written_capture(alloc))?.arg(json(alloc))
+}
+
+/// The command of a live run with how it goes on.
+fn live<'a>(alloc: Global) -> Result<Command<'a>, AllocError>
+    ensures { IfOk result (λ c. app_of c ≡ live) }
+{
+    at_site(
+        alloc,
+        "run",
+        "Runs a site over UDP, with a script, and prints what comes of it",
+    )?
+    .arg(flag(
+        alloc,
+        "open",
+        "Lets stations hear datagrams that nobody of the site sent",
+    ))?
+    .arg(option(
+        alloc,
+        "for",
+        "SECONDS",
+        "Goes on for so many seconds behind the script, and with 0 until it is ended",
+    ))
 }
 
 /// The command that tells what is wrong with a site file.
@@ -288,77 +252,14 @@ fn check<'a>(alloc: Global) -> Result<Command<'a>, AllocError>
 {
     Command::new(alloc, "check")
         .about("Tells what is wrong with a site file, and with a script for it")
-        .arg(file(
-            alloc,
-            "site",
-            "SITE",
-            "A TOML file of networks and stations, as docs/site-file.md says",
-        ))?
+        .arg(site_file(alloc))?
         .arg(optional_file(
             alloc,
             "script",
             "SCRIPT",
             "A text with a step on each line, as docs/script.md says",
-        ))
-}
-
-/// The name of a file, which may be left out.
-fn optional_file<'a>(alloc: Global, id: &'a str, name: &'a str, help: &'a str) -> Arg<'a>
-    ensures rule { rule_of result ≡ optional_file_rule id.entry.now }
-    ensures own { result.global ≡ false }
-{
-    Arg::new(alloc, id)
-        .value_name(name)
-        .action(ArgAction::Set)
-        .help(help)
-}
-
-/// The name of a file.
-pub(crate) fn file<'a>(alloc: Global, id: &'a str, name: &'a str, help: &'a str) -> Arg<'a>
-    ensures rule { rule_of result ≡ file_rule id.entry.now }
-    ensures own { result.global ≡ false }
-{
-    Arg::new(alloc, id)
-        .value_name(name)
-        .required(true)
-        .action(ArgAction::Set)
-        .help(help)
-}
-
-/// Whether items and frames are printed.
-fn trace<'a>(alloc: Global) -> Arg<'a>
-    ensures rule { rule_of result ≡ trace_rule }
-    ensures own { result.global ≡ false }
-{
-    Arg::new(alloc, "trace")
-        .long("trace")
-        .action(ArgAction::SetTrue)
-        .help(
-            "Prints each datagram that is put out, with the number by which `deliver` names it, and each frame",
-        )
-}
-
-/// Whether stations hear what nobody of the site sent.
-fn open<'a>(alloc: Global) -> Arg<'a>
-    ensures rule { rule_of result ≡ open_rule }
-    ensures own { result.global ≡ false }
-{
-    Arg::new(alloc, "open")
-        .long("open")
-        .action(ArgAction::SetTrue)
-        .help("Lets stations hear datagrams that nobody of the site sent")
-}
-
-/// For how long a run goes on behind its script.
-fn seconds<'a>(alloc: Global) -> Arg<'a>
-    ensures rule { rule_of result ≡ seconds_rule }
-    ensures own { result.global ≡ false }
-{
-    Arg::new(alloc, "for")
-        .long("for")
-        .value_name("SECONDS")
-        .action(ArgAction::Set)
-        .help("Goes on for so many seconds behind the script, and with 0 until it is ended")
+        ))?
+        .arg(json(alloc))
 }
 
 /// A command with a subcommand more.

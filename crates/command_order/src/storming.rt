@@ -4,7 +4,7 @@ ghost use Rattle.std.specs.Prelude.{◌≡◌, false, IfOk};
 ghost use Rattle.clap.specs.Words.{app_of, found_of, rows_of, rule_of};
 ghost use Rattle.command_order.specs.Storming as spec;
 
-use crate::order::{file, optional_word, word};
+use crate::words::{at_site, flag, is_given, option, optional_word, required, word};
 use clap::{Arg, ArgAction, ArgMatches, Command};
 use std::alloc::{AllocError, Global};
 
@@ -48,7 +48,7 @@ pub(crate) fn storming_in(alloc: Global, matches: &ArgMatches<'_>) -> Result<Sto
         steps: word(alloc, matches, "steps")?,
         percents: percents_in(alloc, matches)?,
         file: optional_word(alloc, matches, "file")?,
-        is_counted: matches.get_flag("count"),
+        is_counted: is_given(matches, "count"),
     })
 }
 
@@ -71,37 +71,34 @@ pub(crate) fn storm<'a>(alloc: Global) -> Result<Command<'a>, AllocError>
     ensures { IfOk result (λ c. app_of c ≡ spec.storm) }
 {
     let command = chances(alloc, named(alloc)?)?;
-    command.arg(script_file(alloc))?.arg(count(alloc))
+    command.arg(script_file(alloc))?.arg(flag(
+        alloc,
+        "count",
+        "Prints one line of counts in place of what comes of it",
+    ))
 }
 
 /// The command with the words that have to be there.
 fn named<'a>(alloc: Global) -> Result<Command<'a>, AllocError>
     ensures { IfOk result (λ c. app_of c ≡ spec.named) }
 {
-    Command::new(alloc, "storm")
-        .about("Runs a script at a site, goes on at random, and prints what comes of it")
-        .arg(file(
-            alloc,
-            "site",
-            "SITE",
-            "A TOML file of networks and stations, as docs/site-file.md says",
-        ))?
-        .arg(file(
-            alloc,
-            "script",
-            "SCRIPT",
-            "A text with a step on each line, as docs/script.md says",
-        ))?
-        .arg(number(
-            alloc,
-            "seed",
-            "The number that seeds it: the same one gives the same storm",
-        ))?
-        .arg(number(
-            alloc,
-            "steps",
-            "How many events there are behind the script",
-        ))
+    at_site(
+        alloc,
+        "storm",
+        "Runs a script at a site, goes on at random, and prints what comes of it",
+    )?
+    .arg(required(
+        alloc,
+        "seed",
+        "N",
+        "The number that seeds it: the same one gives the same storm",
+    ))?
+    .arg(required(
+        alloc,
+        "steps",
+        "N",
+        "How many events there are behind the script",
+    ))
 }
 
 /// A command with how often in a storm something begins, is lost and is repeated.
@@ -109,19 +106,22 @@ fn losses<'a>(alloc: Global, command: Command<'a>) -> Result<Command<'a>, AllocE
     ensures { IfOk result (λ c. app_of c ≡ spec.with_losses (app_of command.entry)) }
 {
     command
-        .arg(percent(
+        .arg(option(
             alloc,
             "issue",
+            "PERCENT",
             "How often of a hundred events something begins, mostly a request [default: 5]",
         ))?
-        .arg(percent(
+        .arg(option(
             alloc,
             "lose",
+            "PERCENT",
             "How many of a hundred datagrams and frames are lost [default: 2]",
         ))?
-        .arg(percent(
+        .arg(option(
             alloc,
             "repeat",
+            "PERCENT",
             "How many of a hundred deliveries are repeated [default: 2]",
         ))
 }
@@ -131,46 +131,24 @@ fn chances<'a>(alloc: Global, command: Command<'a>) -> Result<Command<'a>, Alloc
     ensures { IfOk result (λ c. app_of c ≡ spec.with_chances (app_of command.entry)) }
 {
     losses(alloc, command)?
-        .arg(percent(
+        .arg(option(
             alloc,
             "reorder",
+            "PERCENT",
             "How often of a hundred times another thing comes than what is next [default: 2]",
         ))?
-        .arg(percent(
+        .arg(option(
             alloc,
             "damage",
+            "PERCENT",
             "How many of a hundred frames are damaged [default: 1]",
         ))?
-        .arg(percent(
+        .arg(option(
             alloc,
             "restart",
+            "PERCENT",
             "How often of a hundred times a device restarts where something begins [default: 1]",
         ))
-}
-
-/// A number that has to be there.
-fn number<'a>(alloc: Global, id: &'a str, help: &'a str) -> Arg<'a>
-    ensures rule { rule_of result ≡ spec.number_rule id.entry.now }
-    ensures own { result.global ≡ false }
-{
-    Arg::new(alloc, id)
-        .long(id)
-        .value_name("N")
-        .required(true)
-        .action(ArgAction::Set)
-        .help(help)
-}
-
-/// A chance, which may be left out.
-fn percent<'a>(alloc: Global, id: &'a str, help: &'a str) -> Arg<'a>
-    ensures rule { rule_of result ≡ spec.percent_rule id.entry.now }
-    ensures own { result.global ≡ false }
-{
-    Arg::new(alloc, id)
-        .long(id)
-        .value_name("PERCENT")
-        .action(ArgAction::Set)
-        .help(help)
 }
 
 /// The name of the file in which the script of a storm is written.
@@ -183,15 +161,4 @@ fn script_file<'a>(alloc: Global) -> Arg<'a>
         .value_name("FILE")
         .action(ArgAction::Set)
         .help("Writes the script, and the events behind it as its lines, to a file that `sim` runs")
-}
-
-/// Whether counts are printed.
-fn count<'a>(alloc: Global) -> Arg<'a>
-    ensures rule { rule_of result ≡ spec.count_rule }
-    ensures own { result.global ≡ false }
-{
-    Arg::new(alloc, "count")
-        .long("count")
-        .action(ArgAction::SetTrue)
-        .help("Prints one line of counts in place of what comes of it")
 }

@@ -153,8 +153,8 @@ const CAPTURE: &[u8] = &[
 /// What a file of pcapng begins with: the type of its first block.
 const SECTION: &[u8] = &[0x0A, 0x0D, 0x0D, 0x0A];
 
-/// Five files, `p.toml`, `none.toml`, `live.script`, `bad.script` and `one.pcap`, and two that may be written,
-/// `storm.script`, and `live.pcapng` if it is one of pcapng.
+/// Five files, `p.toml`, `none.toml`, `live.script`, `bad.script` and `one.pcap`, and four that may be written:
+/// `storm.script`, and `live.pcapng`, `live.svg` and `live.html` if they begin as such files do.
 #[derive(Clone, Copy)]
 struct Texts;
 
@@ -163,6 +163,8 @@ impl Files for Texts {
     ghost reads = { λ _ _ _. Unit {0} };
 
     ghost writes = { λ _ _ _. Unit {0} };
+
+    type File = Vec<u8>;
 
     fn read(&self, alloc: Global, name: &str) -> io::Result<Vec<u8>> {
         let file = match name {
@@ -181,7 +183,13 @@ impl Files for Texts {
         match name {
             "storm.script" => Ok(()),
             "live.pcapng" if octets.starts_with(SECTION) => Ok(()),
+            "live.svg" if octets.starts_with(b"<svg ") => Ok(()),
+            "live.html" if octets.starts_with(b"<!DOCTYPE html>") => Ok(()),
             _ => Err(io::ErrorKind::PermissionDenied.into()),
         }
+    }
+
+    fn create(&self, _name: &str) -> io::Result<Vec<u8>> {
+        Err(io::ErrorKind::PermissionDenied.into())
     }
 }

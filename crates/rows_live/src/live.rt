@@ -5,7 +5,7 @@ use crate::timer::SteppingTimer;
 use rows_wire::{Course, Row, WireInMemory, row_of, said, take_word, text_of, wanted_of};
 use sheets::names;
 use site_history::say_stop;
-use site_live::{Ending, Settings, open, run};
+use site_live::{Ending, Nobody, Observer, Settings, open, run};
 use std::alloc::{Allocator, Global};
 use std::io;
 use std::io::Write;
@@ -36,6 +36,15 @@ pub(crate) fn run_all(rt: &HostRuntime) -> io::Result<()> {
 
 /// What is printed of a row.
 fn found_of(alloc: Global, row: &Row) -> io::Result<String> {
+    let (script, over) = over_memory(alloc, row)?;
+    printed_of(alloc, alloc, row.site.as_slice(), script.as_str(), over)
+}
+
+/// The script of a row, and how its site is run: a millisecond passes in each round.
+///
+/// # Errors
+/// Want of memory.
+pub(crate) fn over_memory(alloc: Global, row: &Row) -> io::Result<(String, OverMemory)> {
     let mut wire = WireInMemory::new(alloc, Course::InOrder);
     let mut script = String::new(alloc);
     for line in row.happens.lines() {
@@ -43,13 +52,12 @@ fn found_of(alloc: Global, row: &Row) -> io::Result<String> {
             writeln!(script, "{line}")?;
         }
     }
-    let is_open = row.happens.starts_with("open\n");
     let over = OverMemory {
         wire,
         step: 1,
-        is_open,
+        is_open: row.happens.starts_with("open\n"),
     };
-    printed_of(alloc, alloc, row.site.as_slice(), script.as_str(), over)
+    Ok((script, over))
 }
 
 /// How a site is run over memory.
@@ -72,6 +80,21 @@ pub(crate) fn printed_of<A: Allocator + Copy>(
     script: &str,
     over: OverMemory,
 ) -> io::Result<String> {
+    observed_of(alloc, memory, site, script, over, Nobody)
+}
+
+/// The same, where an observer sees each turn.
+///
+/// # Errors
+/// Those of printing, and want of memory.
+pub(crate) fn observed_of<A: Allocator + Copy, S: Observer<A> + Drop>(
+    alloc: Global,
+    memory: A,
+    site: &[u8],
+    script: &str,
+    over: OverMemory,
+    observer: S,
+) -> io::Result<String> {
     let mut out = Vec::new(alloc);
     let OverMemory {
         wire,
@@ -85,7 +108,7 @@ pub(crate) fn printed_of<A: Allocator + Copy>(
     let timer = SteppingTimer { elapsed: 0, step };
     match open(alloc, memory, site, script.as_bytes()) {
         Ok(opened) => {
-            if run(memory, opened, settings, wire, timer, &mut out).is_err() {
+            if run(memory, opened, settings, wire, timer, observer, &mut out).is_err() {
                 writeln!(out, "ended for want of memory")?;
             }
         }

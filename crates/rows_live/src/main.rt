@@ -5,11 +5,13 @@
 //! - `udp`: scripts over UDP.
 //! - `turns`: turns over memory, one by one, also where allocations are refused.
 //! - `live`: live runs over memory.
+//! - `captured`: captures of live runs over memory.
 //! - `failing`: live runs in which calls fail, datagrams are lost, and allocations are refused.
 //! - `timer`: a clock that goes by its own steps.
 //! - `lines`: command lines, what they print, and their exit status, also where a writer fails.
 #![tactic(auto)]
 
+mod captured;
 mod failing;
 mod lines;
 mod live;
@@ -24,6 +26,7 @@ fn main(rt: HostRuntime) -> io::Result<()> {
     sheets::run_files::<CommandLines>(&rt)?;
     turns::run_all(&rt)?;
     live::run_all(&rt)?;
+    captured::run_all(&rt)?;
     failing::run_all(&rt)?;
     udp::run_all(&rt)
 }

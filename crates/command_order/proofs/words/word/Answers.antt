@@ -2,7 +2,7 @@ use Rattle.std.proofs.Common.{◌≡◌, ◌∙◌, ap, subst, IfOk, string_byte
 use Rattle.std.specs.Prelude.{unwrap_or}
 use Rattle.clap.specs.Words.{found_of}
 use Rattle.clap.proofs.WalkLemmas.{first_value-rows}
-use Rattle.command_order.proofs.order.word.Goals as goal
+use Rattle.command_order.proofs.words.word.Goals as goal
 
 pub returns-in-Some : goal.returns-in-Some
 returns-in-Some c =

@@ -1,0 +1,23 @@
+-- What is done for the command line of a search.
+use Rattle.std.specs.Prelude.{◌≡◌, ℕ, List, Option, Some, None, option_map, string_bytes}
+use Rattle.std.specs.Global.{Global}
+use Rattle.clap.specs.Words.{Text}
+use Rattle.command_order.specs.declared.searching.Searching.{Searching}
+use Rattle.console.specs.Answer.{Known}
+use Rattle.site_search.specs.Searching.{Searches}
+use Rattle.words.specs.Says.{SaysUnsigned}
+
+-- how many events there may be: as a word says, and eight where there is none
+abbrev pub IsDepth : Option Text → ℕ → Type 0
+IsDepth None depth = depth ≡ 8
+IsDepth (Some word) depth = SaysUnsigned 64 word depth
+
+-- the files of a search were read, by what reads them, and the script was printed that leads to an entry of these words
+pub record PrintsSearch (reads : List ℕ → List ℕ → Type 0) (s : Searching) (old new : Known) : Type 0 where
+  pub site : List ℕ
+  pub script : List ℕ
+  pub depth : ℕ
+  pub depth_said : IsDepth (option_map string_bytes s.depth) depth
+  pub site_read : reads (string_bytes s.site) site
+  pub script_read : reads (string_bytes s.script) script
+  pub searches : Searches Global site script (string_bytes s.until) depth old new

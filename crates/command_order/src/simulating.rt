@@ -1,0 +1,123 @@
+//! What the command of a simulation asks for.
+
+ghost use Rattle.std.specs.Prelude.{◌≡◌, IfOk};
+ghost use Rattle.clap.specs.Words.{app_of, found_of, rows_of};
+ghost use Rattle.command_order.specs.Simulating as spec;
+
+use crate::words::{at_site, flag, is_given, json, option, optional_word, word, written_capture};
+use clap::{ArgMatches, Command};
+use std::alloc::{AllocError, Global};
+
+/// Which script is run at which site, and what is printed and written of it.
+#[derive(Drop)]
+pub struct Simulation {
+    /// The name of the site's file.
+    pub site: String,
+    /// The name of the script's file.
+    pub script: String,
+    /// Whether each datagram is printed that is put out.
+    pub is_traced: bool,
+    /// Whether each line is printed as JSON.
+    pub is_json: bool,
+    pub outputs: Outputs,
+}
+
+/// The files that are written of a run, where they are named, and which part of it they show.
+#[derive(Drop)]
+pub struct Outputs {
+    /// The name of a file for a capture of what is put out.
+    pub capture: Option<String>,
+    /// The name of a file for the picture of the run.
+    pub ladder: Option<String>,
+    /// The name of a file for a page of the run.
+    pub report: Option<String>,
+    /// The first moment that picture and page show, in milliseconds.
+    pub from: Option<String>,
+    /// The last moment that they show, in milliseconds.
+    pub to: Option<String>,
+}
+
+/// The simulation that is asked for.
+pub(crate) fn simulation_in(
+    alloc: Global,
+    matches: &ArgMatches<'_>,
+) -> Result<Simulation, AllocError>
+    ensures { IfOk result (spec.IsSimulationOf (rows_of (found_of matches.now))) }
+{
+    Ok(Simulation {
+        site: word(alloc, matches, "site")?,
+        script: word(alloc, matches, "script")?,
+        is_traced: is_given(matches, "trace"),
+        is_json: is_given(matches, "json"),
+        outputs: outputs_in(alloc, matches)?,
+    })
+}
+
+/// What is to be written.
+fn outputs_in(alloc: Global, matches: &ArgMatches<'_>) -> Result<Outputs, AllocError>
+    ensures { IfOk result (spec.AreOutputsOf (rows_of (found_of matches.now))) }
+{
+    Ok(Outputs {
+        capture: optional_word(alloc, matches, "pcap")?,
+        ladder: optional_word(alloc, matches, "ladder")?,
+        report: optional_word(alloc, matches, "report")?,
+        from: optional_word(alloc, matches, "from")?,
+        to: optional_word(alloc, matches, "to")?,
+    })
+}
+
+/// The command that runs a script at a site.
+pub(crate) fn sim<'a>(alloc: Global) -> Result<Command<'a>, AllocError>
+    ensures { IfOk result (λ c. app_of c ≡ spec.sim) }
+{
+    with_files(alloc, printed(alloc)?)?
+        .arg(option(
+            alloc,
+            "from",
+            "MS",
+            "The first moment that ladder and report show [default: 0]",
+        ))?
+        .arg(option(
+            alloc,
+            "to",
+            "MS",
+            "The last moment that ladder and report show [default: the end]",
+        ))
+}
+
+/// The command with how its lines are printed.
+fn printed<'a>(alloc: Global) -> Result<Command<'a>, AllocError>
+    ensures { IfOk result (λ c. app_of c ≡ spec.printed) }
+{
+    at_site(
+        alloc,
+        "sim",
+        "Runs a script at a site, and prints what comes of it",
+    )?
+    .arg(flag(
+        alloc,
+        "trace",
+        "Prints each datagram that is put out, with the number by which `deliver` names it, and each frame",
+    ))?
+    .arg(json(alloc))
+}
+
+/// A command with the files that are written of a run.
+fn with_files<'a>(alloc: Global, command: Command<'a>) -> Result<Command<'a>, AllocError>
+    ensures { IfOk result (λ c. app_of c ≡ spec.with_files (app_of command.entry)) }
+{
+    command
+        .arg(written_capture(alloc))?
+        .arg(option(
+            alloc,
+            "ladder",
+            "FILE",
+            "Draws the run to a file of SVG: a lane for each station, an arrow for each message",
+        ))?
+        .arg(option(
+            alloc,
+            "report",
+            "FILE",
+            "Writes a page of HTML: the ladder, the history, and each datagram and frame taken apart",
+        ))
+}
