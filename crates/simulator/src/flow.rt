@@ -42,6 +42,10 @@ pub enum Part {
 pub struct Flow {
     pub(crate) left: u64,
     pub(crate) part: Part,
+    /// No item before this one waits any more: each was delivered or is too old.
+    pub(crate) first_item: usize,
+    /// No frame whose turn comes before this does.
+    pub(crate) first_told: Telling,
 }
 
 impl Flow {
@@ -60,6 +64,8 @@ impl Flow {
         Ok(Flow {
             left: n,
             part: Part::Ticks,
+            first_item: 0,
+            first_told: Telling { frames: 0, ear: 0 },
         })
     }
 }
@@ -72,6 +78,18 @@ fn is_first<A: Allocator>(sending: &Sending<A>, item: Option<usize>) -> bool {
     }
 }
 
+/// Whose turn it is to be told first, of the frames that were put out so far: there is no need to look at one before.
+fn first_told<A: Allocator + Copy>(net: &Internetwork<A>, from: Telling) -> Telling {
+    let frames = net.buses().frames;
+    match net.buses().next_hear(from, frames, net.moment()) {
+        Some(next) => Telling {
+            frames: next.recent.sending.place.frames,
+            ear: next.ear_place,
+        },
+        None => Telling { frames, ear: 0 },
+    }
+}
+
 /// The next millisecond, if one is left.
 fn next_tick<A: Allocator + Copy>(net: &Internetwork<A>, flow: &mut Flow) -> Option<Event<A>>
     ensures sound { IsSoundIfAny result }
@@ -80,11 +98,19 @@ fn next_tick<A: Allocator + Copy>(net: &Internetwork<A>, flow: &mut Flow) -> Opt
     if flow.left == 0 {
         return None;
     }
+    let before = net.items().len();
+    let from = match next_waiting(net.items(), flow.first_item, before, net.moment()) {
+        Some(number) => number,
+        None => before,
+    };
+    let told = first_told(net, flow.first_told);
     flow.left -= 1;
+    flow.first_item = from;
+    flow.first_told = told;
     flow.part = Part::Delivers {
-        from: 0,
-        before: net.items().len(),
-        told: Telling { frames: 0, ear: 0 },
+        from,
+        before,
+        told,
         frames: net.buses().frames,
     };
     Some(Event::Tick(1))
