@@ -11,7 +11,7 @@
 //! - `stations`: devices and clients, as they open.
 //! - `routing`: managers and routers, as they open.
 //! - `opening`: the objects that a device opens with, at its start and at each restart.
-//! - `finding`: which of them has a name, or is at an address.
+//! - `finding`: which of them is at a place.
 //! - `laws`: what holds of these stations, for the proofs of the layers above.
 #![tactic(auto)]
 
@@ -24,7 +24,7 @@ mod routing;
 mod stations;
 
 pub use buses::buses_of;
-pub use finding::{HostFound, host_at, part_named, station_at};
+pub use finding::station_at;
 pub use laws::{devices_are_site, places_agree, relays_stand, stations_are_fresh, stations_stand};
 pub use opening::opening_of;
 pub use routing::{WorldRelay, relays_of};

@@ -3,6 +3,9 @@ use Rattle.std.proofs.Common.{◌≡◌, ◌∙◌, refl, sym, ap, subst, ℕ, z
 use Rattle.std.proofs.lemmas.List.{map-append}
 use Rattle.std.specs.Prelude.{option_to_list, slice_get, slice_set}
 use Rattle.buses.specs.Puts.{BusesState, put_on}
+use Rattle.directory.proofs.StayLaws.{leads_set, stays}
+use Rattle.directory.specs.Directory.{DirectoryState, Leads}
+use Rattle.headline_client.proofs.Places.{all_at}
 use Rattle.history.specs.declared.Entry.{Entry}
 use Rattle.plans.specs.hosts.Hosts.{IsHost}
 use Rattle.plans.specs.hosts.Stations.{WorldStation}
@@ -13,6 +16,7 @@ use Rattle.npdu.specs.declared.mac.Station.{Station}
 use Rattle.primitives.specs.declared.plain_data.Reply.{Reply}
 use Rattle.primitives.specs.declared.plain_data.Request.{Request}
 use Rattle.site_parts.specs.declared.parts.Parts.{Parts}
+use Rattle.site_parts.specs.declared.parts.Station as site_part
 use Rattle.site_station.specs.Entity as entity
 use Rattle.site_station.specs.Station.{left_by, told_by}
 use Rattle.site_station.specs.declared.entity.EntityTold.{EntityTold}
@@ -170,6 +174,24 @@ module _ {A R E : Type 0} (r : Result R E) (site : Parts A) (moment : ℕ) (rs :
           (subst (λ (y : WorldStation A). IsHost moment y) (sym left) may.stands)
       by_result (Err e) left same = subst (λ (xs : List (WorldStation A)). AreSteady site moment xs)
           (sym (ap (λ (y : WorldStation A). slice_set ss place y) same ∙ set_same ss place s there)) steady
+
+  -- .. and no station has moved
+  pub leads_act : (d : DirectoryState) (parts : List (site_part.Station A)) → OnOk r (x ≡ left_by moment plan s) →
+      OnErr r (x ≡ s) → AreSteady site moment ss → MayBeDone moment plan s → Leads d parts ss →
+      Leads d parts (slice_set ss place x)
+  leads_act d parts left same steady may leads = by_result r left same
+    where
+      by_result : (q : Result R E) → OnOk q (x ≡ left_by moment plan s) → OnErr q (x ≡ s) →
+          Leads d parts (slice_set ss place x)
+      by_result (Ok u) left same = record {
+        parts_are = leads.parts_are;
+        hosts_are = leads_set moment d ss place s x there (all_at (λ t. IsHost moment t) ss place s steady.hosts there)
+            (subst (λ (y : WorldStation A). IsHost moment y) (sym left) may.stands)
+            (ap (λ (y : WorldStation A). entity.station_of y.entity) left ∙ stays moment plan.entity s.entity)
+            leads.hosts_are;
+      }
+      by_result (Err e) left same = subst (λ (xs : List (WorldStation A)). Leads d parts xs)
+          (sym (ap (λ (y : WorldStation A). slice_set ss place y) same ∙ set_same ss place s there)) leads
 
   -- .. and all pass on
   pub passing_act : (c0 c1 : Chronicle A) (key : Option kept.Key)

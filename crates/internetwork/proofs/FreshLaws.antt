@@ -1,7 +1,9 @@
 -- The stations and relays of a site stand as it opens.
 use Rattle.std.proofs.Common.{◌≡◌, sym, subst, arith, ◌≤◌, List, []}
+use Rattle.std.specs.List.{AllByRecursion}
 use Rattle.plans.proofs.hosts.FreshLaws.{stations_are_of_site}
 use Rattle.plans.proofs.hosts.HostLaws.{relays_stand, stations_stand}
+use Rattle.plans.specs.hosts.Hosts.{IsHost}
 use Rattle.plans.specs.hosts.Opening.{opening_relays, opening_stations}
 use Rattle.plans.specs.hosts.Stations.{WorldStation}
 use Rattle.internetwork.specs.Laws.{ArePassing, AreSteady}
@@ -25,4 +27,8 @@ passing_new {A} p rs sound is = subst (λ (xs : List (SiteRelay A)). ArePassing 
   from = tt;
 })
 
-pub ruleset fresh_rules = (steady_new, passing_new)
+pub hosts_new : {A : Type 0} (p : Parts A) (ss : List (WorldStation A)) → ss ≡ opening_stations p →
+    AllByRecursion (IsHost 0) ss
+hosts_new {A} p ss is = subst (λ (xs : List (WorldStation A)). AllByRecursion (IsHost 0) xs) (sym is) (stations_stand p)
+
+pub ruleset fresh_rules = (steady_new, passing_new, hosts_new)

@@ -3,6 +3,7 @@
 ghost use Rattle.std.specs.Prelude.{◌≡◌, IfErr, IfOk};
 
 use crate::internetwork::Internetwork;
+use directory::Directory;
 use plans::{WorldRelay, WorldStation};
 use primitives::copy_all;
 use site::Site;
@@ -59,14 +60,26 @@ impl<A: Allocator + Copy> Internetwork<A> {
         ensures copy { IfOk result (λ copy. copy ≡ self.now) }
         ensures cause { IfErr result (λ fault. fault ≡ Fault.Memory) }
     {
+        let site = site_of(self.alloc, &self.site)?;
+        let stations = stations_in(self.alloc, self.stations.as_slice())?;
+        let directory = Directory::new(
+            self.alloc,
+            site.stations(),
+            stations.as_slice(),
+            self.moment,
+        )?;
+        let relays = relays_in(self.alloc, self.relays.as_slice())?;
+        let buses = self.buses.copy(self.alloc)?;
+        let chronicle = self.chronicle.copy(self.alloc)?;
         Ok(Internetwork {
             alloc: self.alloc,
-            site: site_of(self.alloc, &self.site)?,
+            site,
             moment: self.moment,
-            relays: relays_in(self.alloc, self.relays.as_slice())?,
-            stations: stations_in(self.alloc, self.stations.as_slice())?,
-            buses: self.buses.copy(self.alloc)?,
-            chronicle: self.chronicle.copy(self.alloc)?,
+            relays,
+            stations,
+            directory,
+            buses,
+            chronicle,
         })
     }
 }

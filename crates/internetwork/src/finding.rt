@@ -12,10 +12,11 @@ ghost use Rattle.internetwork.specs.Refusals.{GoesToNoRelay, RefusesItem};
 ghost use Rattle.traffic.specs.Seeking.{is_young};
 
 use crate::internetwork::Internetwork;
+use directory::HostFound;
 use link_site::SitePort;
 use npdu::Station;
 use objects::Table;
-use plans::{HostFound, WorldRelay, WorldStation, host_at, part_named, station_at};
+use plans::{WorldRelay, WorldStation, station_at};
 use relays::{RelayFound, relay_at, relay_in};
 use site_station::Entity;
 use std::alloc::Allocator;
@@ -83,7 +84,7 @@ impl<A: Allocator + Copy> Internetwork<A> {
         ensures cause { IfErr result (λ fault. fault ≡ Fault.NoSuch) }
         ensures nobody { OnErr result (IsNobody name.now self.now) }
     {
-        let Some(part) = part_named(name, self.site.stations()) else {
+        let Some(part) = self.directory.part_named(name) else {
             return Err(Fault::NoSuch);
         };
         let relays = self.relay_count();
@@ -103,7 +104,7 @@ impl<A: Allocator + Copy> Internetwork<A> {
         ensures stands { IfSome result (λ found. RelayStands self.now.moment found.relay.now) }
         ensures none { IfNone result (IsNoRelay name.now self.now) }
     {
-        let Some(place) = part_named(name, self.site.stations()) else {
+        let Some(place) = self.directory.part_named(name) else {
             return None;
         };
         match relay_in(self.relays.as_slice(), place) {
@@ -132,7 +133,7 @@ impl<A: Allocator + Copy> Internetwork<A> {
         ensures host { IfSome result (λ p. IsHost self.now.moment p.station.now) }
         ensures nobody { IfNone result (IsNoHostAt address self.now.stations) }
     {
-        match host_at(self.stations.as_slice(), address) {
+        match self.directory.host_at(self.stations.as_slice(), address) {
             Some(found) => Some(found),
             None => None,
         }

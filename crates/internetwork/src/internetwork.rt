@@ -2,6 +2,7 @@
 
 use buses::Buses;
 use chronicle::{Chronicle, SaidMessage, WorldEntry};
+use directory::Directory;
 use plans::{WorldRelay, WorldStation, buses_of, relays_of, stations_of};
 use site::Site;
 use std::alloc::Allocator;
@@ -17,6 +18,7 @@ pub struct Internetwork<A: Allocator + Copy> {
     pub(crate) moment: u64,
     pub(crate) relays: Vec<WorldRelay<A>, A>,
     pub(crate) stations: Vec<WorldStation<A>, A>,
+    pub(crate) directory: Directory<A>,
     pub(crate) buses: Buses<A>,
     pub(crate) chronicle: Chronicle<A>,
 }
@@ -24,6 +26,7 @@ pub struct Internetwork<A: Allocator + Copy> {
 impl<A: Allocator + Copy> Model for Internetwork<A> {
     ghost use Rattle.buses.specs.Buses.{buses_of};
     ghost use Rattle.chronicle.specs.Kept.{all_keys, all_said};
+    ghost use Rattle.directory.specs.Directory.{Leads};
     ghost use Rattle.internetwork.specs.Laws.{ArePassing, AreSteady};
     ghost use Rattle.internetwork.specs.World.{WorldState};
 
@@ -42,7 +45,8 @@ impl<A: Allocator + Copy> Model for Internetwork<A> {
     } };
 
     ghost invariant = { λ w. AreSteady w.site w.moment w.stations.items
-        × ArePassing w.moment w.relays.items w.chronicle.items.items };
+        × ArePassing w.moment w.relays.items w.chronicle.items.items
+        × Leads w.directory w.site.stations w.stations.items };
 }
 
 impl<A: Allocator + Copy> Internetwork<A> {
@@ -51,6 +55,7 @@ impl<A: Allocator + Copy> Internetwork<A> {
     ghost use Rattle.buses.specs.Buses.{buses_of};
     ghost use Rattle.profile.specs.Times.{MAX_MOMENT_MS};
     ghost use Rattle.chronicle.specs.Kept.{all_said};
+    ghost use Rattle.directory.specs.Directory.{Leads};
     ghost use Rattle.internetwork.specs.Laws.{ArePassing, AreSteady, Stands};
     ghost use Rattle.internetwork.specs.World.{fresh_world};
     ghost use Rattle.site.specs.Sound.{IsSound};
@@ -69,8 +74,9 @@ impl<A: Allocator + Copy> Internetwork<A> {
     {
         let stations = stations_of(alloc, &site)?;
         let relays = relays_of(alloc, &site)?;
+        let directory = Directory::new(alloc, site.stations(), stations.as_slice(), 0)?;
         let buses = Buses::new(buses_of(alloc, &site)?);
-        Ok(Internetwork::open(alloc, site, relays, stations, buses))
+        Ok(Internetwork::open(alloc, site, relays, stations, directory, buses))
     }
 
     /// These relays, stations and buses of a site at the moment 0: nothing was put out, issued or said.
@@ -79,10 +85,12 @@ impl<A: Allocator + Copy> Internetwork<A> {
         site: Site<A>,
         relays: Vec<WorldRelay<A>, A>,
         stations: Vec<WorldStation<A>, A>,
+        directory: Directory<A>,
         buses: Buses<A>,
     ) -> Self
         requires steady { AreSteady site 0 stations.items }
         requires passing { ArePassing {A = A} 0 relays.items [] }
+        requires leads { Leads directory site.stations stations.items }
         ensures { result ≡ record {
           site = site;
           moment = 0;
@@ -101,6 +109,7 @@ impl<A: Allocator + Copy> Internetwork<A> {
             moment: 0,
             relays,
             stations,
+            directory,
             buses,
             chronicle: Chronicle::new(alloc),
         }

@@ -16,8 +16,7 @@ mod passing;
 mod stations;
 
 pub use hosts::{
-    HostFound, WorldRelay, WorldStation, buses_of, host_at, opening_of, part_named, relays_of,
-    station_at, stations_of,
+    WorldRelay, WorldStation, buses_of, opening_of, relays_of, station_at, stations_of,
 };
 pub use listening::{EarPort, ear_port, relay_ear_port};
 pub use passing::{

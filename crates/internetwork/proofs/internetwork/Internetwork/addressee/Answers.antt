@@ -1,8 +1,17 @@
-use Rattle.std.proofs.Common.{ap, subst}
+use Rattle.std.proofs.Common.{ap, subst, sym, List}
+use Rattle.directory.specs.Directory.{LeadsToHosts}
 use Rattle.headline_client.proofs.Places.{all_at}
 use Rattle.plans.specs.hosts.Hosts.{IsHost}
+use Rattle.plans.specs.hosts.Stations.{WorldStation}
 use Rattle.internetwork.specs.World.{WorldState}
 use Rattle.internetwork.proofs.internetwork.Internetwork.addressee.Goals as goal
+
+-- the directory leads to the stations
+pub host_at-requires : goal.host_at-requires
+host_at-requires g c = record {
+  leads = subst (λ (ss : List (WorldStation _)). LeadsToHosts c.self.inside.directory ss) (sym c.as_slice.ensures.value)
+      c.self.invariant.2.hosts_are;
+}
 
 -- this port of this station is
 pub returns-in-Some-clause-addressee : goal.returns-in-Some-clause-addressee

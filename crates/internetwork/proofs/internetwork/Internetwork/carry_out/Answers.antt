@@ -3,7 +3,7 @@ use Rattle.std.specs.Prelude.{slice_get}
 use Rattle.buses.specs.Buses.{buses_of}
 use Rattle.headline_client.proofs.Places.{all_at}
 use Rattle.plans.specs.hosts.Hosts.{IsHost}
-use Rattle.internetwork.proofs.ActingLaws.{done_act, passing_act, steady_act, unchanged_act}
+use Rattle.internetwork.proofs.ActingLaws.{done_act, leads_act, passing_act, steady_act, unchanged_act}
 use Rattle.internetwork.proofs.EventLaws.{before_end, read_there, the_one}
 use Rattle.plans.specs.Plans.{MayBeDone}
 use Rattle.internetwork.specs.Doing.{AtPlace}
@@ -49,6 +49,14 @@ invariant_of-self g c =
           c.self.inside.stations.items c.args.place c.index_mut.result.now c.act.new.station c.args.plan there
           c.self.inside.chronicle c.act.new.chronicle c.args.key c.args.entry c.act.ensures.tells c.act.ensures.same
           c.self.invariant.1,
+      leads_act c.act.result c.self.inside.site c.self.inside.moment c.self.inside.relays.items
+          c.self.inside.stations.items c.args.place c.index_mut.result.now c.act.new.station c.args.plan there
+          c.self.inside.directory c.self.inside.site.stations c.act.ensures.left c.act.ensures.unchanged
+          c.self.invariant.0
+          (the_one (MayBeDone c.self.inside.moment c.args.plan) c.args.place c.self.inside.stations.items
+          c.index_mut.result.now there
+          (subst (λ (w : WorldState _). AtPlace c.args.place w.stations (MayBeDone w.moment c.args.plan)) (sym c.self.view_is)
+          c.requires.planned)) c.self.invariant.2,
     )
 
 pub returns-clause-done : goal.returns-clause-done

@@ -27,4 +27,5 @@ invariant_of-self g c = (
       c.index_mut.result.now refl
       (subst (λ (w : WorldState _). c.args.number < length w.items) (sym c.self.view_is) c.requires) c.index_mut.ensures.value)
       c.self.invariant.1,
+  c.self.invariant.2,
 )

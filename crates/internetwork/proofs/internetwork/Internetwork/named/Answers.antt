@@ -9,7 +9,7 @@ use Rattle.internetwork.proofs.internetwork.Internetwork.named.Goals as goal
 pub returns-in_default-clause-nobody : goal.returns-in_default-clause-nobody
 returns-in_default-clause-nobody g c = record {
   none = λ place s named. let e = ap (λ (w : WorldState _). w.site.stations) c.self.view_is in
-      absurd (cc (e, named.named, c.stations.ensures.stations, c.part_named.ensures, c.in_default.is));
+      absurd (cc (e, named.named, c.self.invariant.2.parts_are c.args.name.now, c.part_named.ensures, c.in_default.is));
 }
 
 -- its part is a relay
@@ -17,7 +17,7 @@ pub returns-then-part-relays-clause-nobody : goal.returns-then-part-relays-claus
 returns-then-part-relays-clause-nobody g c = record {
   none = λ place s named. let e = ap (λ (w : WorldState _). w.site.stations) c.self.view_is in
       let both : Some c.in-Some.part ≡ Some (length c.args.self.now.relays + place) =
-      cc (e, named.named, c.stations.ensures.stations, c.part_named.ensures, c.in-Some.is) in
+      cc (e, named.named, c.self.invariant.2.parts_are c.args.name.now, c.part_named.ensures, c.in-Some.is) in
       let same = some_same c.in-Some.part (length c.args.self.now.relays + place) both in
       omega (arith, same, c.if-part-relays.true, c.relay_count-relays.ensures);
 }
@@ -27,7 +27,7 @@ returns-in-None-clause-nobody g c = record {
   none = λ place s named. let e = ap (λ (w : WorldState _). w.site.stations) c.self.view_is in
       let f = ap (λ (w : WorldState _). w.stations) c.self.view_is in
       let both : Some c.in-Some.part ≡ Some (length c.args.self.now.relays + place) =
-      cc (e, named.named, c.stations.ensures.stations, c.part_named.ensures, c.in-Some.is) in
+      cc (e, named.named, c.self.invariant.2.parts_are c.args.name.now, c.part_named.ensures, c.in-Some.is) in
       let same = some_same c.in-Some.part (length c.args.self.now.relays + place) both in
       let at : place ≡ c.in-Some.part - c.relay_count-relays.result = omega (arith, same, c.relay_count-relays.ensures) in
       absurd (cc (f, at, named.there, c.as_slice.ensures.value, c.in-None.ensures.none));
@@ -40,7 +40,7 @@ returns-in-Some-station_at-clause-named g c =
     let f = ap (λ (w : WorldState _). w.stations) c.self.view_is in
     let back : length c.args.self.now.relays + (c.in-Some.part - c.relay_count-relays.result) ≡ c.in-Some.part =
     omega (arith, c.if-part-relays.false, c.relay_count-relays.ensures) in record {
-      named = cc (e, back, c.stations.ensures.stations, c.part_named.ensures, c.in-Some.is);
+      named = cc (e, back, c.self.invariant.2.parts_are c.args.name.now, c.part_named.ensures, c.in-Some.is);
       there = cc (f, c.as_slice.ensures.value, c.in-Some-station_at.ensures.there);
     }
 

@@ -38,6 +38,7 @@ invariant_of-self g c =
           c.index_mut.result.now there
           (subst (λ (w : WorldState _). AtPlace c.args.place w.relays (MayPass w.moment c.args.plan)) (sym c.self.view_is)
           c.requires.planned)),
+      c.self.invariant.2,
     )
 
 pub returns-clause-done : goal.returns-clause-done

@@ -7,7 +7,7 @@ use Rattle.internetwork.proofs.internetwork.Internetwork.relay_named.Goals as go
 pub returns-in_default-clause-none : goal.returns-in_default-clause-none
 returns-in_default-clause-none g c = record {
   none = λ place r named. let e = ap (λ (w : WorldState _). w.site.stations) c.self.view_is in
-      absurd (cc (e, named.named, c.stations.ensures.stations, c.part_named.ensures, c.in_default.is));
+      absurd (cc (e, named.named, c.self.invariant.2.parts_are c.args.name.now, c.part_named.ensures, c.in_default.is));
 }
 
 -- the relay is found by its name, at its place
@@ -15,7 +15,7 @@ pub returns-in-Some-relay_in-clause-named : goal.returns-in-Some-relay_in-clause
 returns-in-Some-relay_in-clause-named g c =
     let e = ap (λ (w : WorldState _). w.site.stations) c.self.view_is in
     let f = ap (λ (w : WorldState _). w.relays) c.self.view_is in record {
-      named = cc (e, c.stations.ensures.stations, c.part_named.ensures, c.in-Some.is);
+      named = cc (e, c.self.invariant.2.parts_are c.args.name.now, c.part_named.ensures, c.in-Some.is);
       there = cc (f, c.as_slice.ensures.value, c.in-Some-relay_in.ensures.there);
     }
 
@@ -35,7 +35,7 @@ returns-in-None-clause-none g c = record {
         f,
         named.named,
         named.there,
-        c.stations.ensures.stations,
+        c.self.invariant.2.parts_are c.args.name.now,
         c.part_named.ensures,
         c.in-Some.is,
         c.as_slice.ensures.value,

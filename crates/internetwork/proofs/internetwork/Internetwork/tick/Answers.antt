@@ -21,6 +21,7 @@ invariant_of-self g c =
           (omega arith) passes.greatest c.self.invariant.0,
       passing_later c.self.inside.moment (c.self.inside.moment + c.args.n) c.self.inside.relays.items
           c.self.inside.chronicle.items.items (omega arith) c.self.invariant.1,
+      c.self.invariant.2,
     )
 
 pub returns-clause-ticks : goal.returns-clause-ticks

@@ -1,7 +1,7 @@
 use Rattle.std.proofs.Common.{◌≡◌, ◌+◌, length}
 use Rattle.hosts.specs.Finding.{is_at}
 use Rattle.relays.specs.Finding.{place_from, place_of}
-use Rattle.hosts.proofs.finding.port_at.Given as goal
+use Rattle.directory.proofs.directory.port_at.Given as goal
 
 -- what is found in the rest is found in all
 abbrev pub invariant-loop-left : goal.invariant-loop-left

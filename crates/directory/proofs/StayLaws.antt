@@ -1,0 +1,62 @@
+-- A directory leads to where it led, since no station moves.
+use Rattle.std.proofs.Common.{◌≡◌, ◌∙◌, refl, sym, ap, ℕ, zero, suc, ◌+◌, Bool, List, [], ◌∷◌, Option, Some, None}
+use Rattle.std.specs.Prelude.{if◌then◌else◌, slice_get, slice_set}
+use Rattle.client.specs.Plan as client
+use Rattle.client.specs.Client.{ClientState}
+use Rattle.client.specs.declared.plan.ClientChange.{ClientChange}
+use Rattle.client.specs.declared.plan.ClientChange.TheVariants.{Stays, Refuses, Binds, Transacts}
+use Rattle.device.specs.Device.{DeviceState}
+use Rattle.device.specs.Plan as device
+use Rattle.directory.proofs.DirectoryLaws.{port_there}
+use Rattle.directory.specs.Directory.{DirectoryState, LeadsToHosts}
+use Rattle.hosts.specs.Finding.{has_port_at}
+use Rattle.hosts.specs.Hosts.{IsHost}
+use Rattle.hosts.specs.Stations.{WorldStation}
+use Rattle.npdu.specs.Mac.{station_cmp}
+use Rattle.npdu.specs.declared.mac.Station.{Station}
+use Rattle.relays.specs.Finding.{place_from}
+use Rattle.server_answers.specs.Plan.{ServerPlan}
+use Rattle.site_station.specs.Entity.{left_by, station_of}
+use Rattle.site_station.specs.declared.entity.Entity.{Entity}
+use Rattle.site_station.specs.declared.entity.Entity.TheVariants.{Client, Device}
+use Rattle.site_station.specs.declared.entity.EntityPlan.{EntityPlan}
+use Rattle.site_station.specs.declared.entity.EntityPlan.TheVariants as plan
+use Rattle.std.specs.Ordering.{is_eq}
+
+device_stays : {A : Type 0} (now : ℕ) (p : Option (ServerPlan A)) (d : DeviceState A) →
+    station_of (Device (device.left_of now p d)) ≡ station_of (Device d)
+device_stays now None d = refl
+device_stays now (Some p) d = refl
+
+client_stays : {A : Type 0} (now : ℕ) (p : ClientChange A) (c : ClientState A) →
+    station_of (Client (client.left_of now p c)) ≡ station_of (Client c)
+client_stays now Stays c = refl
+client_stays now (Refuses r) c = refl
+client_stays now (Binds b) c = refl
+client_stays now (Transacts t) c = refl
+
+-- a plan leaves an entity where it is
+pub stays : {A : Type 0} (now : ℕ) (p : EntityPlan A) (e : Entity A) → station_of (left_by now p e) ≡ station_of e
+stays now (plan.Device p) (Device d) = device_stays now p.server d
+stays now (plan.Client p) (Client c) = client_stays now p.change c
+stays now (plan.Restarts opening) (Device d) = refl
+stays now (plan.Says said) e = refl
+stays now (plan.Device p) (Client c) = refl
+stays now (plan.Client p) (Device d) = refl
+stays now (plan.Restarts opening) (Client c) = refl
+
+place_set : {X : Type 0} (n : ℕ) (test : X → Bool) (xs : List X) (place : ℕ) (x y : X) → slice_get xs place ≡ Some x →
+    test y ≡ test x → place_from n test (slice_set xs place y) ≡ place_from n test xs
+place_set n test [] place x y there same = refl
+place_set n test (z ∷ zs) zero x y there same = let is : z ≡ x = cc in
+    ap (λ b. if b then Some n else place_from (n + 1) test zs) (same ∙ ap test (sym is))
+place_set n test (z ∷ zs) (suc place) x y there same =
+    ap (λ r. if test z then Some n else r) (place_set (n + 1) test zs place x y there same)
+
+-- one station is put in the place of another that is where it is
+pub leads_set : {A : Type 0} (now : ℕ) (d : DirectoryState) (stations : List (WorldStation A)) (place : ℕ)
+    (s t : WorldStation A) → slice_get stations place ≡ Some s → IsHost now s → IsHost now t →
+    station_of t.entity ≡ station_of s.entity → LeadsToHosts d stations → LeadsToHosts d (slice_set stations place t)
+leads_set now d stations place s t there was is same leads = λ x. leads x
+    ∙ sym (place_set 0 (has_port_at x) stations place s t there (sym (port_there now x t is)
+    ∙ ap (λ y. is_eq (station_cmp x y)) same ∙ port_there now x s was))
