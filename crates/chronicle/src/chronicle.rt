@@ -71,6 +71,18 @@ impl<A: Allocator> Chronicle<A> {
         Ok(())
     }
 
+    /// Takes room for what is executed and so many outcomes, where it grows by nothing else. What it has stays as it is.
+    ///
+    /// # Errors
+    /// Want of memory.
+    pub fn reserve_to_tell(&mut self, outcomes: usize) -> Result<(), AllocError>
+        ensures same { IsSame self.old self.new }
+        ensures room { OnOk result (HasRoomToTell self.new outcomes) }
+    {
+        self.history.reserve(outcomes.saturating_add(1))?;
+        Ok(())
+    }
+
     /// Grows; room for so many outcomes is left.
     pub fn grow(&mut self, growth: Growth<A>, outcomes: usize)
         requires { HasRoom self.old growth outcomes }

@@ -1,5 +1,6 @@
 pub mod Standing
 pub mod ActingLaws
+pub mod QuietLaws
 pub mod EventLaws
 pub mod StrayLaws
 pub mod FreshLaws

@@ -1,6 +1,6 @@
 //! What a station of a world does: planned by it, and then done with all that grows by it.
 
-ghost use Rattle.std.specs.Prelude.{◌≡◌, ◌≤◌, IfErr, OnOk, OnErr, length};
+ghost use Rattle.std.specs.Prelude.{◌≡◌, ◌≤◌, [], IfErr, IsTrue, None, OnOk, OnErr, length};
 ghost use Rattle.buses.specs.Buses as on_buses;
 ghost use Rattle.buses.specs.Puts.{put_on};
 ghost use Rattle.profile.specs.Times.{MAX_MOMENT_MS};
@@ -14,7 +14,7 @@ ghost use Rattle.plans.specs.Plans.{MayBeDone, MayPass};
 ghost use Rattle.internetwork.specs.Passing.{HasPassed, Passes};
 ghost use Rattle.plans.specs.hosts.Hosts.{IsHost};
 ghost use Rattle.site_station.specs.Entity as entity;
-ghost use Rattle.site_station.specs.Station.{left_by};
+ghost use Rattle.site_station.specs.Station.{left_by, told_by};
 
 use crate::internetwork::Internetwork;
 use buses::Buses;
@@ -33,6 +33,44 @@ pub(crate) fn place_of<A: Allocator + Copy>(station: &WorldStation<A>, now: u64)
 {
     let _ = now;
     SitePort::station(&station.ports()[0])
+}
+
+/// Whether nothing is put out and nothing said where a plan is done.
+fn is_quiet<A: Allocator + Copy>(plan: &WorldPlan<A>) -> bool
+    ensures out { IsTrue result → plan.now.out ≡ [] }
+    ensures said { IsTrue result → (told_by plan.now).told.said ≡ [] }
+{
+    plan.out.is_empty() && plan.entity.said().is_empty()
+}
+
+/// A station that puts nothing out and says nothing does what it planned at the moment `now`, in milliseconds: the history
+/// grows by what is told, and nothing else does.
+///
+/// # Errors
+/// `Memory` alone. All is then as it was.
+#[tactic(auto, using(crate::proofs::QuietLaws::quiet_rules))]
+fn act_quietly<A: Allocator + Copy>(
+    chronicle: &mut Chronicle<A>,
+    station: &mut WorldStation<A>,
+    plan: WorldPlan<A>,
+    now: u64,
+) -> Result<(), Fault>
+    requires greatest { now ≤ MAX_MOMENT_MS }
+    requires host { IsHost now station.old }
+    requires planned { MayBeDone now plan station.old }
+    requires out { plan.out ≡ [] }
+    requires said { (told_by plan).told.said ≡ [] }
+    ensures left { OnOk result (station.new ≡ left_by now plan station.old) }
+    ensures tells { OnOk result (Tells now plan None None station.old chronicle.old chronicle.new) }
+    ensures cause { IfErr result (λ fault. fault ≡ Fault.Memory) }
+    ensures unchanged { OnErr result (station.new ≡ station.old) }
+    ensures same { OnErr result (IsSame chronicle.old chronicle.new) }
+{
+    let place = place_of(station, now);
+    chronicle.reserve_to_tell(outcomes_in(&plan.entity))?;
+    let told = station.commit(plan, now)?;
+    chronicle.tell(place, told, now);
+    Ok(())
 }
 
 /// A station does what it planned at the moment `now`, in milliseconds, and all grows by what comes of it: items, what
@@ -63,6 +101,9 @@ fn act<A: Allocator + Copy>(
     ensures same { OnErr result (IsSame chronicle.old chronicle.new) }
     ensures quiet { OnErr result (on_buses.buses_of buses.new ≡ on_buses.buses_of buses.old) }
 {
+    if key.is_none() && entry.is_none() && is_quiet(&plan) {
+        return act_quietly(chronicle, station, plan, now);
+    }
     let mut plan = plan;
     let place = place_of(station, now);
     let mut growth = growth(
