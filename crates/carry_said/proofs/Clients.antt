@@ -6,18 +6,18 @@ use Rattle.apdu.specs.Unconfirmed.{limits_octets, service_number}
 use Rattle.apdu.specs.declared.sizes.MaxApdu.{MaxApdu}
 use Rattle.apdu.specs.declared.unconfirmed.Limits.{Limits}
 use Rattle.apdu.specs.declared.unconfirmed.UnconfirmedService.TheVariants as kind
-use Rattle.client.specs.Client.{ClientState}
-use Rattle.client.specs.Hearing.{Does, Transacts, silence}
-use Rattle.client.specs.Saying.{parcel_of}
-use Rattle.client.specs.declared.plan.ClientTold.{ClientTold}
-use Rattle.client_tsm.specs.Said.{said_apdu, said_way, spoken_of}
-use Rattle.client_tsm.specs.declared.said.ClientSaid.{ClientSaid}
-use Rattle.headline_bacnet.proofs.Speaking.{who_is_is_said}
-use Rattle.headline_bacnet.specs.Bodies.{Says, body_of}
-use Rattle.headline_client.proofs.Heard.{said_is_heard}
-use Rattle.headline_client.specs.Laws.{CanWrite}
-use Rattle.headline_client.specs.Safe.{station_of}
-use Rattle.headline_client.specs.Told.{message_of}
+use Rattle.headline_site.specs.client.Client.{ClientState}
+use Rattle.headline_site.specs.client.Hearing.{Does, Transacts, silence}
+use Rattle.headline_site.specs.client.Saying.{parcel_of}
+use Rattle.headline_site.specs.client.declared.plan.ClientTold.{ClientTold}
+use Rattle.headline_site.specs.client_tsm.Said.{said_apdu, said_way, spoken_of}
+use Rattle.headline_site.specs.client_tsm.declared.said.ClientSaid.{ClientSaid}
+use Rattle.headline_site.proofs.headline_bacnet.Speaking.{who_is_is_said}
+use Rattle.headline_site.specs.headline_bacnet.Bodies.{Says, body_of}
+use Rattle.headline_site.proofs.headline_client.Heard.{said_is_heard}
+use Rattle.headline_site.specs.headline_client.Laws.{CanWrite}
+use Rattle.headline_site.specs.headline_client.Safe.{station_of}
+use Rattle.headline_site.specs.headline_client.Told.{message_of}
 use Rattle.history.proofs.HasLaws.{all_has, flat_has, has_map}
 use Rattle.history.proofs.Lists.{has_back, has_last, none_has}
 use Rattle.history.specs.Book.{Broadcast, Message, Other}

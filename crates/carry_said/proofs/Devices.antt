@@ -6,27 +6,27 @@ use Rattle.apdu.specs.Unconfirmed.{i_am_octets, service_number}
 use Rattle.apdu.specs.declared.sizes.MaxApdu.{MaxApdu}
 use Rattle.apdu.specs.declared.sizes.MaxApdu.TheVariants.{UpTo50, UpTo128, UpTo206, UpTo480, UpTo1024, UpTo1476, Reserved}
 use Rattle.apdu.specs.declared.unconfirmed.UnconfirmedService.TheVariants as kind
-use Rattle.device.specs.Device.{DeviceState, i_am_of}
-use Rattle.device.specs.Hearing.{AnswersWho, Does, Serves, origin_of}
-use Rattle.device.specs.Saying.{i_am_parcel, parcel_of}
-use Rattle.device.specs.declared.plan.DeviceTold.{DeviceTold}
-use Rattle.headline_bacnet.proofs.Speaking.{i_am_is_said}
-use Rattle.headline_bacnet.specs.Refined.{ObjectCore}
-use Rattle.headline_device.specs.Devices.{Deed, after_deed, announces, idles, serves, station_of, told_of_deed}
-use Rattle.headline_device.specs.Devices.{HasNumbers}
-use Rattle.headline_server.proofs.Heard.{said_is_heard}
-use Rattle.headline_server.specs.Refines.{message_of}
+use Rattle.headline_site.specs.device.Device.{DeviceState, i_am_of}
+use Rattle.headline_site.specs.device.Hearing.{AnswersWho, Does, Serves, origin_of}
+use Rattle.headline_site.specs.device.Saying.{i_am_parcel, parcel_of}
+use Rattle.headline_site.specs.device.declared.plan.DeviceTold.{DeviceTold}
+use Rattle.headline_site.proofs.headline_bacnet.Speaking.{i_am_is_said}
+use Rattle.headline_site.specs.headline_bacnet.Refined.{ObjectCore}
+use Rattle.headline_site.specs.headline_device.Devices.{Deed, after_deed, announces, idles, serves, station_of, told_of_deed}
+use Rattle.headline_site.specs.headline_device.Devices.{HasNumbers}
+use Rattle.headline_site.proofs.headline_server.Heard.{said_is_heard}
+use Rattle.headline_site.specs.headline_server.Refines.{message_of}
 use Rattle.history.proofs.HasLaws.{flat_has, has_map}
 use Rattle.history.proofs.Lists.{has_back, has_cons, has_last, none_has}
 use Rattle.history.specs.Book.{Broadcast, I_am}
 use Rattle.history.specs.Lists.{Has}
 use Rattle.npdu.specs.declared.mac.Station.{Station}
 use Rattle.npdu.specs.declared.parcel.Parcel.{Parcel}
-use Rattle.server_answers.specs.Said.{said_way, spoken_of}
-use Rattle.server_answers.specs.declared.asked.Origin.{Origin}
-use Rattle.server_answers.specs.declared.plan.ServerTold.{ServerTold}
-use Rattle.server_answers.specs.declared.said.ServerSaid.{ServerSaid}
-use Rattle.server_tsm.specs.Server.{ServerTsmState}
+use Rattle.headline_site.specs.server_answers.Said.{said_way, spoken_of}
+use Rattle.headline_site.specs.server_answers.declared.asked.Origin.{Origin}
+use Rattle.headline_site.specs.server_answers.declared.plan.ServerTold.{ServerTold}
+use Rattle.headline_site.specs.server_answers.declared.said.ServerSaid.{ServerSaid}
+use Rattle.headline_site.specs.server_tsm.Server.{ServerTsmState}
 use Rattle.unitdata.specs.Hearing.{HeardContent, refuses, says}
 use Rattle.unitdata.specs.Laws.{announced_inside, spoken_inside}
 use Rattle.carry_said.specs.Laws.{DeviceHearingHasInsides, DeviceSaysSaid, DeviceSaysSomething}

@@ -2,9 +2,9 @@
 use Rattle.std.proofs.Common.{◌≡◌, ◌∙◌, refl, sym, subst, ℕ, ◌≤◌, ◌+◌, List, ◌++◌, arith}
 use Rattle.apdu.specs.Apdu.{PlainApdu}
 use Rattle.apdu.specs.declared.sizes.MaxApdu.{MaxApdu}
-use Rattle.headline_bacnet.specs.Network.{WasSaid}
-use Rattle.headline_client.specs.Safe as clients
-use Rattle.headline_device.specs.Devices as devices
+use Rattle.headline_site.specs.headline_bacnet.Network.{WasSaid}
+use Rattle.headline_site.specs.headline_client.Safe as clients
+use Rattle.headline_site.specs.headline_device.Devices as devices
 use Rattle.history.proofs.Lists.{has_front}
 use Rattle.history.specs.Book.{Message}
 use Rattle.history.specs.Lists.{Has}

@@ -1,7 +1,7 @@
 -- What is said in a parcel is what is inside it, and whoever reads it finds that in the book.
 use Rattle.std.proofs.Common.{◌≡◌, ◌∙◌, ⊎_elim, refl, sym, subst, ℕ, Bool, true, false, List, [], ◌∷◌, Option, Some, None}
 use Rattle.apdu.specs.declared.sizes.MaxApdu.{MaxApdu}
-use Rattle.headline_bacnet.specs.Bodies.{led_to, station_by}
+use Rattle.headline_site.specs.headline_bacnet.Bodies.{led_to, station_by}
 use Rattle.history.proofs.Lists.{has, has_cons, has_next, none_has}
 use Rattle.history.specs.Lists.{Has}
 use Rattle.inside.proofs.Insides.{one_inside}

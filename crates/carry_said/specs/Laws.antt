@@ -4,26 +4,26 @@ use Rattle.std.specs.List.{AllByRecursion}
 use Rattle.apdu.specs.Apdu.{PlainApdu}
 use Rattle.apdu.specs.declared.sizes.MaxApdu.{MaxApdu}
 use Rattle.apdu.specs.declared.unconfirmed.Limits.{Limits}
-use Rattle.client.specs.Client.{ClientState}
-use Rattle.client.specs.Hearing.{ClientHears}
-use Rattle.client.specs.Saying as client
-use Rattle.client.specs.declared.plan.ClientTold.{ClientTold}
-use Rattle.client_tsm.specs.declared.plan.TransactionOutcome.{TransactionOutcome}
-use Rattle.client_tsm.specs.declared.said.ClientSaid.{ClientSaid}
-use Rattle.device.specs.Device.{DeviceState}
-use Rattle.device.specs.Hearing.{DeviceHears}
-use Rattle.device.specs.declared.plan.DeviceTold.{DeviceTold}
+use Rattle.headline_site.specs.client.Client.{ClientState}
+use Rattle.headline_site.specs.client.Hearing.{ClientHears}
+use Rattle.headline_site.specs.client.Saying as client
+use Rattle.headline_site.specs.client.declared.plan.ClientTold.{ClientTold}
+use Rattle.headline_site.specs.client_tsm.declared.plan.TransactionOutcome.{TransactionOutcome}
+use Rattle.headline_site.specs.client_tsm.declared.said.ClientSaid.{ClientSaid}
+use Rattle.headline_site.specs.device.Device.{DeviceState}
+use Rattle.headline_site.specs.device.Hearing.{DeviceHears}
+use Rattle.headline_site.specs.device.declared.plan.DeviceTold.{DeviceTold}
 use Rattle.headline.specs.Happenings as core
 use Rattle.headline.specs.Promised.{StaysSaid}
 use Rattle.headline.specs.Stations.{Client}
-use Rattle.headline_bacnet.specs.Network.{BringsWhatWasSaid}
-use Rattle.headline_bacnet.specs.Refined.{ObjectCore}
-use Rattle.headline_client.specs.Laws.{CanWrite}
-use Rattle.headline_client.specs.Safe as clients
-use Rattle.headline_client.specs.Told.{acts, issues}
-use Rattle.headline_device.specs.Devices as devices
-use Rattle.headline_device.specs.Devices.{Deed, after_deed, told_of_deed}
-use Rattle.headline_device.specs.Devices.{HasNumbers}
+use Rattle.headline_site.specs.headline_bacnet.Network.{BringsWhatWasSaid}
+use Rattle.headline_site.specs.headline_bacnet.Refined.{ObjectCore}
+use Rattle.headline_site.specs.headline_client.Laws.{CanWrite}
+use Rattle.headline_site.specs.headline_client.Safe as clients
+use Rattle.headline_site.specs.headline_client.Told.{acts, issues}
+use Rattle.headline_site.specs.headline_device.Devices as devices
+use Rattle.headline_site.specs.headline_device.Devices.{Deed, after_deed, told_of_deed}
+use Rattle.headline_site.specs.headline_device.Devices.{HasNumbers}
 use Rattle.history.specs.Book.{Broadcast, Issued, Other}
 use Rattle.history.specs.Lists.{Has}
 use Rattle.inside.specs.Inside.{Inside, Reaches, Said}

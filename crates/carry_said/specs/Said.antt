@@ -3,7 +3,7 @@ use Rattle.std.specs.Prelude.{◌≡◌, ℕ, List}
 use Rattle.apdu.specs.Apdu.{PlainApdu, Spells}
 use Rattle.apdu.specs.declared.sizes.MaxApdu.{MaxApdu}
 use Rattle.headline.specs.Honest as honest
-use Rattle.headline_bacnet.specs.Bodies.{Says}
+use Rattle.headline_site.specs.headline_bacnet.Bodies.{Says}
 use Rattle.history.specs.Book.{Book, Message}
 use Rattle.history.specs.Lists.{Has}
 use Rattle.inside.specs.Inside as inside

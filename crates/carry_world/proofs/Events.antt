@@ -1,37 +1,37 @@
 -- What a station says by itself is carried.
-use Rattle.headline_site.specs.headline_bacnet.Stations.{longest_of}
+use Rattle.carry_said.specs.headline_site.headline_bacnet.Stations.{longest_of}
 use Rattle.std.proofs.Common.{◌≡◌, ⊎_elim, refl, sym, subst, ℕ, List, [], ◌∷◌, Option, Some, None}
 use Rattle.std.specs.Prelude.{slice_get}
 use Rattle.std.specs.List.{AllByRecursion}
-use Rattle.client.specs.Client.{ClientState}
-use Rattle.client.specs.Saying.{parcels_of, who_is_parcel}
-use Rattle.client.specs.declared.plan.ClientIssued.{ClientIssued}
+use Rattle.carry_said.specs.client.Client.{ClientState}
+use Rattle.carry_said.specs.client.Saying.{parcels_of, who_is_parcel}
+use Rattle.carry_said.specs.client.declared.plan.ClientIssued.{ClientIssued}
 use Rattle.bindings.specs.Binding.{binding_of}
 use Rattle.bindings.specs.declared.binding.Binding.{Binding}
-use Rattle.client_tsm.specs.Client as client
-use Rattle.client_tsm.specs.Issuing.{issued}
-use Rattle.client_tsm.specs.Waking as client_waking
-use Rattle.device.specs.Device.{DeviceState}
-use Rattle.headline_site.specs.headline.Happenings as core
+use Rattle.carry_said.specs.client_tsm.Client as client
+use Rattle.carry_said.specs.client_tsm.Issuing.{issued}
+use Rattle.carry_said.specs.client_tsm.Waking as client_waking
+use Rattle.carry_said.specs.device.Device.{DeviceState}
+use Rattle.carry_said.specs.headline_site.headline.Happenings as core
 use Rattle.history.proofs.Lists.{has_cons, none_has}
 use Rattle.history.specs.Book.{Broadcast, Other}
 use Rattle.history.specs.Lists.{Has}
 use Rattle.npdu.specs.declared.parcel.Parcel.{Parcel}
-use Rattle.headline_site.specs.headline_bacnet.Refined.{ObjectSite}
+use Rattle.carry_said.specs.headline_site.headline_bacnet.Refined.{ObjectSite}
 use Rattle.primitives.specs.declared.plain_data.Request.{Request}
 use Rattle.carry_said.proofs.Clients.{client_asks, client_issues, client_says}
 use Rattle.carry_said.proofs.Devices.{device_says}
 use Rattle.carry_said.specs.Said.{CarriesSaid, ObjectBook}
-use Rattle.server_tsm.specs.Waking as server_waking
-use Rattle.headline_site.specs.Fair.{IsFair, MayIssue, OfOne, Stands}
-use Rattle.headline_site.specs.AllStations.{Announces, Asks_who, Client_hears, Client_learns, Client_marks, Client_wakes, Device_hears, Device_wakes, Event, Issues, Passes, Restarts, AllStations, client_does, deed_by, device_does, step}
-use Rattle.headline_site.specs.AllStations as stations
-use Rattle.headline_site.proofs.headline_client.Laws.{issuing, waking}
-use Rattle.headline_site.proofs.headline_client.Places.{all_at}
-use Rattle.headline_site.specs.headline_client.Laws.{IsClient}
-use Rattle.headline_site.specs.headline_client.Safe.{safe_client, station_of}
-use Rattle.headline_site.specs.headline_client.Told.{row_of}
-use Rattle.headline_site.specs.headline_device.Devices.{Deed, announces}
+use Rattle.carry_said.specs.server_tsm.Waking as server_waking
+use Rattle.carry_said.specs.headline_site.Fair.{IsFair, MayIssue, OfOne, Stands}
+use Rattle.carry_said.specs.headline_site.AllStations.{Announces, Asks_who, Client_hears, Client_learns, Client_marks, Client_wakes, Device_hears, Device_wakes, Event, Issues, Passes, Restarts, AllStations, client_does, deed_by, device_does, step}
+use Rattle.carry_said.specs.headline_site.AllStations as stations
+use Rattle.carry_said.proofs.headline_site.headline_client.Laws.{issuing, waking}
+use Rattle.carry_said.proofs.headline_site.headline_client.Places.{all_at}
+use Rattle.carry_said.specs.headline_site.headline_client.Laws.{IsClient}
+use Rattle.carry_said.specs.headline_site.headline_client.Safe.{safe_client, station_of}
+use Rattle.carry_said.specs.headline_site.headline_client.Told.{row_of}
+use Rattle.carry_said.specs.headline_site.headline_device.Devices.{Deed, announces}
 use Rattle.carry_world.specs.Internetwork.{IsSized}
 use Rattle.carry_world.specs.InternetworkSteps.{SaysParcels, issue_says}
 use Rattle.carry_world.proofs.Lists.{at_one}
@@ -73,7 +73,7 @@ module _ {A : Type 0} (s : ObjectSite A) (w : AllStations A) (at : Stands longes
 
   -- a device does something
   deed_carries : (place : ℕ) (d : DeviceState A) (deed : Deed A) (p : Parcel A) → slice_get w.devices place ≡ Some d →
-      Has (Rattle.headline_site.specs.headline_device.Devices.told_of_deed w.core.book.moment d deed).said p → Carries d.net p (device_does place deed d w)
+      Has (Rattle.carry_said.specs.headline_site.headline_device.Devices.told_of_deed w.core.book.moment d deed).said p → Carries d.net p (device_does place deed d w)
   deed_carries place d deed p there said = device_says longest_of w.core d deed p (all_at IsSized w.devices place d sized there).numbers said
 
   of_them : (ps qs : List (Parcel A)) (p : Parcel A) → ps ≡ qs → Has ps p → Has qs p

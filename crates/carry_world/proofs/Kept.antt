@@ -6,11 +6,11 @@ use Rattle.apdu.specs.Apdu.{PlainApdu}
 use Rattle.carry.proofs.Passed.{carried_still, passed_on_is_carried, put_out_is_carried}
 use Rattle.carry.specs.Passing.{PassesOn, PutsOut}
 use Rattle.carry.specs.Things.{AreCarried, Thing}
-use Rattle.client.specs.Client.{ClientState}
-use Rattle.client.specs.declared.plan.ClientTold as client
-use Rattle.device.specs.Device.{DeviceState}
-use Rattle.device.specs.declared.plan.DeviceTold as device
-use Rattle.headline_site.specs.headline.Happenings.{start}
+use Rattle.carry_said.specs.client.Client.{ClientState}
+use Rattle.carry_said.specs.client.declared.plan.ClientTold as client
+use Rattle.carry_said.specs.device.Device.{DeviceState}
+use Rattle.carry_said.specs.device.declared.plan.DeviceTold as device
+use Rattle.carry_said.specs.headline_site.headline.Happenings.{start}
 use Rattle.history.proofs.Lists.{has, has_cons, has_either, has_next, none_has}
 use Rattle.history.specs.Lists.{Has}
 use Rattle.profile.specs.Times.{LIFE_MS}
@@ -18,39 +18,39 @@ use Rattle.inside.specs.Inside.{AreInside, HasInside, IsInsideOf, Said}
 use Rattle.npdu.specs.declared.mac.Mac.{Mac}
 use Rattle.npdu.specs.declared.mac.Station.{Station}
 use Rattle.npdu.specs.declared.parcel.Parcel.{Parcel}
-use Rattle.headline_site.proofs.headline_bacnet.Refining.{refined_none, refined_then}
-use Rattle.headline_site.specs.headline_bacnet.Network.{BringsWhatWasSaid}
-use Rattle.headline_site.specs.headline_bacnet.Protocol.{bacnet}
-use Rattle.headline_site.specs.headline_bacnet.Refined.{ObjectSite, Refined, ObjectCore}
+use Rattle.carry_said.proofs.headline_site.headline_bacnet.Refining.{refined_none, refined_then}
+use Rattle.carry_said.specs.headline_site.headline_bacnet.Network.{BringsWhatWasSaid}
+use Rattle.carry_said.specs.headline_site.headline_bacnet.Protocol.{bacnet}
+use Rattle.carry_said.specs.headline_site.headline_bacnet.Refined.{ObjectSite, Refined, ObjectCore}
 use Rattle.carry_said.proofs.Hearing as hearing_said
 use Rattle.carry_said.proofs.Hearing.{heard_was_said, said_still}
 use Rattle.carry_said.proofs.Clients.{client_says}
 use Rattle.carry_said.proofs.Devices.{device_says}
 use Rattle.carry_said.specs.Said.{CarriesSaid, IsSaid}
-use Rattle.headline_site.proofs.Contracts.{client_hearing_goes, device_hearing_goes}
-use Rattle.headline_site.proofs.Steps.{begins_well, step_goes}
-use Rattle.headline_site.specs.Fair.{Stands}
-use Rattle.headline_site.specs.Laws.{Goes}
-use Rattle.headline_site.specs.AllStations.{AllStations, device_does, now, step, with_client}
-use Rattle.headline_site.proofs.headline_client.Laws.{hearing}
-use Rattle.headline_site.proofs.headline_client.Places.{all_at}
-use Rattle.headline_site.specs.headline_client.Heard.{said_in}
-use Rattle.headline_site.specs.headline_client.Laws.{IsClient}
-use Rattle.headline_site.specs.headline_client.Safe as client_safe
-use Rattle.headline_site.specs.headline_client.Safe.{safe_client}
-use Rattle.headline_site.specs.headline_client.Told.{acts}
-use Rattle.headline_site.proofs.headline_device.Doing.{hearing_is_done}
-use Rattle.headline_site.specs.headline_device.Devices as devices
-use Rattle.headline_site.specs.headline_device.Devices.{IsDevice, deed_in, left_of_deed}
+use Rattle.carry_said.proofs.headline_site.Contracts.{client_hearing_goes, device_hearing_goes}
+use Rattle.carry_said.proofs.headline_site.Steps.{begins_well, step_goes}
+use Rattle.carry_said.specs.headline_site.Fair.{Stands}
+use Rattle.carry_said.specs.headline_site.Laws.{Goes}
+use Rattle.carry_said.specs.headline_site.AllStations.{AllStations, device_does, now, step, with_client}
+use Rattle.carry_said.proofs.headline_site.headline_client.Laws.{hearing}
+use Rattle.carry_said.proofs.headline_site.headline_client.Places.{all_at}
+use Rattle.carry_said.specs.headline_site.headline_client.Heard.{said_in}
+use Rattle.carry_said.specs.headline_site.headline_client.Laws.{IsClient}
+use Rattle.carry_said.specs.headline_site.headline_client.Safe as client_safe
+use Rattle.carry_said.specs.headline_site.headline_client.Safe.{safe_client}
+use Rattle.carry_said.specs.headline_site.headline_client.Told.{acts}
+use Rattle.carry_said.proofs.headline_site.headline_device.Doing.{hearing_is_done}
+use Rattle.carry_said.specs.headline_site.headline_device.Devices as devices
+use Rattle.carry_said.specs.headline_site.headline_device.Devices.{IsDevice, deed_in, left_of_deed}
 use Rattle.unitdata.specs.Hearing.{Brings, Heard, says}
 use Rattle.carry_world.specs.Internetwork.{Adds, Internetwork, IsBegun, IsDelivered, IsSized}
 use Rattle.carry_world.specs.Laws.{IsHeardAsSaid}
 use Rattle.carry_world.specs.InternetworkSteps.{AreSteps, ClientStep, DeviceStep, OwnStep, PassingStep, Step, acts_itself, client_hears, device_hears, last_of, passes_on}
 use Rattle.carry_world.proofs.Events.{event_carries}
 use Rattle.carry_world.proofs.Lists.{all_set}
-use Rattle.headline_site.proofs.headline_bacnet.Refining.{refined_stays}
-use Rattle.headline_site.specs.headline_bacnet.Stations.{longest_of}
-use Rattle.headline_site.proofs.headline_device.Itself.{itself_hearing}
+use Rattle.carry_said.proofs.headline_site.headline_bacnet.Refining.{refined_stays}
+use Rattle.carry_said.specs.headline_site.headline_bacnet.Stations.{longest_of}
+use Rattle.carry_said.proofs.headline_site.headline_device.Itself.{itself_hearing}
 use Rattle.carry_world.proofs.Sizes.{sized_itself, step_sized}
 
 nothing_in : {X : Type 0} (xs : List X) (x : X) → xs ≡ [] → Has xs x → ⊥

@@ -1,23 +1,23 @@
 -- The keys of issues name the same last issue, and so the history grows by the same entries.
 use Rattle.std.proofs.Common.{◌≡◌, ◌∙◌, refl, sym, ap, ℕ, suc, cond, List, [], ◌∷◌, ◌++◌, length, map, Option, Some, None}
 use Rattle.std.specs.Prelude.{◌==◌, ◌&&◌}
-use Rattle.client_tsm.specs.declared.plan.TransactionOutcome.{TransactionOutcome}
-use Rattle.device.specs.Device.{DeviceState}
-use Rattle.headline_site.specs.headline.Happenings as core
-use Rattle.headline_site.specs.headline.Happenings.{closing}
+use Rattle.carry_said.specs.client_tsm.declared.plan.TransactionOutcome.{TransactionOutcome}
+use Rattle.carry_said.specs.device.Device.{DeviceState}
+use Rattle.carry_said.specs.headline_site.headline.Happenings as core
+use Rattle.carry_said.specs.headline_site.headline.Happenings.{closing}
 use Rattle.history.specs.Book.{Book, Issued, last_from, last_issue}
 use Rattle.history.specs.Lists.{first_of}
 use Rattle.history.specs.declared.Entry.{Entry}
 use Rattle.history.specs.declared.Entry.TheVariants.{Executed}
 use Rattle.npdu.specs.Mac.{same_station}
 use Rattle.npdu.specs.declared.mac.Station.{Station}
-use Rattle.headline_site.specs.headline_bacnet.Refined.{ObjectCore}
+use Rattle.carry_said.specs.headline_site.headline_bacnet.Refined.{ObjectCore}
 use Rattle.primitives.specs.declared.plain_data.Reply.{Reply}
 use Rattle.primitives.specs.declared.plain_data.Request.{Request}
-use Rattle.server_answers.specs.declared.plan.Executed as told
-use Rattle.headline_site.specs.headline_client.Told.{outcome_of, told_of}
-use Rattle.headline_site.specs.headline_device.Devices.{Deed, after_deed, announces, idles, serves, told_of_deed}
-use Rattle.headline_site.specs.headline_server.Refines.{told_by}
+use Rattle.carry_said.specs.server_answers.declared.plan.Executed as told
+use Rattle.carry_said.specs.headline_site.headline_client.Told.{outcome_of, told_of}
+use Rattle.carry_said.specs.headline_site.headline_device.Devices.{Deed, after_deed, announces, idles, serves, told_of_deed}
+use Rattle.carry_said.specs.headline_site.headline_server.Refines.{told_by}
 use Rattle.carry_world.specs.PlainWorld.{Key, executed_told, last_key, last_key_from, outcomes_told}
 
 abbrev pub key_of : {A : Type 0} → Issued Station (Request A) → Key

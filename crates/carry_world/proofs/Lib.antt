@@ -5,3 +5,5 @@ pub mod Kept
 pub mod Keys
 pub mod Seeing
 pub mod Promised
+-- What the proofs above cite of those below.
+pub use Rattle.carry_said.proofs.headline_client as headline_client

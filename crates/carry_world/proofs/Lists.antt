@@ -2,7 +2,7 @@
 use Rattle.std.proofs.Common.{◌≡◌, sym, subst, ℕ, zero, suc, List, [], ◌∷◌, Option, Some, None}
 use Rattle.std.specs.Prelude.{slice_set}
 use Rattle.std.specs.List.{AllByRecursion}
-use Rattle.headline_site.specs.AllStations.{AllStations, to_one}
+use Rattle.carry_said.specs.headline_site.AllStations.{AllStations, to_one}
 
 -- one is replaced in a list of which something holds
 pub all_set : {X : Type 0} (P : X → Type 0) (xs : List X) (place : ℕ) (y : X) → AllByRecursion P xs → P y → AllByRecursion P (slice_set xs place y)

@@ -1,24 +1,24 @@
 -- What is promised of a world.
 use Rattle.std.proofs.Common.{◌≡◌, ◌∙◌, refl, sym, ap, subst, ℕ, List, [], ◌∷◌, ◌++◌, Option, Some}
 use Rattle.carry.specs.Things.{AreCarried, Thing}
-use Rattle.client.specs.Client.{ClientState}
-use Rattle.client_tsm.specs.declared.plan.TransactionOutcome.{TransactionOutcome}
-use Rattle.headline_site.specs.headline.Happenings.{Fails, Gives, Outcome}
-use Rattle.headline_site.specs.headline.Promised.{IsExecutedReply}
-use Rattle.headline_site.specs.headline.Protocol.{IsSite}
-use Rattle.headline_site.specs.headline_bacnet.Protocol.{bacnet}
-use Rattle.headline_site.specs.headline_bacnet.Refined.{ObjectSite}
-use Rattle.headline_site.specs.headline_bacnet.Stations.{longest_of}
-use Rattle.headline_site.proofs.headline_client.Places.{all_at, all_weaken}
-use Rattle.headline_site.specs.headline_client.Safe as client_side
-use Rattle.headline_site.specs.headline_client.Told.{outcome_of}
-use Rattle.headline_site.specs.headline_device.Devices.{IsDevice, station_of}
-use Rattle.headline_site.proofs.Hearings.{hearing_executes_issued, hearing_is_whole_issue, hearing_tells_of_issues}
-use Rattle.headline_site.proofs.Reached as headline_at
-use Rattle.headline_site.proofs.Reached.{after_issue_at, answered_at, closed_at, numbered_at, reached_by, tables_left_at}
-use Rattle.headline_site.specs.AllStations.{AllStations}
-use Rattle.headline_site.specs.Laws as headline_site
-use Rattle.headline_site.specs.Laws.{IsReached}
+use Rattle.carry_said.specs.client.Client.{ClientState}
+use Rattle.carry_said.specs.client_tsm.declared.plan.TransactionOutcome.{TransactionOutcome}
+use Rattle.carry_said.specs.headline_site.headline.Happenings.{Fails, Gives, Outcome}
+use Rattle.carry_said.specs.headline_site.headline.Promised.{IsExecutedReply}
+use Rattle.carry_said.specs.headline_site.headline.Protocol.{IsSite}
+use Rattle.carry_said.specs.headline_site.headline_bacnet.Protocol.{bacnet}
+use Rattle.carry_said.specs.headline_site.headline_bacnet.Refined.{ObjectSite}
+use Rattle.carry_said.specs.headline_site.headline_bacnet.Stations.{longest_of}
+use Rattle.carry_said.proofs.headline_site.headline_client.Places.{all_at, all_weaken}
+use Rattle.carry_said.specs.headline_site.headline_client.Safe as client_side
+use Rattle.carry_said.specs.headline_site.headline_client.Told.{outcome_of}
+use Rattle.carry_said.specs.headline_site.headline_device.Devices.{IsDevice, station_of}
+use Rattle.carry_said.proofs.headline_site.Hearings.{hearing_executes_issued, hearing_is_whole_issue, hearing_tells_of_issues}
+use Rattle.carry_said.proofs.headline_site.Reached as headline_at
+use Rattle.carry_said.proofs.headline_site.Reached.{after_issue_at, answered_at, closed_at, numbered_at, reached_by, tables_left_at}
+use Rattle.carry_said.specs.headline_site.AllStations.{AllStations}
+use Rattle.carry_said.specs.headline_site.Laws as headline_site
+use Rattle.carry_said.specs.headline_site.Laws.{IsReached}
 use Rattle.history.specs.Lists.{Has}
 use Rattle.history.specs.declared.Entry.TheVariants.{Issue}
 use Rattle.inside.specs.Inside.{Said}

@@ -2,16 +2,16 @@
 use Rattle.std.proofs.Common.{◌≡◌, ◌∙◌, refl, sym, ap, subst, ℕ, ◌+◌, List, [], ◌∷◌, ◌++◌, Option, Some}
 use Rattle.std.specs.Prelude.{slice_get, slice_set}
 use Rattle.carry.specs.Things.{Thing}
-use Rattle.client.specs.Client.{ClientState}
-use Rattle.client.specs.Saying.{parcels_of}
+use Rattle.carry_said.specs.client.Client.{ClientState}
+use Rattle.carry_said.specs.client.Saying.{parcels_of}
 use Rattle.bindings.specs.Binding.{binding_of}
 use Rattle.bindings.specs.declared.binding.Binding.{Binding}
-use Rattle.client_tsm.specs.Client as client
-use Rattle.client_tsm.specs.Waking as client_waking
-use Rattle.device.specs.Device.{DeviceState}
-use Rattle.device.specs.declared.plan.DeviceTold as device
-use Rattle.headline_site.specs.headline.Happenings as core
-use Rattle.headline_site.specs.headline.Happenings.{start}
+use Rattle.carry_said.specs.client_tsm.Client as client
+use Rattle.carry_said.specs.client_tsm.Waking as client_waking
+use Rattle.carry_said.specs.device.Device.{DeviceState}
+use Rattle.carry_said.specs.device.declared.plan.DeviceTold as device
+use Rattle.carry_said.specs.headline_site.headline.Happenings as core
+use Rattle.carry_said.specs.headline_site.headline.Happenings.{start}
 use Rattle.history.specs.Book.{Broadcast, Other}
 use Rattle.history.specs.declared.Entry.{Entry}
 use Rattle.history.specs.declared.Entry.TheVariants.{Issue}
@@ -24,24 +24,24 @@ use Rattle.carry_world.specs.InternetworkSteps.{Step, acts_itself, issue_says, p
 use Rattle.npdu.specs.declared.mac.Mac.{Mac}
 use Rattle.npdu.specs.declared.mac.Station.{Station}
 use Rattle.npdu.specs.declared.parcel.Parcel.{Parcel}
-use Rattle.headline_site.specs.headline_bacnet.Protocol.{bacnet}
-use Rattle.headline_site.specs.headline_bacnet.Refined.{ObjectSite}
+use Rattle.carry_said.specs.headline_site.headline_bacnet.Protocol.{bacnet}
+use Rattle.carry_said.specs.headline_site.headline_bacnet.Refined.{ObjectSite}
 use Rattle.primitives.specs.declared.plain_data.Reply.{Reply}
 use Rattle.primitives.specs.declared.plain_data.Request.{Request}
-use Rattle.server_tsm.specs.Waking as server_waking
-use Rattle.headline_site.specs.Fair.{IsFair, MayIssue, OfOne}
-use Rattle.headline_site.specs.AllStations as stations
-use Rattle.headline_site.specs.AllStations.{Asks_who, Client_wakes, Device_wakes, Event, Issues, Passes, Restarts, AllStations, client_does, deed_by, device_does, now, step, with_client}
-use Rattle.headline_site.proofs.headline_client.Places.{all_at}
-use Rattle.headline_site.specs.headline_client.Heard.{said_in}
-use Rattle.headline_site.specs.headline_client.Safe.{safe_client, station_of}
-use Rattle.headline_site.specs.headline_client.Told.{acts, row_of}
-use Rattle.headline_site.proofs.headline_device.Doing.{hearing_is_done}
-use Rattle.headline_site.specs.headline_device.Devices.{IsDevice, deed_in}
+use Rattle.carry_said.specs.server_tsm.Waking as server_waking
+use Rattle.carry_said.specs.headline_site.Fair.{IsFair, MayIssue, OfOne}
+use Rattle.carry_said.specs.headline_site.AllStations as stations
+use Rattle.carry_said.specs.headline_site.AllStations.{Asks_who, Client_wakes, Device_wakes, Event, Issues, Passes, Restarts, AllStations, client_does, deed_by, device_does, now, step, with_client}
+use Rattle.carry_said.proofs.headline_site.headline_client.Places.{all_at}
+use Rattle.carry_said.specs.headline_site.headline_client.Heard.{said_in}
+use Rattle.carry_said.specs.headline_site.headline_client.Safe.{safe_client, station_of}
+use Rattle.carry_said.specs.headline_site.headline_client.Told.{acts, row_of}
+use Rattle.carry_said.proofs.headline_site.headline_device.Doing.{hearing_is_done}
+use Rattle.carry_said.specs.headline_site.headline_device.Devices.{IsDevice, deed_in}
 use Rattle.carry_world.specs.Laws.{IsFresh}
 use Rattle.carry_world.specs.PlainSteps.{ArePlainSteps, ClientAsks, ClientHearsIt, ClientIssues, ClientWakes, DeviceHearsIt, DeviceRestarts, DeviceWakes, PlainStep, SomethingPasses, TimePasses, client_asks, client_hears, client_issues, client_wakes, device_hears, device_restarts, device_wakes, last_world, something_passes, time_passes}
 use Rattle.carry_world.specs.PlainWorld.{Delivers, Key, PlainWorld, Puts, executed_told}
-use Rattle.headline_site.specs.headline_bacnet.Stations.{longest_of}
+use Rattle.carry_said.specs.headline_site.headline_bacnet.Stations.{longest_of}
 use Rattle.carry_world.proofs.Sizes.{all_sized}
 use Rattle.carry_world.proofs.Keys.{deed_left, keys_length, keys_more, keys_of, outcomes_same}
 

@@ -4,22 +4,22 @@ use Rattle.std.specs.Prelude.{slice_get}
 use Rattle.std.specs.List.{AllByRecursion}
 use Rattle.bindings.specs.Binding.{binding_of}
 use Rattle.bindings.specs.declared.binding.Binding.{Binding}
-use Rattle.client.specs.Client.{ClientState}
-use Rattle.device.specs.Device.{DeviceState, restarts}
-use Rattle.headline_site.specs.headline_bacnet.Refined.{ObjectSite}
-use Rattle.headline_site.specs.headline_bacnet.Stations.{longest_of}
-use Rattle.headline_site.proofs.headline_client.Places.{all_at}
-use Rattle.headline_site.specs.headline_device.Devices.{IsItself, station_of}
-use Rattle.headline_site.specs.headline_device.Devices.{HasNumbers}
-use Rattle.headline_site.proofs.headline_server.Waking.{size_stays}
-use Rattle.headline_site.specs.AllStations.{Announces, Asks_who, Client_hears, Client_learns, Client_marks, Client_wakes, Device_hears, Device_wakes, Event}
-use Rattle.headline_site.specs.AllStations.{Issues, Passes, Restarts, AllStations, asked_plan, client_issues, deed_by, device_does, step}
-use Rattle.headline_site.specs.Fair.{IsNewDevice}
+use Rattle.carry_said.specs.client.Client.{ClientState}
+use Rattle.carry_said.specs.device.Device.{DeviceState, restarts}
+use Rattle.carry_said.specs.headline_site.headline_bacnet.Refined.{ObjectSite}
+use Rattle.carry_said.specs.headline_site.headline_bacnet.Stations.{longest_of}
+use Rattle.carry_said.proofs.headline_site.headline_client.Places.{all_at}
+use Rattle.carry_said.specs.headline_site.headline_device.Devices.{IsItself, station_of}
+use Rattle.carry_said.specs.headline_site.headline_device.Devices.{HasNumbers}
+use Rattle.carry_said.proofs.headline_site.headline_server.Waking.{size_stays}
+use Rattle.carry_said.specs.headline_site.AllStations.{Announces, Asks_who, Client_hears, Client_learns, Client_marks, Client_wakes, Device_hears, Device_wakes, Event}
+use Rattle.carry_said.specs.headline_site.AllStations.{Issues, Passes, Restarts, AllStations, asked_plan, client_issues, deed_by, device_does, step}
+use Rattle.carry_said.specs.headline_site.Fair.{IsNewDevice}
 use Rattle.primitives.specs.declared.plain_data.Request.{Request}
 use Rattle.profile.specs.declared.link_kind.LinkKind.{LinkKind}
-use Rattle.server_answers.specs.Plan.{ServerPlan}
-use Rattle.server_tsm.specs.Server.{ServerTsmState, committed}
-use Rattle.server_tsm.specs.Waking.{woken}
+use Rattle.carry_said.specs.server_answers.Plan.{ServerPlan}
+use Rattle.carry_said.specs.server_tsm.Server.{ServerTsmState, committed}
+use Rattle.carry_said.specs.server_tsm.Waking.{woken}
 use Rattle.unitdata.specs.Sizes.{longest_apdu}
 use Rattle.carry_world.specs.Internetwork.{IsSized}
 use Rattle.carry_world.proofs.Lists.{all_set, by_one}

@@ -1,21 +1,21 @@
 -- An internetwork: all stations of a site, what lies on its networks and waits at them, and what was said.
-use Rattle.headline_site.specs.headline_bacnet.Stations.{longest_of}
+use Rattle.carry_said.specs.headline_site.headline_bacnet.Stations.{longest_of}
 use Rattle.std.specs.Prelude.{◌≡◌, ◌⊎◌, ◌≤◌, ◌+◌, ℕ, List, [], ◌++◌}
 use Rattle.std.specs.List.{AllByRecursion}
 use Rattle.carry.specs.Passing.{PutsOut}
 use Rattle.carry.specs.Things.{Bears, Thing, net_of}
-use Rattle.device.specs.Device.{DeviceState}
+use Rattle.carry_said.specs.device.Device.{DeviceState}
 use Rattle.history.specs.Lists.{Has}
 use Rattle.profile.specs.Times.{LIFE_MS}
 use Rattle.inside.specs.Inside.{AreInside, Reaches, Said}
 use Rattle.npdu.specs.declared.mac.Mac.{Mac}
 use Rattle.npdu.specs.declared.mac.Station.{Station}
 use Rattle.npdu.specs.declared.parcel.Parcel.{Parcel}
-use Rattle.headline_site.specs.headline_bacnet.Refined.{ObjectSite}
-use Rattle.headline_site.specs.headline_device.Devices.{station_of}
-use Rattle.headline_site.specs.headline_device.Devices.{HasNumbers}
-use Rattle.headline_site.specs.Fair as stations
-use Rattle.headline_site.specs.AllStations.{AllStations, now}
+use Rattle.carry_said.specs.headline_site.headline_bacnet.Refined.{ObjectSite}
+use Rattle.carry_said.specs.headline_site.headline_device.Devices.{station_of}
+use Rattle.carry_said.specs.headline_site.headline_device.Devices.{HasNumbers}
+use Rattle.carry_said.specs.headline_site.Fair as stations
+use Rattle.carry_said.specs.headline_site.AllStations.{AllStations, now}
 
 -- the stations over one book; all that was sent or waits in a port; all that application entities said, octet for octet
 pub record Internetwork (A : Type 0) : Type 0 where

@@ -1,33 +1,33 @@
 -- What can happen in an internetwork: one station makes a step, or something is passed on.
-use Rattle.headline_site.specs.headline_bacnet.Stations.{longest_of}
+use Rattle.carry_said.specs.headline_site.headline_bacnet.Stations.{longest_of}
 use Rattle.std.specs.Prelude.{◌≡◌, ◌⊎◌, ℕ, List, [], ◌∷◌, Option, Some, None, slice_get}
 use Rattle.apdu.specs.declared.unconfirmed.Limits.{Limits}
 use Rattle.carry.specs.Passing.{PassesOn}
 use Rattle.carry.specs.Things.{Thing}
-use Rattle.client.specs.Client.{ClientState}
-use Rattle.client.specs.Hearing.{ClientHears}
-use Rattle.client.specs.Saying.{parcels_of, who_is_parcel}
-use Rattle.client.specs.declared.plan.ClientTold as client
+use Rattle.carry_said.specs.client.Client.{ClientState}
+use Rattle.carry_said.specs.client.Hearing.{ClientHears}
+use Rattle.carry_said.specs.client.Saying.{parcels_of, who_is_parcel}
+use Rattle.carry_said.specs.client.declared.plan.ClientTold as client
 use Rattle.bindings.specs.Binding.{binding_of}
 use Rattle.bindings.specs.declared.binding.Binding.{Binding}
-use Rattle.client_tsm.specs.Issuing.{issued}
-use Rattle.client_tsm.specs.Waking as client_waking
-use Rattle.client_tsm.specs.declared.said.ClientSaid.{ClientSaid}
-use Rattle.device.specs.Device.{DeviceState}
-use Rattle.device.specs.Hearing.{DeviceHears}
-use Rattle.device.specs.declared.plan.DeviceTold as device
+use Rattle.carry_said.specs.client_tsm.Issuing.{issued}
+use Rattle.carry_said.specs.client_tsm.Waking as client_waking
+use Rattle.carry_said.specs.client_tsm.declared.said.ClientSaid.{ClientSaid}
+use Rattle.carry_said.specs.device.Device.{DeviceState}
+use Rattle.carry_said.specs.device.Hearing.{DeviceHears}
+use Rattle.carry_said.specs.device.declared.plan.DeviceTold as device
 use Rattle.history.specs.Lists.{Has}
 use Rattle.npdu.specs.declared.mac.Station.{Station}
 use Rattle.npdu.specs.declared.parcel.Parcel.{Parcel}
-use Rattle.headline_site.specs.headline_bacnet.Refined.{ObjectSite}
+use Rattle.carry_said.specs.headline_site.headline_bacnet.Refined.{ObjectSite}
 use Rattle.primitives.specs.declared.plain_data.Request.{Request}
-use Rattle.server_tsm.specs.Waking as server_waking
-use Rattle.headline_site.specs.Fair.{IsFair}
-use Rattle.headline_site.specs.AllStations.{Announces, Asks_who, Client_hears, Client_learns, Client_marks, Client_wakes, Device_hears, Device_wakes, Event, Issues, Passes, Restarts, AllStations, deed_by, device_does, now, step, with_client}
-use Rattle.headline_site.specs.headline_client.Heard.{said_in}
-use Rattle.headline_site.specs.headline_client.Safe.{safe_client, station_of}
-use Rattle.headline_site.specs.headline_client.Told.{acts}
-use Rattle.headline_site.specs.headline_device.Devices.{Deed, announces, deed_in, told_of_deed}
+use Rattle.carry_said.specs.server_tsm.Waking as server_waking
+use Rattle.carry_said.specs.headline_site.Fair.{IsFair}
+use Rattle.carry_said.specs.headline_site.AllStations.{Announces, Asks_who, Client_hears, Client_learns, Client_marks, Client_wakes, Device_hears, Device_wakes, Event, Issues, Passes, Restarts, AllStations, deed_by, device_does, now, step, with_client}
+use Rattle.carry_said.specs.headline_site.headline_client.Heard.{said_in}
+use Rattle.carry_said.specs.headline_site.headline_client.Safe.{safe_client, station_of}
+use Rattle.carry_said.specs.headline_site.headline_client.Told.{acts}
+use Rattle.carry_said.specs.headline_site.headline_device.Devices.{Deed, announces, deed_in, told_of_deed}
 use Rattle.carry_world.specs.Internetwork.{Adds, Internetwork, IsDelivered}
 
 -- a device hears a parcel that reaches it within LIFE_MS, and does what its contract says (5.4.5, 16.10.2)

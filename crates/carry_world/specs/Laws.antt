@@ -2,24 +2,24 @@
 use Rattle.std.specs.Prelude.{◌≡◌, ◌≤◌, ◌+◌, ℕ, List, [], map, Some, slice_get}
 use Rattle.std.specs.List.{AllByRecursion}
 use Rattle.apdu.specs.Apdu.{PlainApdu, Spells}
-use Rattle.client.specs.Client.{ClientState}
-use Rattle.client.specs.Hearing.{ClientHears}
-use Rattle.client.specs.declared.plan.ClientTold.{ClientTold}
-use Rattle.client_tsm.specs.Open.{Open}
-use Rattle.client_tsm.specs.declared.plan.TransactionOutcome.{TransactionOutcome}
-use Rattle.device.specs.Device.{DeviceState}
-use Rattle.device.specs.Hearing.{DeviceHears}
-use Rattle.device.specs.declared.plan.DeviceTold.{DeviceTold}
-use Rattle.headline_site.specs.headline.Happenings.{Fails, Gives, Outcome}
-use Rattle.headline_site.specs.headline.Protocol.{IsSite}
-use Rattle.headline_site.specs.headline_bacnet.Protocol.{bacnet}
-use Rattle.headline_site.specs.headline_bacnet.Refined.{ObjectSite}
-use Rattle.headline_site.specs.headline_client.Safe as client_side
-use Rattle.headline_site.specs.headline_client.Told.{outcome_of}
-use Rattle.headline_site.specs.headline_device.Devices as device_side
-use Rattle.headline_site.specs.headline_device.Devices.{HasNumbers}
-use Rattle.headline_site.specs.Fair.{IsNewClient, IsNewDevice}
-use Rattle.headline_site.specs.Laws.{ComesWhole}
+use Rattle.carry_said.specs.client.Client.{ClientState}
+use Rattle.carry_said.specs.client.Hearing.{ClientHears}
+use Rattle.carry_said.specs.client.declared.plan.ClientTold.{ClientTold}
+use Rattle.carry_said.specs.client_tsm.Open.{Open}
+use Rattle.carry_said.specs.client_tsm.declared.plan.TransactionOutcome.{TransactionOutcome}
+use Rattle.carry_said.specs.device.Device.{DeviceState}
+use Rattle.carry_said.specs.device.Hearing.{DeviceHears}
+use Rattle.carry_said.specs.device.declared.plan.DeviceTold.{DeviceTold}
+use Rattle.carry_said.specs.headline_site.headline.Happenings.{Fails, Gives, Outcome}
+use Rattle.carry_said.specs.headline_site.headline.Protocol.{IsSite}
+use Rattle.carry_said.specs.headline_site.headline_bacnet.Protocol.{bacnet}
+use Rattle.carry_said.specs.headline_site.headline_bacnet.Refined.{ObjectSite}
+use Rattle.carry_said.specs.headline_site.headline_client.Safe as client_side
+use Rattle.carry_said.specs.headline_site.headline_client.Told.{outcome_of}
+use Rattle.carry_said.specs.headline_site.headline_device.Devices as device_side
+use Rattle.carry_said.specs.headline_site.headline_device.Devices.{HasNumbers}
+use Rattle.carry_said.specs.headline_site.Fair.{IsNewClient, IsNewDevice}
+use Rattle.carry_said.specs.headline_site.Laws.{ComesWhole}
 use Rattle.history.specs.Legal.{AnswersWereExecuted, AreClosedOnce, AreExecutedOnce, AreNumbered, IsWhatExecutionsLeave, StandAfterIssue}
 use Rattle.history.specs.Lists.{Has}
 use Rattle.history.specs.declared.Entry.{Entry}
@@ -32,8 +32,8 @@ use Rattle.primitives.specs.declared.plain_data.Reply.{Reply}
 use Rattle.primitives.specs.declared.plain_data.Request.{Request}
 use Rattle.profile.specs.Times.{LIFE_MS}
 use Rattle.remembered.specs.Records.{AreDistinct}
-use Rattle.server_answers.specs.declared.plan.Executed.{Executed}
-use Rattle.server_tsm.specs.Hearing.{Whole}
+use Rattle.carry_said.specs.server_answers.declared.plan.Executed.{Executed}
+use Rattle.carry_said.specs.server_tsm.Hearing.{Whole}
 use Rattle.services.specs.Asked.{left_by, replied, request_octets, service_asked}
 use Rattle.unitdata.specs.Hearing.{Brings, Heard, says}
 use Rattle.carry_world.specs.PlainSteps.{PlainStep, StepsTo}

@@ -4,30 +4,30 @@ use Rattle.std.specs.Prelude.{◌≡◌, ◌⊎◌, ℕ, ◌+◌, List, [], ◌�
 use Rattle.apdu.specs.declared.unconfirmed.Limits.{Limits}
 use Rattle.carry.specs.Passing.{PassesOn}
 use Rattle.carry.specs.Things.{Thing}
-use Rattle.client.specs.Client.{ClientState}
-use Rattle.client.specs.Hearing.{ClientHears}
-use Rattle.client.specs.Issuing as issuing
-use Rattle.client.specs.Issuing.{refusal}
-use Rattle.client.specs.Saying.{parcels_of, who_is_parcel}
-use Rattle.client.specs.declared.plan.ClientIssued.{ClientIssued}
-use Rattle.client.specs.declared.plan.ClientTold as client
-use Rattle.client_tsm.specs.Waking as client_waking
-use Rattle.device.specs.Device.{DeviceState, restarts}
-use Rattle.device.specs.Hearing.{DeviceHears}
-use Rattle.device.specs.Saying.{told_of}
-use Rattle.device.specs.declared.plan.DeviceTold as device
+use Rattle.carry_said.specs.client.Client.{ClientState}
+use Rattle.carry_said.specs.client.Hearing.{ClientHears}
+use Rattle.carry_said.specs.client.Issuing as issuing
+use Rattle.carry_said.specs.client.Issuing.{refusal}
+use Rattle.carry_said.specs.client.Saying.{parcels_of, who_is_parcel}
+use Rattle.carry_said.specs.client.declared.plan.ClientIssued.{ClientIssued}
+use Rattle.carry_said.specs.client.declared.plan.ClientTold as client
+use Rattle.carry_said.specs.client_tsm.Waking as client_waking
+use Rattle.carry_said.specs.device.Device.{DeviceState, restarts}
+use Rattle.carry_said.specs.device.Hearing.{DeviceHears}
+use Rattle.carry_said.specs.device.Saying.{told_of}
+use Rattle.carry_said.specs.device.declared.plan.DeviceTold as device
 use Rattle.history.specs.Lists.{Has}
 use Rattle.history.specs.declared.Entry.TheVariants.{Issue, Restarted}
 use Rattle.npdu.specs.declared.parcel.Parcel.{Parcel}
-use Rattle.headline_site.specs.headline_bacnet.Refined.{ObjectSite}
+use Rattle.carry_said.specs.headline_site.headline_bacnet.Refined.{ObjectSite}
 use Rattle.primitives.specs.Sound.{IsSoundRequest}
 use Rattle.primitives.specs.declared.plain_data.Request.{Request}
-use Rattle.server_tsm.specs.Server.{committed}
-use Rattle.server_tsm.specs.Steps.{told_of_plan}
-use Rattle.server_tsm.specs.Waking as server_waking
-use Rattle.headline_site.specs.headline_client.Laws.{awake}
-use Rattle.headline_site.specs.headline_client.Safe as client_side
-use Rattle.headline_site.specs.headline_device.Devices as device_side
+use Rattle.carry_said.specs.server_tsm.Server.{committed}
+use Rattle.carry_said.specs.server_tsm.Steps.{told_of_plan}
+use Rattle.carry_said.specs.server_tsm.Waking as server_waking
+use Rattle.carry_said.specs.headline_site.headline_client.Laws.{awake}
+use Rattle.carry_said.specs.headline_site.headline_client.Safe as client_side
+use Rattle.carry_said.specs.headline_site.headline_device.Devices as device_side
 use Rattle.carry_world.specs.PlainWorld.{Delivers, PlainWorld, Puts, executed_told, outcomes_told}
 
 -- a device hears what is delivered to it (5.4.5, 16.10.2)

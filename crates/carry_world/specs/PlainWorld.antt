@@ -2,11 +2,11 @@
 use Rattle.std.specs.Prelude.{◌≡◌, ◌⊎◌, ℕ, suc, ◌+◌, ◌≤◌, ◌==◌, ◌&&◌, cond, List, [], ◌∷◌, ◌++◌, map, Option, Some, None}
 use Rattle.carry.specs.Passing.{PutsOut}
 use Rattle.carry.specs.Things.{Bears, Thing, net_of}
-use Rattle.client.specs.Client.{ClientState}
-use Rattle.client_tsm.specs.declared.plan.TransactionOutcome.{TransactionOutcome}
-use Rattle.device.specs.Device.{DeviceState}
-use Rattle.headline_site.specs.headline.Happenings as core
-use Rattle.headline_site.specs.headline.Happenings.{closing}
+use Rattle.carry_said.specs.client.Client.{ClientState}
+use Rattle.carry_said.specs.client_tsm.declared.plan.TransactionOutcome.{TransactionOutcome}
+use Rattle.carry_said.specs.device.Device.{DeviceState}
+use Rattle.carry_said.specs.headline_site.headline.Happenings as core
+use Rattle.carry_said.specs.headline_site.headline.Happenings.{closing}
 use Rattle.history.specs.Book.{Issued}
 use Rattle.history.specs.Lists.{Has, first_of}
 use Rattle.profile.specs.Times.{LIFE_MS}
@@ -19,8 +19,8 @@ use Rattle.npdu.specs.declared.mac.Station.{Station}
 use Rattle.npdu.specs.declared.parcel.Parcel.{Parcel}
 use Rattle.primitives.specs.declared.plain_data.Reply.{Reply}
 use Rattle.primitives.specs.declared.plain_data.Request.{Request}
-use Rattle.server_answers.specs.declared.plan.Executed as told
-use Rattle.headline_site.specs.headline_client.Told.{outcome_of}
+use Rattle.carry_said.specs.server_answers.declared.plan.Executed as told
+use Rattle.carry_said.specs.headline_site.headline_client.Told.{outcome_of}
 
 -- who issued, and under which invoke ID
 pub record Key : Type 0 where

@@ -28,3 +28,4 @@ pub use chronicle::{Chronicle, Growth, WorldEntry};
 pub use growing::{growth, outcomes_in, relay_growth};
 pub use key::Key;
 pub use saying::SaidMessage;
+pub use site_station::Entity;

@@ -12,10 +12,9 @@ ghost use Rattle.chronicle.specs.Kept.{all_keys};
 use crate::chronicle::WorldEntry;
 use crate::keeping::push_reserved;
 use crate::key::Key;
-use client_tsm::{Outcome, TransactionOutcome};
 use history::{End, Entry};
 use npdu::Station;
-use server_answers::Executed;
+use site_station::{Executed, Outcome, TransactionOutcome};
 use std::alloc::Allocator;
 use tags::Items;
 

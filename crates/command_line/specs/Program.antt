@@ -14,10 +14,10 @@ use Rattle.command_order.specs.declared.order.Order.{Order}
 use Rattle.command_order.specs.declared.order.Order.TheVariants.{Answer, Check, Explain, Pics, Run, Search, Sim, Storm}
 use Rattle.command_order.specs.declared.simulating.Simulation.{Simulation}
 use Rattle.site_check.specs.Judged.{AreJudged}
-use Rattle.site_live.specs.Runs.{RunsLive}
-use Rattle.site_run.specs.Simulate.{Simulates}
-use Rattle.site_run.specs.declared.running.Telling.{Telling}
-use Rattle.site_run.specs.declared.running.Telling.TheVariants.{Entries, All}
+use Rattle.site_capture.specs.site_live.Runs.{RunsLive}
+use Rattle.site_capture.specs.site_run.Simulate.{Simulates}
+use Rattle.site_capture.specs.site_run.declared.running.Telling.{Telling}
+use Rattle.site_capture.specs.site_run.declared.running.Telling.TheVariants.{Entries, All}
 use Rattle.command_order.specs.Order.{program, IsOrderOf}
 use Rattle.command_line.specs.Describing.{IsExplained}
 use Rattle.command_line.specs.Searching.{PrintsSearch}

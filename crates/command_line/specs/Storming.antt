@@ -2,8 +2,8 @@
 use Rattle.std.specs.Prelude.{◌≡◌, ◌⊎◌, ℕ, List, [], ◌∷◌, ◌++◌, Option, Some, None, Bool, true, false, option_map, string_bytes}
 use Rattle.std.specs.Global.{Global}
 use Rattle.command_order.specs.declared.storming.Storming.{Storming}
-use Rattle.site_storm.specs.Lines.{Known}
-use Rattle.site_storm.specs.Storming.{CountsStorm, Storms}
+use Rattle.site_search.specs.site_storm.Lines.{Known}
+use Rattle.site_search.specs.site_storm.Storming.{CountsStorm, Storms}
 use Rattle.words.specs.Says.{SaysUnsigned}
 
 -- a file was written, if one is named

@@ -4,7 +4,7 @@ ghost use Rattle.std.specs.Prelude.{◌≡◌, ◌≤◌, None, IsSome};
 ghost use Rattle.std.specs.Global.{Global};
 ghost use Rattle.command_line.specs.Program as spec;
 ghost use Rattle.command_line.specs.Words.{shown};
-ghost use Rattle.site_live.specs.Runs.{RunsLive};
+ghost use Rattle.site_capture.specs.site_live.Runs.{RunsLive};
 
 use crate::files::Files;
 use crate::json::ended;
@@ -12,8 +12,7 @@ use crate::program::{say_unread, texts_of};
 use command_order::LiveRun;
 use console::say_refused;
 use json_lines::{JsonOut, Kind};
-use site_capture::LiveCapture;
-use site_live::{Ending, Settings, run_over_udp, run_over_udp_observed};
+use site_capture::{Ending, LiveCapture, Settings, run_over_udp, run_over_udp_observed};
 use std::alloc::Global;
 use std::io::Write;
 use std::net::Net;

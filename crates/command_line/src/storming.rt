@@ -9,7 +9,7 @@ use crate::files::Files;
 use crate::program::{say_unread, texts_of};
 use command_order::{Percents, Storming};
 use console::say_refused;
-use site_storm::{Chances, Weather, storm, storm_counted};
+use site_search::{Chances, Weather, storm, storm_counted};
 use std::alloc::{AllocError, Global};
 use std::io;
 use std::io::Write;

@@ -1,9 +1,9 @@
 -- A parcel is heard in one way.
 use Rattle.std.proofs.Common.{◌≡◌, ◌∙◌, sym, ap, subst, inl, inr, ℕ, List}
 use Rattle.apdu.specs.Apdu.{PlainApdu, abort_pdu, complex_ack, confirmed, error_pdu, reject_pdu, segment_ack, simple_ack, unconfirmed}
-use Rattle.server_answers.specs.Plan.{ServerPlan}
-use Rattle.server_answers.specs.declared.asked.Origin.{Origin}
-use Rattle.server_answers.specs.declared.plan.ServerTold.{ServerTold}
+use Rattle.server_tsm.specs.server_answers.Plan.{ServerPlan}
+use Rattle.server_tsm.specs.server_answers.declared.asked.Origin.{Origin}
+use Rattle.server_tsm.specs.server_answers.declared.plan.ServerTold.{ServerTold}
 use Rattle.server_tsm.proofs.Planned.{one_plan}
 use Rattle.server_tsm.specs.Hearing as server
 use Rattle.server_tsm.specs.Server.{ServerTsmState, committed}

@@ -2,7 +2,7 @@
 use Rattle.std.proofs.Common.{◌≡◌, ◌++◌, ℕ, List}
 use Rattle.std.proofs.lemmas.Grind.{flat_map-append}
 use Rattle.npdu.specs.declared.mac.Mac.{Mac}
-use Rattle.server_answers.specs.declared.said.ServerSaid.{ServerSaid}
+use Rattle.server_tsm.specs.server_answers.declared.said.ServerSaid.{ServerSaid}
 use Rattle.device.specs.Saying.{parcel_of, parcels_of}
 
 pub said_behind : {A : Type 0} (now : ℕ) (mac : Mac) (xs ys : List (ServerSaid A)) →

@@ -6,8 +6,8 @@ use Rattle.npdu.specs.declared.mac.Mac.{Mac}
 use Rattle.npdu.specs.declared.mac.Target.{Target}
 use Rattle.npdu.specs.declared.parcel.Parcel.{Parcel}
 use Rattle.npdu.specs.declared.rejected.Rejected.{Rejected}
-use Rattle.server_answers.specs.Plan.{ServerPlan}
-use Rattle.server_answers.specs.declared.asked.Origin.{Origin}
+use Rattle.server_tsm.specs.server_answers.Plan.{ServerPlan}
+use Rattle.server_tsm.specs.server_answers.declared.asked.Origin.{Origin}
 use Rattle.server_tsm.specs.Hearing.{heard_of}
 use Rattle.server_tsm.specs.Server.{committed}
 use Rattle.server_tsm.specs.Steps.{IsPlan, told_of_plan}

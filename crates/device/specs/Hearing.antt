@@ -7,8 +7,8 @@ use Rattle.npdu.specs.declared.mac.Target.{Target}
 use Rattle.server_tsm.specs.Hearing.{heard_of}
 use Rattle.server_tsm.specs.Server.{ServerTsmState}
 use Rattle.server_tsm.specs.Steps.{IsStep}
-use Rattle.server_answers.specs.declared.asked.Origin.{Origin}
-use Rattle.server_answers.specs.declared.plan.ServerTold.{ServerTold}
+use Rattle.server_tsm.specs.server_answers.declared.asked.Origin.{Origin}
+use Rattle.server_tsm.specs.server_answers.declared.plan.ServerTold.{ServerTold}
 use Rattle.unitdata.specs.Asking.{AsksOther, AsksWho}
 use Rattle.unitdata.specs.Hearing.{Brings, BringsNothing, HeardContent, Heard, refuses, says}
 use Rattle.device.specs.Device.{DeviceState, i_am_of}

@@ -1,7 +1,7 @@
 -- What a device would do, before anything changes.
 use Rattle.std.specs.Prelude.{ℕ, Option, Some, None, IfSome}
-use Rattle.server_answers.specs.Plan.{ServerPlan}
-use Rattle.server_answers.specs.declared.plan.Executed.{Executed}
+use Rattle.server_tsm.specs.server_answers.Plan.{ServerPlan}
+use Rattle.server_tsm.specs.server_answers.declared.plan.Executed.{Executed}
 use Rattle.server_tsm.specs.Server.{committed}
 use Rattle.server_tsm.specs.Steps as server
 use Rattle.device.specs.Device.{DeviceState}

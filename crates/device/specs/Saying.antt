@@ -6,9 +6,9 @@ use Rattle.apdu.specs.declared.unconfirmed.IAm.{IAm}
 use Rattle.apdu.specs.declared.unconfirmed.UnconfirmedService.TheVariants as kind
 use Rattle.npdu.specs.declared.mac.Mac.{Mac}
 use Rattle.npdu.specs.declared.parcel.Parcel.{Parcel}
-use Rattle.server_answers.specs.Said.{spoken_of}
-use Rattle.server_answers.specs.declared.plan.ServerTold.{ServerTold}
-use Rattle.server_answers.specs.declared.said.ServerSaid.{ServerSaid}
+use Rattle.server_tsm.specs.server_answers.Said.{spoken_of}
+use Rattle.server_tsm.specs.server_answers.declared.plan.ServerTold.{ServerTold}
+use Rattle.server_tsm.specs.server_answers.declared.said.ServerSaid.{ServerSaid}
 use Rattle.unitdata.specs.Saying as spoken
 use Rattle.unitdata.specs.Saying.{announced}
 use Rattle.device.specs.declared.plan.DeviceTold.{DeviceTold}

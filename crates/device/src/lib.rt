@@ -22,3 +22,4 @@ mod saying;
 pub use device::Device;
 pub use laws::{heard_once, services_are_supported};
 pub use plan::{DevicePlan, DeviceTold};
+pub use server_tsm::Executed;

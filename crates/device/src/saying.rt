@@ -6,8 +6,7 @@ ghost use Rattle.device.specs.Saying as spec;
 
 use apdu::{IAm, UnconfirmedService, write_i_am};
 use npdu::{Mac, Parcel};
-use server_answers::WholeAnswer;
-use server_tsm::ServerPlan;
+use server_tsm::{ServerPlan, WholeAnswer};
 use std::alloc::Allocator;
 use tags::{Fault, Items};
 use unitdata::{announced, parcels_of, push_parcel};

@@ -25,9 +25,9 @@ use Rattle.npdu.specs.contracts.mac.StationOrd.TheImpl as impl
 use Rattle.npdu.specs.declared.mac.Mac.{Mac}
 use Rattle.npdu.specs.declared.mac.Mac.TheVariants.{One, Six}
 use Rattle.npdu.specs.declared.mac.Station.{Station}
-use Rattle.relays.specs.Finding.{place_from, place_of}
+use Rattle.hosts.specs.the_relays.Finding.{place_from, place_of}
 use Rattle.site_parts.specs.declared.parts.Station as site
-use Rattle.site_station.specs.Entity.{station_of}
+use Rattle.hosts.specs.site_station.Entity.{station_of}
 
 -- two tests that agree on all of a list find the same place
 alike : {X Y : Type 0} (f : X → Y) (t : Y → Bool) (u : X → Bool) (P : X → Type 0) → ((x : X) → P x → t (f x) ≡ u x) →

@@ -1,12 +1,12 @@
 -- A directory leads to where it led, since no station moves.
 use Rattle.std.proofs.Common.{◌≡◌, ◌∙◌, refl, sym, ap, ℕ, zero, suc, ◌+◌, Bool, List, [], ◌∷◌, Option, Some, None}
 use Rattle.std.specs.Prelude.{if◌then◌else◌, slice_get, slice_set}
-use Rattle.client.specs.Plan as client
-use Rattle.client.specs.Client.{ClientState}
-use Rattle.client.specs.declared.plan.ClientChange.{ClientChange}
-use Rattle.client.specs.declared.plan.ClientChange.TheVariants.{Stays, Refuses, Binds, Transacts}
-use Rattle.device.specs.Device.{DeviceState}
-use Rattle.device.specs.Plan as device
+use Rattle.hosts.specs.client.Plan as client
+use Rattle.hosts.specs.client.Client.{ClientState}
+use Rattle.hosts.specs.client.declared.plan.ClientChange.{ClientChange}
+use Rattle.hosts.specs.client.declared.plan.ClientChange.TheVariants.{Stays, Refuses, Binds, Transacts}
+use Rattle.hosts.specs.device.Device.{DeviceState}
+use Rattle.hosts.specs.device.Plan as device
 use Rattle.directory.proofs.DirectoryLaws.{port_there}
 use Rattle.directory.specs.Directory.{DirectoryState, LeadsToHosts}
 use Rattle.hosts.specs.Finding.{has_port_at}
@@ -14,13 +14,13 @@ use Rattle.hosts.specs.Hosts.{IsHost}
 use Rattle.hosts.specs.Stations.{WorldStation}
 use Rattle.npdu.specs.Mac.{station_cmp}
 use Rattle.npdu.specs.declared.mac.Station.{Station}
-use Rattle.relays.specs.Finding.{place_from}
-use Rattle.server_answers.specs.Plan.{ServerPlan}
-use Rattle.site_station.specs.Entity.{left_by, station_of}
-use Rattle.site_station.specs.declared.entity.Entity.{Entity}
-use Rattle.site_station.specs.declared.entity.Entity.TheVariants.{Client, Device}
-use Rattle.site_station.specs.declared.entity.EntityPlan.{EntityPlan}
-use Rattle.site_station.specs.declared.entity.EntityPlan.TheVariants as plan
+use Rattle.hosts.specs.the_relays.Finding.{place_from}
+use Rattle.hosts.specs.server_answers.Plan.{ServerPlan}
+use Rattle.hosts.specs.site_station.Entity.{left_by, station_of}
+use Rattle.hosts.specs.site_station.declared.entity.Entity.{Entity}
+use Rattle.hosts.specs.site_station.declared.entity.Entity.TheVariants.{Client, Device}
+use Rattle.hosts.specs.site_station.declared.entity.EntityPlan.{EntityPlan}
+use Rattle.hosts.specs.site_station.declared.entity.EntityPlan.TheVariants as plan
 use Rattle.std.specs.Ordering.{is_eq}
 
 device_stays : {A : Type 0} (now : ℕ) (p : Option (ServerPlan A)) (d : DeviceState A) →

@@ -8,7 +8,7 @@ use Rattle.hosts.specs.Finding.{has_port_at}
 use Rattle.hosts.specs.Stations.{WorldStation}
 use Rattle.npdu.specs.Mac.{station_cmp}
 use Rattle.npdu.specs.declared.mac.Station.{Station}
-use Rattle.relays.specs.Finding.{place_of}
+use Rattle.hosts.specs.the_relays.Finding.{place_of}
 use Rattle.site_parts.specs.declared.parts.Station as site
 
 -- the place that is kept of each address, and of each name

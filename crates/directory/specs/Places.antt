@@ -4,7 +4,7 @@ use Rattle.std.specs.BTreeMap.{BTreeMap, get_by}
 use Rattle.std.specs.Ordering.{is_eq}
 use Rattle.std.specs.declared.cmp.Ordering.{Ordering}
 use Rattle.std.specs.declared.cmp.Ordering.TheVariants.{Equal}
-use Rattle.relays.specs.Finding.{place_from}
+use Rattle.hosts.specs.the_relays.Finding.{place_from}
 
 -- what is asked for, if it is equal to a key, compares to each key as that key does
 abbrev pub IsQuery : {K : Type 0} → (cmp : K → K → Ordering) → (compare : K → Ordering) → Type 0

@@ -6,8 +6,8 @@ ghost use Rattle.directory.specs.Directory.{Leads, LeadsToHosts, part_in, place_
 ghost use Rattle.hosts.specs.Finding as spec;
 ghost use Rattle.hosts.specs.Finding.{IsHostAt, IsNoHostAt};
 ghost use Rattle.hosts.specs.Hosts.{IsHost};
-ghost use Rattle.relays.specs.Finding.{place_of};
-ghost use Rattle.site_station.specs.Entity.{station_of};
+ghost use Rattle.hosts.specs.the_relays.Finding.{place_of};
+ghost use Rattle.hosts.specs.site_station.Entity.{station_of};
 
 use crate::places::{FirstPlaces, first_places};
 use hosts::{WorldStation, station_at};

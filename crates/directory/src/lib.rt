@@ -12,3 +12,7 @@ mod directory;
 mod places;
 
 pub use directory::{Directory, HostFound};
+pub use hosts::{
+    Relay, RelayFound, RelayPlan, StationPlan, WorldRelay, WorldStation, buses_of, opening_of,
+    relay_at, relay_in, relays_of, station_at, stations_of,
+};

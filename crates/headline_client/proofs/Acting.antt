@@ -5,11 +5,11 @@ use Rattle.std.specs.Prelude.{slice_get}
 use Rattle.std.specs.List.{AllByRecursion}
 use Rattle.apdu.specs.declared.sizes.MaxApdu.{MaxApdu}
 use Rattle.bindings.specs.declared.binding.Binding.{Binding}
-use Rattle.client_tsm.specs.Client.{ClientTsmState, changed_at, changed_if, with_open}
-use Rattle.client_tsm.specs.Open.{Open}
-use Rattle.client_tsm.specs.declared.plan.Outcome.{Outcome}
-use Rattle.client_tsm.specs.declared.plan.TransactionOutcome.{TransactionOutcome}
-use Rattle.client_tsm.specs.declared.said.ClientSaid.{ClientSaid}
+use Rattle.client.specs.client_tsm.Client.{ClientTsmState, changed_at, changed_if, with_open}
+use Rattle.client.specs.client_tsm.Open.{Open}
+use Rattle.client.specs.client_tsm.declared.plan.Outcome.{Outcome}
+use Rattle.client.specs.client_tsm.declared.plan.TransactionOutcome.{TransactionOutcome}
+use Rattle.client.specs.client_tsm.declared.said.ClientSaid.{ClientSaid}
 use Rattle.headline.proofs.Steps.{all_stay, one_goes_on}
 use Rattle.headline.specs.Happenings as core
 use Rattle.headline.specs.Happenings.{Client_becomes, Closes, Gives, Fails, happens}

@@ -1,12 +1,12 @@
 -- What gathers the segments of an answer: which it takes, and what it has then.
 use Rattle.std.proofs.Common.{◌≡◌, refl, ap, ◌∙◌, ℕ, suc, nat_lt, ◌==◌, Bool, true, false, List, ◌++◌, Option, Some, None}
 use Rattle.std.proofs.lemmas.Bool.{eqb-true}
-use Rattle.client_tsm.specs.Client.{receiver_of}
-use Rattle.client_tsm.specs.declared.gathering.Gathering.{Gathering}
+use Rattle.client.specs.client_tsm.Client.{receiver_of}
+use Rattle.client.specs.client_tsm.declared.gathering.Gathering.{Gathering}
 use Rattle.segments.specs.Receiver.{ReceiverState, joining_after, joins, may_nak, step_of, step_on, step_out_of_order}
 use Rattle.segments.specs.declared.step.Step.{Step}
 use Rattle.segments.specs.declared.step.Step.TheVariants.{Taken, Nak}
-use Rattle.client_tsm.specs.Open.{got_of}
+use Rattle.client.specs.client_tsm.Open.{got_of}
 use Rattle.headline_client.specs.Safe.{pieces_of}
 
 not_taken : (is_begun may_nak : Bool) (j : ReceiverState) (ack : Option ℕ) → step_out_of_order is_begun may_nak j ≡ Taken ack → ⊥

@@ -2,7 +2,7 @@
 use Rattle.std.proofs.Common.{refl, false}
 use Rattle.apdu.specs.Apdu.{confirmed, segment_ack}
 use Rattle.apdu.specs.Sizes.{apdu_code}
-use Rattle.client_tsm.specs.declared.said.ClientSaid.TheVariants as said
+use Rattle.client.specs.client_tsm.declared.said.ClientSaid.TheVariants as said
 use Rattle.headline_bacnet.proofs.Reading.{read_again}
 use Rattle.headline_client.specs.Laws.{SaidIsHeard}
 

@@ -3,28 +3,28 @@ use Rattle.std.proofs.Common.{◌≡◌, refl, sym, ap, subst, ◌∙◌, inl, i
 use Rattle.std.proofs.Common.{arith}
 use Rattle.std.specs.Prelude.{◌&&◌, option_map, slice_get}
 use Rattle.std.proofs.lemmas.Bool.{and_parts, eqb-true, ltb-true}
-use Rattle.client_tsm.proofs.Telling.{found_at}
+use Rattle.client.proofs.client_tsm.Telling.{found_at}
 use Rattle.npdu.specs.Mac.{same_station}
 use Rattle.profile.specs.Ages.{is_in_time}
 use Rattle.profile.specs.Times.{DEADLINE_MS}
 use Rattle.apdu.specs.declared.apdu.Segment.{Segment}
 use Rattle.apdu.specs.declared.sizes.MaxApdu.{MaxApdu}
 use Rattle.bindings.specs.declared.binding.Binding.{Binding}
-use Rattle.client_tsm.specs.Asking.{asked_by}
-use Rattle.client_tsm.specs.Client.{ClientTsmState, committed, gathered_at, gathers, heard_at, receiver_of, renews, sends_on}
-use Rattle.client_tsm.specs.Hearing as tsm
-use Rattle.client_tsm.specs.Hearing.{Message, answers, answers_in_part, acknowledges, closes, nothing, Heard, Reached, plans, completes, Whole, ack_heard}
-use Rattle.client_tsm.specs.Hearing.{ack_if, ack_said, asked_told, finished, is_asked, gathered_by, of_service, place_of, quiet, reached}
-use Rattle.client_tsm.specs.Hearing.{renewed_if, taken_if, Taking, told_at, told_open, told_where, turned_by, whole_with, window_for}
+use Rattle.client.specs.client_tsm.Asking.{asked_by}
+use Rattle.client.specs.client_tsm.Client.{ClientTsmState, committed, gathered_at, gathers, heard_at, receiver_of, renews, sends_on}
+use Rattle.client.specs.client_tsm.Hearing as tsm
+use Rattle.client.specs.client_tsm.Hearing.{Message, answers, answers_in_part, acknowledges, closes, nothing, Heard, Reached, plans, completes, Whole, ack_heard}
+use Rattle.client.specs.client_tsm.Hearing.{ack_if, ack_said, asked_told, finished, is_asked, gathered_by, of_service, place_of, quiet, reached}
+use Rattle.client.specs.client_tsm.Hearing.{renewed_if, taken_if, Taking, told_at, told_open, told_where, turned_by, whole_with, window_for}
 use Rattle.bindings.specs.Limits.{request_chunk}
-use Rattle.client_tsm.specs.Open.{Open, goes_on, got_of, takes}
-use Rattle.client_tsm.specs.Steps.{IsFound, IsMeant, IsPlan}
-use Rattle.client_tsm.specs.declared.gathering.Gathering.{Gathering}
-use Rattle.client_tsm.specs.declared.plan.ClientTsmChange.TheVariants.{Renews}
-use Rattle.client_tsm.specs.declared.plan.Outcome.{Outcome}
-use Rattle.client_tsm.specs.declared.plan.Outcome.TheVariants.{Answered, Aborted, Rejected, TimedOut}
-use Rattle.client_tsm.specs.declared.plan.ClientTsmPlan.{ClientTsmPlan}
-use Rattle.client_tsm.specs.declared.said.ClientSaid.{ClientSaid}
+use Rattle.client.specs.client_tsm.Open.{Open, goes_on, got_of, takes}
+use Rattle.client.specs.client_tsm.Steps.{IsFound, IsMeant, IsPlan}
+use Rattle.client.specs.client_tsm.declared.gathering.Gathering.{Gathering}
+use Rattle.client.specs.client_tsm.declared.plan.ClientTsmChange.TheVariants.{Renews}
+use Rattle.client.specs.client_tsm.declared.plan.Outcome.{Outcome}
+use Rattle.client.specs.client_tsm.declared.plan.Outcome.TheVariants.{Answered, Aborted, Rejected, TimedOut}
+use Rattle.client.specs.client_tsm.declared.plan.ClientTsmPlan.{ClientTsmPlan}
+use Rattle.client.specs.client_tsm.declared.said.ClientSaid.{ClientSaid}
 use Rattle.headline.specs.Honest.{IsHeard}
 use Rattle.headline.specs.Stations.{Transaction}
 use Rattle.history.specs.Book.{Answer, Complex, Body, Tells, Tells_piece}
@@ -40,8 +40,8 @@ use Rattle.segments.specs.declared.step.Step.{Step}
 use Rattle.segments.specs.declared.step.Step.TheVariants.{Taken, Nak, Dropped, Full}
 use Rattle.segments.specs.declared.step.Turn.{Turn}
 use Rattle.segments.specs.declared.step.Turn.TheVariants as turn
-use Rattle.services.specs.Asked.{service_asked}
-use Rattle.services.specs.Contents.{PlainAnswer, complex}
+use Rattle.headline_bacnet.specs.services.Asked.{service_asked}
+use Rattle.headline_bacnet.specs.services.Contents.{PlainAnswer, complex}
 use Rattle.headline_client.specs.Kept.{CutsIn, IsKept}
 use Rattle.headline_bacnet.specs.Refined.{ObjectSite, ObjectCore}
 use Rattle.headline_client.specs.Safe.{pieces_of, safe_transaction}

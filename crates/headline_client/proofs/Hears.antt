@@ -12,15 +12,15 @@ use Rattle.client.specs.Hearing.{ClientHears, Does, Holds, Ignores, Introduces, 
 use Rattle.client.specs.Saying.{told_of}
 use Rattle.bindings.specs.declared.binding.Binding.{Binding}
 use Rattle.client.specs.declared.plan.ClientTold.{ClientTold}
-use Rattle.client_tsm.specs.Client.{ClientTsmState, committed}
-use Rattle.client_tsm.specs.Hearing.{heard_of, message_of}
+use Rattle.client.specs.client_tsm.Client.{ClientTsmState, committed}
+use Rattle.client.specs.client_tsm.Hearing.{heard_of, message_of}
 use Rattle.apdu.specs.Sizes.{apdu_code}
 use Rattle.bindings.specs.Accepts.{PlainAccepts}
-use Rattle.client_tsm.specs.declared.plan.ClientTsmChange.{ClientTsmChange}
-use Rattle.client_tsm.specs.declared.plan.ClientTsmChange.TheVariants.{Stays, Opens, Sends, Gathers, Renews, Ends, Wakes}
+use Rattle.client.specs.client_tsm.declared.plan.ClientTsmChange.{ClientTsmChange}
+use Rattle.client.specs.client_tsm.declared.plan.ClientTsmChange.TheVariants.{Stays, Opens, Sends, Gathers, Renews, Ends, Wakes}
 use Rattle.std.specs.Prelude.{◌<◌, unwrap_or}
-use Rattle.client_tsm.specs.Steps.{told_of_plan}
-use Rattle.client_tsm.specs.declared.plan.ClientTsmTold.{ClientTsmTold}
+use Rattle.client.specs.client_tsm.Steps.{told_of_plan}
+use Rattle.client.specs.client_tsm.declared.plan.ClientTsmTold.{ClientTsmTold}
 use Rattle.history.specs.Book.{Body, Simple, Complex, Failed}
 use Rattle.npdu.specs.declared.mac.Mac.{Mac}
 use Rattle.npdu.specs.declared.mac.Station.{Station}
@@ -33,7 +33,7 @@ use Rattle.headline_bacnet.specs.Network.{BringsWhatWasSaid, WasSaid}
 use Rattle.headline_client.specs.Laws.{ActsHonestly, IsClient}
 use Rattle.headline_bacnet.specs.Refined.{ObjectSite, Refined, ObjectCore}
 use Rattle.headline_client.specs.Safe.{safe_binding, safe_with, station_of}
-use Rattle.client_tsm.specs.declared.said.ClientSaid.{ClientSaid}
+use Rattle.client.specs.client_tsm.declared.said.ClientSaid.{ClientSaid}
 use Rattle.headline_client.specs.Heard.{said_in, said_on}
 use Rattle.headline_client.specs.Told.{acts}
 use Rattle.headline_client.proofs.Acting.{IsAt}

@@ -9,13 +9,13 @@ use Rattle.apdu.specs.declared.sizes.MaxApdu.{MaxApdu}
 use Rattle.bindings.specs.Binding.{binding_of, is_of}
 use Rattle.client.specs.Issuing.{refusal_by, refusal_if}
 use Rattle.bindings.specs.declared.binding.Binding.{Binding}
-use Rattle.client_tsm.specs.Client.{ClientTsmState, is_open, may_issue, opens}
-use Rattle.client_tsm.specs.Issuing as tsm
-use Rattle.client_tsm.specs.Issuing.{opened}
-use Rattle.client_tsm.specs.Asking.{asked_by}
+use Rattle.client.specs.client_tsm.Client.{ClientTsmState, is_open, may_issue, opens}
+use Rattle.client.specs.client_tsm.Issuing as tsm
+use Rattle.client.specs.client_tsm.Issuing.{opened}
+use Rattle.client.specs.client_tsm.Asking.{asked_by}
 use Rattle.bindings.specs.Limits.{apdu_limit, is_too_long, request_chunk}
-use Rattle.client_tsm.specs.Open.{Open}
-use Rattle.client_tsm.specs.declared.said.ClientSaid.{ClientSaid}
+use Rattle.client.specs.client_tsm.Open.{Open}
+use Rattle.client.specs.client_tsm.declared.said.ClientSaid.{ClientSaid}
 use Rattle.bindings.specs.declared.bound.Bound.{Bound}
 use Rattle.headline.proofs.Puts.{put_here}
 use Rattle.headline.specs.Happenings.{Issues, happens, issue_by}
@@ -33,7 +33,7 @@ use Rattle.primitives.specs.Sound.{IsSoundRequest}
 use Rattle.primitives.specs.declared.plain_data.Request.{Request}
 use Rattle.profile.specs.Limits.{MAX_SEGMENTS_ACCEPTED, MAX_SERVICE_DATA_OCTETS}
 use Rattle.segments.specs.Pieces.{piece_count}
-use Rattle.services.specs.Asked.{request_octets}
+use Rattle.headline_bacnet.specs.services.Asked.{request_octets}
 use Rattle.headline_client.specs.Kept.{IsKept}
 use Rattle.headline_bacnet.specs.Refined.{ObjectSite, Refined, ObjectCore}
 use Rattle.headline_client.specs.Safe.{room_from, safe_binding, safe_transaction, safe_with}

@@ -2,8 +2,8 @@
 use Rattle.std.proofs.Common.{true, false, refl, sym, subst, map}
 use Rattle.bindings.specs.Binding.{binding_of}
 use Rattle.client.specs.Client.{ClientState}
-use Rattle.client_tsm.specs.Client.{never_given}
-use Rattle.client_tsm.specs.Issuing.{issued}
+use Rattle.client.specs.client_tsm.Client.{never_given}
+use Rattle.client.specs.client_tsm.Issuing.{issued}
 use Rattle.headline.specs.Happenings.{Says_other}
 use Rattle.history.specs.Book.{Broadcast}
 use Rattle.history.specs.Lists.{Has}

@@ -8,7 +8,7 @@ use Rattle.apdu.specs.declared.unconfirmed.IAm.{IAm}
 use Rattle.bindings.specs.Binding.{introduced, is_of, marked, mark_refused, put_binding}
 use Rattle.client.specs.Hearing.{IsIAm}
 use Rattle.bindings.specs.declared.binding.Binding.{Binding}
-use Rattle.client_tsm.specs.Client.{ClientTsmState}
+use Rattle.client.specs.client_tsm.Client.{ClientTsmState}
 use Rattle.headline.proofs.Steps.{all_stay}
 use Rattle.headline.specs.Honest.{ClientGoesOn, IsAnnounced, IsHeard}
 use Rattle.headline.specs.Stations as safe

@@ -10,3 +10,5 @@ pub mod Learning
 pub mod Hears
 pub mod Laws
 pub mod Heard
+-- What the proofs above cite of those below.
+pub use Rattle.headline_bacnet.proofs as headline_bacnet

@@ -5,11 +5,11 @@ use Rattle.std.specs.List.{AllByRecursion}
 use Rattle.apdu.specs.Sizes.{apdu_code}
 use Rattle.apdu.specs.declared.apdu.Segment.{Segment}
 use Rattle.apdu.specs.declared.sizes.MaxApdu.{MaxApdu}
-use Rattle.client_tsm.specs.Asking.{asked_by, piece_said, request_said, segment_of}
+use Rattle.client.specs.client_tsm.Asking.{asked_by, piece_said, request_said, segment_of}
 use Rattle.bindings.specs.Limits.{request_chunk}
-use Rattle.client_tsm.specs.Open.{Open}
-use Rattle.client_tsm.specs.declared.said.ClientSaid.{ClientSaid}
-use Rattle.client_tsm.specs.declared.said.ClientSaid.TheVariants as said
+use Rattle.client.specs.client_tsm.Open.{Open}
+use Rattle.client.specs.client_tsm.declared.said.ClientSaid.{ClientSaid}
+use Rattle.client.specs.client_tsm.declared.said.ClientSaid.TheVariants as said
 use Rattle.headline.specs.Happenings.{Client_asks, Part, Whole, Piece, Says_other, asking}
 use Rattle.history.specs.Book.{Asks_piece, Body, Head, Message, Unicast}
 use Rattle.history.specs.Lists.{Has}
@@ -25,7 +25,7 @@ use Rattle.segments.proofs.PieceLaws.{window_is_pieces}
 use Rattle.segments.specs.Sender.{SenderState, window_of}
 use Rattle.segments.specs.Laws.{IsPiece}
 use Rattle.segments.specs.Pieces.{PlainPiece}
-use Rattle.services.specs.Asked.{request_octets, service_asked}
+use Rattle.headline_bacnet.specs.services.Asked.{request_octets, service_asked}
 use Rattle.headline_client.specs.Kept.{CutsIn, IsKept}
 use Rattle.headline_client.specs.Laws.{CanWrite}
 use Rattle.headline_bacnet.specs.Refined.{ObjectSite, ObjectCore}

@@ -5,13 +5,13 @@ use Rattle.std.proofs.lemmas.List.{append_assoc, map-append}
 use Rattle.std.specs.List.{AllByRecursion, flat_map}
 use Rattle.apdu.specs.declared.sizes.MaxApdu.{MaxApdu}
 use Rattle.bindings.specs.declared.binding.Binding.{Binding}
-use Rattle.client_tsm.specs.Client.{ClientTsmState, with_open}
+use Rattle.client.specs.client_tsm.Client.{ClientTsmState, with_open}
 use Rattle.bindings.specs.Limits.{request_chunk}
-use Rattle.client_tsm.specs.Open.{Open, goes_on}
-use Rattle.client_tsm.specs.Waking.{again, again_by, all_left, left_by, left_of, said_by, said_of, told_by, told_of, turn_of, turn_where, woken}
-use Rattle.client_tsm.specs.declared.plan.Outcome.TheVariants.{TimedOut}
-use Rattle.client_tsm.specs.declared.plan.TransactionOutcome.{TransactionOutcome}
-use Rattle.client_tsm.specs.declared.said.ClientSaid.{ClientSaid}
+use Rattle.client.specs.client_tsm.Open.{Open, goes_on}
+use Rattle.client.specs.client_tsm.Waking.{again, again_by, all_left, left_by, left_of, said_by, said_of, told_by, told_of, turn_of, turn_where, woken}
+use Rattle.client.specs.client_tsm.declared.plan.Outcome.TheVariants.{TimedOut}
+use Rattle.client.specs.client_tsm.declared.plan.TransactionOutcome.{TransactionOutcome}
+use Rattle.client.specs.client_tsm.declared.said.ClientSaid.{ClientSaid}
 use Rattle.headline.proofs.Puts.{put_here, put_put}
 use Rattle.headline.proofs.Steps.{all_stay}
 use Rattle.headline.specs.Happenings.{Client_becomes, Closes, Fails, happens, put}
@@ -33,7 +33,7 @@ use Rattle.primitives.specs.declared.plain_data.Request.{Request}
 use Rattle.segments.specs.Sender.{SenderState}
 use Rattle.segments.specs.declared.step.Turn.{Turn}
 use Rattle.segments.specs.declared.step.Turn.TheVariants.{Waits, Sends, Ends}
-use Rattle.services.specs.Asked.{request_octets}
+use Rattle.headline_bacnet.specs.services.Asked.{request_octets}
 use Rattle.headline_client.specs.Kept.{CutsIn, IsKept}
 use Rattle.headline_bacnet.specs.Refined.{ObjectSite, Refined, ObjectCore}
 use Rattle.headline_client.specs.Safe.{safe_transaction, safe_with}

@@ -5,7 +5,7 @@ use Rattle.apdu.specs.Apdu.{confirmed, unconfirmed, simple_ack, complex_ack, seg
 use Rattle.client.specs.Client.{ClientState}
 use Rattle.client.specs.Hearing.{ClientHears, Does}
 use Rattle.client.specs.declared.plan.ClientTold.{ClientTold}
-use Rattle.client_tsm.specs.declared.said.ClientSaid.{ClientSaid}
+use Rattle.client.specs.client_tsm.declared.said.ClientSaid.{ClientSaid}
 use Rattle.npdu.specs.declared.mac.Mac.{Mac}
 use Rattle.npdu.specs.declared.mac.Station.{Station}
 use Rattle.npdu.specs.declared.mac.Target.{Target}

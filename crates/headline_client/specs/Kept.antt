@@ -5,12 +5,12 @@ use Rattle.apdu.specs.Sizes.{apdu_code}
 use Rattle.client.specs.Client.{ClientState}
 use Rattle.bindings.specs.declared.binding.Binding.{Binding}
 use Rattle.bindings.specs.Limits.{request_chunk}
-use Rattle.client_tsm.specs.Open.{Open}
+use Rattle.client.specs.client_tsm.Open.{Open}
 use Rattle.headline_bacnet.specs.Bodies.{led_to}
 use Rattle.segments.specs.Sender.{SenderState}
 use Rattle.profile.specs.Limits.{MAX_SEGMENTS_ACCEPTED}
 use Rattle.segments.specs.Pieces.{piece_count}
-use Rattle.services.specs.Asked.{request_octets}
+use Rattle.headline_bacnet.specs.services.Asked.{request_octets}
 
 -- what goes on sending a request cuts it in pieces of so many octets (5.2.1)
 abbrev pub CutsIn : ℕ → Option SenderState → Type 0

@@ -11,14 +11,14 @@ use Rattle.client.specs.Issuing.{Issues, refusal}
 use Rattle.client.specs.Saying.{parcels_of}
 use Rattle.client.specs.declared.plan.ClientIssued.{ClientIssued}
 use Rattle.client.specs.declared.plan.ClientTold.{ClientTold}
-use Rattle.client_tsm.specs.Client.{committed}
-use Rattle.client_tsm.specs.Issuing.{issued}
-use Rattle.client_tsm.specs.Open.{Open}
-use Rattle.client_tsm.specs.Said.{said_apdu}
-use Rattle.client_tsm.specs.Waking.{woken}
-use Rattle.client_tsm.specs.declared.plan.TransactionOutcome.{TransactionOutcome}
+use Rattle.client.specs.client_tsm.Client.{committed}
+use Rattle.client.specs.client_tsm.Issuing.{issued}
+use Rattle.client.specs.client_tsm.Open.{Open}
+use Rattle.client.specs.client_tsm.Said.{said_apdu}
+use Rattle.client.specs.client_tsm.Waking.{woken}
+use Rattle.client.specs.client_tsm.declared.plan.TransactionOutcome.{TransactionOutcome}
 use Rattle.bindings.specs.declared.bound.Bound.{Bound}
-use Rattle.client_tsm.specs.declared.said.ClientSaid.{ClientSaid}
+use Rattle.client.specs.client_tsm.declared.said.ClientSaid.{ClientSaid}
 use Rattle.headline.specs.Honest.{MayClose}
 use Rattle.headline.specs.Stations as safe
 use Rattle.history.specs.Book.{Book, Broadcast, Other}

@@ -5,15 +5,15 @@ use Rattle.apdu.specs.declared.sizes.MaxApdu.{MaxApdu}
 use Rattle.client.specs.Client.{ClientState}
 use Rattle.bindings.specs.declared.binding.Binding.{Binding}
 use Rattle.bindings.specs.Accepts.{PlainAccepts}
-use Rattle.client_tsm.specs.Client.{ClientTsmState}
+use Rattle.client.specs.client_tsm.Client.{ClientTsmState}
 use Rattle.bindings.specs.Limits.{request_chunk}
-use Rattle.client_tsm.specs.Open.{Open, got_of}
-use Rattle.client_tsm.specs.declared.gathering.Gathering.{Gathering}
+use Rattle.client.specs.client_tsm.Open.{Open, got_of}
+use Rattle.client.specs.client_tsm.declared.gathering.Gathering.{Gathering}
 use Rattle.headline.specs.Stations as safe
 use Rattle.npdu.specs.declared.mac.Station.{Station}
 use Rattle.headline_bacnet.specs.Bodies.{limits_of}
 use Rattle.primitives.specs.declared.plain_data.Request.{Request}
-use Rattle.server_answers.specs.Limits.{answer_chunk}
+use Rattle.headline_bacnet.specs.server_answers.Limits.{answer_chunk}
 
 -- how many segments of an answer came, one after another from the first on
 abbrev pub pieces_of : {A : Type 0} → Option (Gathering A) → ℕ

@@ -2,14 +2,14 @@
 use Rattle.std.specs.Prelude.{ℕ, List, [], ◌∷◌, ◌++◌, length, map}
 use Rattle.apdu.specs.Numbers.{abort_number, reject_number}
 use Rattle.apdu.specs.declared.sizes.MaxApdu.{MaxApdu}
-use Rattle.client_tsm.specs.Client.{ClientTsmState}
+use Rattle.client.specs.client_tsm.Client.{ClientTsmState}
 use Rattle.bindings.specs.Limits.{apdu_limit, request_chunk}
-use Rattle.client_tsm.specs.Said.{said_apdu, said_way}
-use Rattle.client_tsm.specs.declared.plan.Outcome.{Outcome}
-use Rattle.client_tsm.specs.declared.plan.Outcome.TheVariants as outcome
-use Rattle.client_tsm.specs.declared.plan.TransactionOutcome.{TransactionOutcome}
+use Rattle.client.specs.client_tsm.Said.{said_apdu, said_way}
+use Rattle.client.specs.client_tsm.declared.plan.Outcome.{Outcome}
+use Rattle.client.specs.client_tsm.declared.plan.Outcome.TheVariants as outcome
+use Rattle.client.specs.client_tsm.declared.plan.TransactionOutcome.{TransactionOutcome}
 use Rattle.bindings.specs.declared.bound.Bound.{Bound}
-use Rattle.client_tsm.specs.declared.said.ClientSaid.{ClientSaid}
+use Rattle.client.specs.client_tsm.declared.said.ClientSaid.{ClientSaid}
 use Rattle.headline.specs.Happenings as core
 use Rattle.headline.specs.Happenings.{Core, Gives, Fails, closing, issue_of, put}
 use Rattle.headline.specs.Stations.{Client}

@@ -8,8 +8,8 @@ use Rattle.headline.specs.Protocol.{Site}
 use Rattle.npdu.specs.declared.mac.Mac.{Mac}
 use Rattle.npdu.specs.declared.mac.Station.{Station}
 use Rattle.npdu.specs.declared.mac.Target.{Target}
-use Rattle.headline_bacnet.specs.Bodies.{Says, led_to}
-use Rattle.headline_bacnet.proofs.Places.{led_back, put_other}
+use Rattle.headline_server.specs.headline_bacnet.Bodies.{Says, led_to}
+use Rattle.headline_server.proofs.headline_bacnet.Places.{led_back, put_other}
 use Rattle.object_model.specs.Objects.{PlainTable}
 use Rattle.headline_server.proofs.Executing.{step_keeps, step_refines}
 use Rattle.headline_server.proofs.Staying.{same_moment}
@@ -17,14 +17,14 @@ use Rattle.headline_server.proofs.Waking.{announce_refines, restart_keeps, resta
 use Rattle.headline_device.specs.Devices.{HearingIsDone, IsDevice, IsDone, OpensAtStart, OthersStand, RestartIsDone, WakingIsDone, announces, deed_on}
 use Rattle.headline_device.specs.Devices.{deed_on_asking, idles, serves, station_of}
 use Rattle.headline_server.specs.Laws.{IsHeardFrom, IsServed}
-use Rattle.headline_bacnet.specs.Network.{BringsWhatWasSaid, WasSaid}
-use Rattle.headline_bacnet.specs.Refined.{ObjectCore}
+use Rattle.headline_server.specs.headline_bacnet.Network.{BringsWhatWasSaid, WasSaid}
+use Rattle.headline_server.specs.headline_bacnet.Refined.{ObjectCore}
 use Rattle.headline_server.specs.Refines.{served}
 use Rattle.headline_server.specs.Safe.{safe_device}
-use Rattle.server_tsm.proofs.Kept.{kept_none}
-use Rattle.server_tsm.specs.Server.{ServerTsmState}
-use Rattle.server_tsm.specs.Waking.{woken}
-use Rattle.server_answers.specs.declared.plan.ServerTold.{ServerTold}
+use Rattle.headline_server.proofs.server_tsm.Kept.{kept_none}
+use Rattle.headline_server.specs.server_tsm.Server.{ServerTsmState}
+use Rattle.headline_server.specs.server_tsm.Waking.{woken}
+use Rattle.headline_server.specs.server_answers.declared.plan.ServerTold.{ServerTold}
 use Rattle.unitdata.specs.Hearing.{Brings, HeardContent, Heard, destination_if, refuses, way_to}
 use Rattle.unitdata.specs.Hearing as content
 

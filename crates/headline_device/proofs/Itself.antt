@@ -8,9 +8,9 @@ use Rattle.headline_device.specs.Devices.{IsItself, StaysItselfHearing, StaysIts
 use Rattle.headline_server.proofs.Waking.{size_stays}
 use Rattle.npdu.specs.declared.mac.Mac.{Mac}
 use Rattle.npdu.specs.declared.mac.Target.{Target}
-use Rattle.server_answers.specs.declared.asked.Origin.{Origin}
-use Rattle.server_tsm.specs.Server.{ServerTsmState}
-use Rattle.server_tsm.specs.Waking.{woken}
+use Rattle.headline_server.specs.server_answers.declared.asked.Origin.{Origin}
+use Rattle.headline_server.specs.server_tsm.Server.{ServerTsmState}
+use Rattle.headline_server.specs.server_tsm.Waking.{woken}
 use Rattle.unitdata.specs.Hearing.{HeardContent, refuses, says}
 
 abbrev same : {A : Type 0} (d : DeviceState A) → IsItself d d

@@ -11,19 +11,19 @@ use Rattle.history.specs.Book.{Broadcast, I_am}
 use Rattle.npdu.specs.declared.mac.Mac.{Mac}
 use Rattle.npdu.specs.declared.mac.Station.{Station}
 use Rattle.npdu.specs.declared.mac.Target.{Target}
-use Rattle.headline_bacnet.specs.Network.{BringsWhatWasSaid}
-use Rattle.headline_bacnet.specs.Protocol.{bacnet}
-use Rattle.headline_bacnet.specs.Refined.{ObjectSite, Refined, ObjectCore}
+use Rattle.headline_server.specs.headline_bacnet.Network.{BringsWhatWasSaid}
+use Rattle.headline_server.specs.headline_bacnet.Protocol.{bacnet}
+use Rattle.headline_server.specs.headline_bacnet.Refined.{ObjectSite, Refined, ObjectCore}
 use Rattle.object_model.specs.Objects.{PlainTable}
 use Rattle.object_model.specs.Site.{opening_table}
 use Rattle.object_model.specs.declared.site.SiteObjects.{SiteObjects}
 use Rattle.headline_server.specs.Laws.{IsServed}
 use Rattle.headline_server.specs.Refines.{begun_anew, served}
-use Rattle.server_tsm.specs.Server.{ServerTsmState, committed}
-use Rattle.server_tsm.specs.Steps.{told_of_plan}
-use Rattle.server_tsm.specs.Waking.{woken}
-use Rattle.server_answers.specs.declared.asked.Origin.{Origin}
-use Rattle.server_answers.specs.declared.plan.ServerTold.{ServerTold}
+use Rattle.headline_server.specs.server_tsm.Server.{ServerTsmState, committed}
+use Rattle.headline_server.specs.server_tsm.Steps.{told_of_plan}
+use Rattle.headline_server.specs.server_tsm.Waking.{woken}
+use Rattle.headline_server.specs.server_answers.declared.asked.Origin.{Origin}
+use Rattle.headline_server.specs.server_answers.declared.plan.ServerTold.{ServerTold}
 use Rattle.unitdata.specs.Hearing.{HeardContent, refuses, says}
 
 -- the station that a device is (6.1)

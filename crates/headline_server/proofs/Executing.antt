@@ -24,11 +24,11 @@ use Rattle.headline_bacnet.specs.Protocol.{bacnet}
 use Rattle.headline_bacnet.specs.Refined.{IsRefined, ObjectCore}
 use Rattle.object_model.specs.Objects.{PlainTable}
 use Rattle.primitives.specs.declared.plain_data.Request.{Request}
-use Rattle.remembered.specs.Records.{forgotten, is_full}
-use Rattle.remembered.specs.declared.record.Asker.{Asker}
-use Rattle.remembered.specs.declared.record.Record.{Record}
-use Rattle.services.specs.Asked.{replied}
-use Rattle.services.specs.Request.{SpellsRequest}
+use Rattle.server_tsm.specs.remembered.Records.{forgotten, is_full}
+use Rattle.server_tsm.specs.remembered.declared.record.Asker.{Asker}
+use Rattle.server_tsm.specs.remembered.declared.record.Record.{Record}
+use Rattle.headline_bacnet.specs.services.Asked.{replied}
+use Rattle.headline_bacnet.specs.services.Request.{SpellsRequest}
 use Rattle.headline_server.proofs.Going.{execution_refines, gathered_had, gives_up_on, quiet_refines}
 use Rattle.headline_server.proofs.Keeping.{Fits}
 use Rattle.history.proofs.HasLaws.{has_map, map_has}
@@ -42,19 +42,19 @@ use Rattle.headline_server.specs.Keeping.{IsSayable}
 use Rattle.headline_server.specs.Laws.{IsHeardFrom, IsServed, MayBeExecuted, StepKeeps, StepRefines, ToldMayBeExecuted, WholeWasAsked}
 use Rattle.headline_server.specs.Refines.{served}
 use Rattle.headline_server.specs.Safe.{safe_device, safe_record}
-use Rattle.server_answers.specs.Answering.{answer_of, answered_by, record_of}
+use Rattle.headline_bacnet.specs.server_answers.Answering.{answer_of, answered_by, record_of}
 use Rattle.server_tsm.specs.Hearing.{Message as Input, Reached, Whole, acknowledges, asker_of, asks, completes, executing, executing_if, finished, finished_by}
 use Rattle.server_tsm.specs.Hearing.{gives_up, heard_of, message_of, of_client, plans, reached}
-use Rattle.server_answers.specs.Limits.{answer_chunk}
-use Rattle.server_answers.specs.Plan.{ServerPlan, GivesUp, Executes}
+use Rattle.headline_bacnet.specs.server_answers.Limits.{answer_chunk}
+use Rattle.headline_bacnet.specs.server_answers.Plan.{ServerPlan, GivesUp, Executes}
 use Rattle.server_tsm.specs.Server.{ServerTsmState, committed, stamped}
 use Rattle.server_tsm.specs.Steps.{IsFound, IsPlan, IsStep, Means, on_heard, told_of_plan}
-use Rattle.server_answers.specs.declared.asked.AnswerLimits.{AnswerLimits}
-use Rattle.server_answers.specs.declared.asked.Origin.{Origin}
-use Rattle.server_answers.specs.declared.plan.ServerTold.{ServerTold}
-use Rattle.server_answers.specs.declared.plan.Executed.{Executed}
-use Rattle.server_answers.specs.declared.said.ServerSaid.{ServerSaid}
-use Rattle.server_answers.specs.declared.said.ServerSaid.TheVariants as said
+use Rattle.headline_bacnet.specs.server_answers.declared.asked.AnswerLimits.{AnswerLimits}
+use Rattle.headline_bacnet.specs.server_answers.declared.asked.Origin.{Origin}
+use Rattle.headline_bacnet.specs.server_answers.declared.plan.ServerTold.{ServerTold}
+use Rattle.headline_bacnet.specs.server_answers.declared.plan.Executed.{Executed}
+use Rattle.headline_bacnet.specs.server_answers.declared.said.ServerSaid.{ServerSaid}
+use Rattle.headline_bacnet.specs.server_answers.declared.said.ServerSaid.TheVariants as said
 
 asker_is : (a b : Asker) → a.station ≡ b.station → a.invoke_id ≡ b.invoke_id → a ≡ b
 asker_is a b e f = ap (λ (z : Station). record { station = z; invoke_id = a.invoke_id }) e ∙ ap (λ (n : ℕ). record { station = b.station; invoke_id = n }) f

@@ -22,25 +22,25 @@ use Rattle.headline_bacnet.specs.Refined.{IsRefined, ObjectCore}
 use Rattle.object_model.specs.Objects.{PlainTable}
 use Rattle.primitives.specs.declared.plain_data.Reply.{Reply}
 use Rattle.primitives.specs.declared.plain_data.Request.{Request}
-use Rattle.remembered.specs.Records.{forgotten}
-use Rattle.remembered.specs.declared.record.Asker.{Asker}
-use Rattle.remembered.specs.declared.record.Record.{Record}
-use Rattle.services.specs.Asked.{replied}
+use Rattle.server_tsm.specs.remembered.Records.{forgotten}
+use Rattle.server_tsm.specs.remembered.declared.record.Asker.{Asker}
+use Rattle.server_tsm.specs.remembered.declared.record.Record.{Record}
+use Rattle.headline_bacnet.specs.services.Asked.{replied}
 use Rattle.headline_server.proofs.Keeping.{Fits}
 use Rattle.history.proofs.HasLaws.{has_map, map_has}
 use Rattle.headline_server.proofs.Records.{forgotten_has, kept_has, safe_all_said, safe_said, so_lives}
 use Rattle.headline_server.proofs.Saying.{IsHonestlySaid, all_said}
 use Rattle.headline_server.specs.Refines.{message_of, served, told_by}
 use Rattle.headline_server.specs.Safe.{safe_gathering, safe_device, safe_record}
-use Rattle.server_answers.specs.Plan.{ServerPlan, Stays, Says, Gathers, GivesUp, Executes as Runs, Wakes}
-use Rattle.server_answers.specs.Gathering.{gathered_with, gathering_of, is_kept, receiver_of}
-use Rattle.server_answers.specs.declared.asked.Asked.{Asked}
+use Rattle.headline_bacnet.specs.server_answers.Plan.{ServerPlan, Stays, Says, Gathers, GivesUp, Executes as Runs, Wakes}
+use Rattle.headline_bacnet.specs.server_answers.Gathering.{gathered_with, gathering_of, is_kept, receiver_of}
+use Rattle.headline_bacnet.specs.server_answers.declared.asked.Asked.{Asked}
 use Rattle.server_tsm.specs.Server.{ServerTsmState, committed, still_gathered}
 use Rattle.server_tsm.specs.Steps.{told_of_plan}
-use Rattle.server_answers.specs.declared.gathering.RequestGathering.{RequestGathering}
-use Rattle.server_answers.specs.declared.plan.Executed as told
-use Rattle.server_answers.specs.declared.plan.Saying.{Saying}
-use Rattle.server_answers.specs.declared.said.ServerSaid.{ServerSaid}
+use Rattle.headline_bacnet.specs.server_answers.declared.gathering.RequestGathering.{RequestGathering}
+use Rattle.headline_bacnet.specs.server_answers.declared.plan.Executed as told
+use Rattle.headline_bacnet.specs.server_answers.declared.plan.Saying.{Saying}
+use Rattle.headline_bacnet.specs.server_answers.declared.said.ServerSaid.{ServerSaid}
 
 -- what is still gathered was
 pub gathered_had : {A : Type 0} (own : MaxApdu) (now : ℕ) (except : Option Asker) (xs : List (RequestGathering A)) (a : seen.Gathering Station) →

@@ -6,12 +6,12 @@ use Rattle.apdu.specs.declared.sizes.MaxApdu.{MaxApdu}
 use Rattle.history.specs.Book.{Failed, Tells}
 use Rattle.headline_bacnet.proofs.Reading.{read_again}
 use Rattle.headline_bacnet.specs.Bodies.{Says}
-use Rattle.remembered.specs.declared.record.RememberedAnswer.{RememberedAnswer}
-use Rattle.remembered.specs.declared.record.RememberedAnswer.TheVariants as kept
+use Rattle.server_tsm.specs.remembered.declared.record.RememberedAnswer.{RememberedAnswer}
+use Rattle.server_tsm.specs.remembered.declared.record.RememberedAnswer.TheVariants as kept
 use Rattle.headline_server.specs.Laws.{SaidIsHeard}
 use Rattle.headline_server.specs.Refines.{whole_body}
-use Rattle.server_answers.specs.Said.{answer_octets, said_octets}
-use Rattle.server_answers.specs.declared.said.ServerSaid.TheVariants as said
+use Rattle.headline_bacnet.specs.server_answers.Said.{answer_octets, said_octets}
+use Rattle.headline_bacnet.specs.server_answers.declared.said.ServerSaid.TheVariants as said
 
 first_is : (invoke service : ℕ) (contents : List ℕ) (a : PlainApdu) (s : Spells (80 ∷ (invoke ∷ (service ∷ contents))) a) → s.first ≡ 80
 first_is invoke service contents a s = let front = s.front in cc

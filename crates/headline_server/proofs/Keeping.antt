@@ -5,10 +5,10 @@ use Rattle.std.specs.List.{AllByRecursion}
 use Rattle.history.specs.Lists.{Has}
 use Rattle.history.proofs.Lists.{has, has_cons, has_next}
 use Rattle.npdu.specs.declared.mac.Way.{Way}
-use Rattle.remembered.proofs.Keeping.{one_asker}
-use Rattle.remembered.specs.Records.{AreDistinct, askers, forgotten, is_of, newest, said_again, said_by, said_on}
-use Rattle.remembered.specs.declared.record.Asker.{Asker}
-use Rattle.remembered.specs.declared.record.Record.{Record}
+use Rattle.server_tsm.proofs.remembered.Keeping.{one_asker}
+use Rattle.server_tsm.specs.remembered.Records.{AreDistinct, askers, forgotten, is_of, newest, said_again, said_by, said_on}
+use Rattle.server_tsm.specs.remembered.declared.record.Asker.{Asker}
+use Rattle.server_tsm.specs.remembered.declared.record.Record.{Record}
 use Rattle.segments.specs.Sender.{SenderState}
 use Rattle.history.proofs.HasLaws.{all_has, has_all, has_map}
 use Rattle.headline_server.proofs.Listed.{all_so}
@@ -18,8 +18,8 @@ use Rattle.server_tsm.proofs.Kept.{planned_kept}
 use Rattle.server_tsm.specs.Server.{ServerTsmState, committed, stamped}
 use Rattle.server_tsm.specs.Steps.{IsPlanned}
 use Rattle.server_tsm.specs.Waking.{after_sayings, after_saying}
-use Rattle.server_answers.specs.Plan.{ServerChange, ServerPlan, Stays, Says, Gathers, GivesUp, Executes, Wakes}
-use Rattle.server_answers.specs.declared.plan.Saying.{Saying}
+use Rattle.headline_bacnet.specs.server_answers.Plan.{ServerChange, ServerPlan, Stays, Says, Gathers, GivesUp, Executes, Wakes}
+use Rattle.headline_bacnet.specs.server_answers.declared.plan.Saying.{Saying}
 
 module _ {A : Type 0} where
   -- one record for each asker

@@ -7,16 +7,16 @@ use Rattle.history.specs.Lists.{Has}
 use Rattle.profile.specs.Times.{KEEP_MS}
 use Rattle.history.proofs.Lists.{has, has_next, has_filter}
 use Rattle.npdu.specs.declared.mac.Way.{Way}
-use Rattle.remembered.proofs.Keeping.{one_asker}
-use Rattle.remembered.proofs.Living.{newest_lives}
-use Rattle.remembered.proofs.Ordering.{itself}
-use Rattle.remembered.specs.Records.{AreAscending, asker_cmp, forgotten, is_of, later_or, lives, living, newest, remembered, said_again, said_by, some_if}
-use Rattle.remembered.specs.declared.record.Asker.{Asker}
-use Rattle.remembered.specs.declared.record.Record.{Record}
+use Rattle.server_tsm.proofs.remembered.Keeping.{one_asker}
+use Rattle.server_tsm.proofs.remembered.Living.{newest_lives}
+use Rattle.server_tsm.proofs.remembered.Ordering.{itself}
+use Rattle.server_tsm.specs.remembered.Records.{AreAscending, asker_cmp, forgotten, is_of, later_or, lives, living, newest, remembered, said_again, said_by, some_if}
+use Rattle.server_tsm.specs.remembered.declared.record.Asker.{Asker}
+use Rattle.server_tsm.specs.remembered.declared.record.Record.{Record}
 use Rattle.segments.specs.Sender.{SenderState}
 use Rattle.headline_server.specs.Safe.{safe_record}
 use Rattle.server_tsm.specs.Waking.{after_sayings, after_saying}
-use Rattle.server_answers.specs.declared.plan.Saying.{Saying}
+use Rattle.headline_bacnet.specs.server_answers.declared.plan.Saying.{Saying}
 
 -- a record lives for the server as it does for the promise
 pub lives_so : {A : Type 0} (now : ℕ) (r : Record A) → lives now r ≡ true → now ≤ r.at + KEEP_MS

@@ -19,9 +19,9 @@ use Rattle.headline_bacnet.specs.Protocol.{bacnet}
 use Rattle.object_model.specs.Objects.{PlainTable}
 use Rattle.primitives.specs.declared.plain_data.Reply.{Reply}
 use Rattle.primitives.specs.declared.plain_data.Request.{Request}
-use Rattle.remembered.specs.declared.record.Record.{Record}
-use Rattle.remembered.specs.declared.record.RememberedAnswer.{RememberedAnswer}
-use Rattle.remembered.specs.declared.record.RememberedAnswer.TheVariants as kept
+use Rattle.server_tsm.specs.remembered.declared.record.Record.{Record}
+use Rattle.server_tsm.specs.remembered.declared.record.RememberedAnswer.{RememberedAnswer}
+use Rattle.server_tsm.specs.remembered.declared.record.RememberedAnswer.TheVariants as kept
 use Rattle.segments.proofs.PieceLaws.{window_is_pieces}
 use Rattle.segments.specs.Sender.{SenderState, window_of}
 use Rattle.segments.specs.Laws.{IsPiece}
@@ -31,10 +31,10 @@ use Rattle.headline_server.specs.Keeping.{AreNumbered, IsSentIn}
 use Rattle.headline_bacnet.specs.Refined.{ObjectCore}
 use Rattle.headline_server.specs.Refines.{message_of, said_body}
 use Rattle.headline_server.specs.Safe.{safe_answer, safe_record}
-use Rattle.server_answers.specs.Answering.{answered_by, data_of, answer_segment}
-use Rattle.server_answers.specs.Said.{said_way}
-use Rattle.server_answers.specs.declared.said.ServerSaid.{ServerSaid}
-use Rattle.server_answers.specs.declared.said.ServerSaid.TheVariants as said
+use Rattle.headline_bacnet.specs.server_answers.Answering.{answered_by, data_of, answer_segment}
+use Rattle.headline_bacnet.specs.server_answers.Said.{said_way}
+use Rattle.headline_bacnet.specs.server_answers.declared.said.ServerSaid.{ServerSaid}
+use Rattle.headline_bacnet.specs.server_answers.declared.said.ServerSaid.TheVariants as said
 
 -- what a segment with a piece says
 piece_body : (id chunk : ℕ) (octets : List ℕ) (p : PlainPiece) (part : IsPart chunk octets p) →

@@ -13,17 +13,17 @@ use Rattle.headline_bacnet.specs.Bodies.{answer_in}
 use Rattle.primitives.specs.declared.plain_data.Reply.{Reply}
 use Rattle.primitives.specs.declared.plain_data.Reply.TheVariants.{Values, Many, Done, Error, ErrorAt}
 use Rattle.primitives.specs.declared.plain_data.Request.{Request}
-use Rattle.remembered.specs.declared.record.RememberedAnswer.{RememberedAnswer}
-use Rattle.remembered.specs.declared.record.RememberedAnswer.TheVariants as kept
+use Rattle.server_tsm.specs.remembered.declared.record.RememberedAnswer.{RememberedAnswer}
+use Rattle.server_tsm.specs.remembered.declared.record.RememberedAnswer.TheVariants as kept
 use Rattle.segments.specs.Sender.{SenderState, nothing_sent, wakes}
 use Rattle.profile.specs.Limits.{MAX_SERVICE_DATA_OCTETS}
 use Rattle.segments.specs.Pieces.{piece_count}
 use Rattle.headline_server.specs.Keeping.{AreNumbered, CanBeCut, IsSentIn}
 use Rattle.headline_server.specs.Safe.{safe_answer}
-use Rattle.server_answers.specs.Answering.{answer_apdu, answer_of}
-use Rattle.server_answers.specs.Limits.{answer_chunk, begins_if, begun, fitted, fitted_if, goes_whole, is_too_long}
+use Rattle.headline_bacnet.specs.server_answers.Answering.{answer_apdu, answer_of}
+use Rattle.headline_bacnet.specs.server_answers.Limits.{answer_chunk, begins_if, begun, fitted, fitted_if, goes_whole, is_too_long}
 use Rattle.server_tsm.specs.Waking.{again}
-use Rattle.server_answers.specs.declared.asked.AnswerLimits.{AnswerLimits}
+use Rattle.headline_bacnet.specs.server_answers.declared.asked.AnswerLimits.{AnswerLimits}
 
 -- how many segments a client takes, and how many octets an APDU has
 few_taken : (m : MaxSegments) → segments_taken m ≤ 64

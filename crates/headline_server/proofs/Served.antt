@@ -19,10 +19,10 @@ use Rattle.npdu.specs.declared.mac.Station.{Station}
 use Rattle.npdu.specs.declared.mac.Way.{Way}
 use Rattle.headline_bacnet.specs.Bodies.{head_of, led_to}
 use Rattle.object_model.specs.Objects.{PlainTable}
-use Rattle.remembered.proofs.Keeping.{one_asker}
-use Rattle.remembered.specs.Records.{remembered, said_on, some_if}
-use Rattle.remembered.specs.declared.record.Asker.{Asker}
-use Rattle.remembered.specs.declared.record.Record.{Record}
+use Rattle.server_tsm.proofs.remembered.Keeping.{one_asker}
+use Rattle.server_tsm.specs.remembered.Records.{remembered, said_on, some_if}
+use Rattle.server_tsm.specs.remembered.declared.record.Asker.{Asker}
+use Rattle.server_tsm.specs.remembered.declared.record.Record.{Record}
 use Rattle.segments.specs.Sender.{SenderState, hears}
 use Rattle.segments.specs.Receiver.{ReceiverState, granted_window, joining_after, joins, nothing_joined}
 use Rattle.segments.specs.declared.step.Step.{Step}
@@ -42,22 +42,22 @@ use Rattle.headline_server.specs.Keeping.{IsSayable, IsSentIn}
 use Rattle.headline_server.specs.Laws.{IsServed}
 use Rattle.headline_bacnet.specs.Refined.{ObjectCore}
 use Rattle.headline_server.specs.Safe.{safe_gathering, safe_device, safe_record}
-use Rattle.server_answers.specs.Plan.{quiet, Stays, Says, GivesUp}
+use Rattle.headline_bacnet.specs.server_answers.Plan.{quiet, Stays, Says, GivesUp}
 use Rattle.server_tsm.specs.Hearing.{Message as Input, Reached, Whole, ack_heard, ack_if, request_ack, ack_taken, acknowledges, asked_by, asked_on, asks}
 use Rattle.server_tsm.specs.Hearing.{begins_if, completed, completed_if, completes, gathered, given_up, gives_up, is_crowded, is_deaf, is_sending}
 use Rattle.server_tsm.specs.Hearing.{joined, joined_by, nothing, of_service, part_heard, part_joined, plans, reached_by, repeated_if, request_heard}
 use Rattle.server_tsm.specs.Hearing.{answer_plan, taken_if, turned_by, unless, whole_heard}
-use Rattle.server_answers.specs.Limits.{begun}
-use Rattle.server_answers.specs.Gathering.{gathered_with, gathering_of, gathers_still, is_for, receiver_of, still}
+use Rattle.headline_bacnet.specs.server_answers.Limits.{begun}
+use Rattle.headline_bacnet.specs.server_answers.Gathering.{gathered_with, gathering_of, gathers_still, is_for, receiver_of, still}
 use Rattle.server_tsm.specs.Server.{ServerTsmState, committed}
 use Rattle.server_tsm.specs.Waking.{saying_by}
-use Rattle.server_answers.specs.declared.asked.AnswerLimits.{AnswerLimits}
-use Rattle.server_answers.specs.declared.asked.Asked.{Asked}
-use Rattle.server_answers.specs.declared.asked.Origin.{Origin}
-use Rattle.server_answers.specs.declared.gathering.RequestGathering.{RequestGathering}
-use Rattle.server_answers.specs.declared.plan.Saying.{Saying}
-use Rattle.server_answers.specs.declared.said.ServerSaid.{ServerSaid}
-use Rattle.server_answers.specs.declared.said.ServerSaid.TheVariants as said
+use Rattle.headline_bacnet.specs.server_answers.declared.asked.AnswerLimits.{AnswerLimits}
+use Rattle.headline_bacnet.specs.server_answers.declared.asked.Asked.{Asked}
+use Rattle.headline_bacnet.specs.server_answers.declared.asked.Origin.{Origin}
+use Rattle.headline_bacnet.specs.server_answers.declared.gathering.RequestGathering.{RequestGathering}
+use Rattle.headline_bacnet.specs.server_answers.declared.plan.Saying.{Saying}
+use Rattle.headline_bacnet.specs.server_answers.declared.said.ServerSaid.{ServerSaid}
+use Rattle.headline_bacnet.specs.server_answers.declared.said.ServerSaid.TheVariants as said
 
 -- the first that passes a test stands there and passes it
 find_by : {X : Type 0} (p : X → Bool) (y : X) (ys : List X) (x : X) → (find p ys ≡ Some x → Has ys x × (p x ≡ true)) → (b : Bool) → p y ≡ b →

@@ -17,10 +17,10 @@ use Rattle.headline_server.specs.Refines.{served, with_told}
 use Rattle.headline_server.specs.Safe.{safe_device}
 use Rattle.server_tsm.specs.Server.{ServerTsmState, committed}
 use Rattle.server_tsm.specs.Steps.{IsPlanned}
-use Rattle.server_answers.specs.Plan.{ServerChange, ServerPlan, Stays, Says, Gathers, GivesUp, Executes, Wakes}
-use Rattle.server_answers.specs.declared.plan.ServerTold.{ServerTold}
-use Rattle.server_answers.specs.declared.plan.Executed as told
-use Rattle.server_answers.specs.declared.said.ServerSaid.{ServerSaid}
+use Rattle.headline_bacnet.specs.server_answers.Plan.{ServerChange, ServerPlan, Stays, Says, Gathers, GivesUp, Executes, Wakes}
+use Rattle.headline_bacnet.specs.server_answers.declared.plan.ServerTold.{ServerTold}
+use Rattle.headline_bacnet.specs.server_answers.declared.plan.Executed as told
+use Rattle.headline_bacnet.specs.server_answers.declared.said.ServerSaid.{ServerSaid}
 
 -- a site where no station is a device
 abbrev pub no_site : {A : Type 0} → ServerTsmState A → Site Station (PlainTable A)

@@ -10,8 +10,8 @@ use Rattle.history.specs.Lists.{Has}
 use Rattle.npdu.specs.declared.mac.Station.{Station}
 use Rattle.headline_bacnet.specs.Laws.{object_laws}
 use Rattle.object_model.specs.Objects.{PlainTable}
-use Rattle.remembered.specs.Records.{forgotten, lives, said_on}
-use Rattle.remembered.specs.declared.record.Record.{Record}
+use Rattle.server_tsm.specs.remembered.Records.{forgotten, lives, said_on}
+use Rattle.server_tsm.specs.remembered.declared.record.Record.{Record}
 use Rattle.segments.specs.Sender.{SenderState}
 use Rattle.segments.specs.declared.step.Turn.{Turn}
 use Rattle.segments.specs.declared.step.Turn.TheVariants.{Waits, Sends, Ends}
@@ -31,7 +31,7 @@ use Rattle.server_tsm.proofs.Kept.{kept_none}
 use Rattle.server_tsm.specs.Server.{ServerTsmState, committed, restarted}
 use Rattle.server_tsm.specs.Steps.{on_wake, told_of_plan}
 use Rattle.server_tsm.specs.Waking.{again, said_at_turn, said_on_wake, saying_at_turn, saying_by, saying_on_wake, turn_by, turn_of, turn_where, woken}
-use Rattle.server_answers.specs.Plan.{Stays, Says, Gathers, GivesUp, Executes, Wakes}
+use Rattle.headline_bacnet.specs.server_answers.Plan.{Stays, Says, Gathers, GivesUp, Executes, Wakes}
 
 module _ {A : Type 0} (s : Site Station (PlainTable A)) (w : ObjectCore A) (d : Station) (st : ServerTsmState A) (v : IsServed w d st) where
   abbrev woken_left : ServerTsmState A

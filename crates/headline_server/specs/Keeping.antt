@@ -2,12 +2,12 @@
 use Rattle.std.specs.Prelude.{◌≡◌, ◌≤◌, ℕ, false, List, length, Option, Some, None}
 use Rattle.std.specs.List.{AllByRecursion}
 use Rattle.headline_bacnet.specs.Bodies.{led_to}
-use Rattle.remembered.specs.declared.record.Record.{Record}
-use Rattle.remembered.specs.declared.record.RememberedAnswer.{RememberedAnswer}
-use Rattle.remembered.specs.declared.record.RememberedAnswer.TheVariants as kept
+use Rattle.server_tsm.specs.remembered.declared.record.Record.{Record}
+use Rattle.server_tsm.specs.remembered.declared.record.RememberedAnswer.{RememberedAnswer}
+use Rattle.server_tsm.specs.remembered.declared.record.RememberedAnswer.TheVariants as kept
 use Rattle.segments.specs.Sender.{SenderState}
 use Rattle.segments.specs.Pieces.{piece_count}
-use Rattle.server_answers.specs.Limits.{goes_whole}
+use Rattle.headline_bacnet.specs.server_answers.Limits.{goes_whole}
 use Rattle.server_tsm.specs.Server.{AreKept, ServerTsmState}
 
 -- so much service data has 256 pieces of this size at most: each has a sequence number of its own (20.1.5)

@@ -17,15 +17,15 @@ use Rattle.headline_server.specs.Keeping.{IsWellKept}
 use Rattle.headline_server.specs.Refines.{begun_anew, said_body, served}
 use Rattle.headline_server.specs.Safe.{safe_device}
 use Rattle.server_tsm.specs.Hearing.{Whole, completes, heard_of, reached}
-use Rattle.server_answers.specs.Plan.{ServerChange, ServerPlan}
-use Rattle.server_answers.specs.Said.{said_octets}
+use Rattle.headline_bacnet.specs.server_answers.Plan.{ServerChange, ServerPlan}
+use Rattle.headline_bacnet.specs.server_answers.Said.{said_octets}
 use Rattle.server_tsm.specs.Server.{ServerTsmState, committed, new_server, restarted}
 use Rattle.server_tsm.specs.Steps.{IsPlan, IsStep, told_of_plan}
 use Rattle.server_tsm.specs.Waking.{woken}
-use Rattle.server_answers.specs.declared.asked.Origin.{Origin}
-use Rattle.server_answers.specs.declared.plan.ServerTold.{ServerTold}
-use Rattle.server_answers.specs.declared.plan.Executed.{Executed}
-use Rattle.server_answers.specs.declared.said.ServerSaid.{ServerSaid}
+use Rattle.headline_bacnet.specs.server_answers.declared.asked.Origin.{Origin}
+use Rattle.headline_bacnet.specs.server_answers.declared.plan.ServerTold.{ServerTold}
+use Rattle.headline_bacnet.specs.server_answers.declared.plan.Executed.{Executed}
+use Rattle.headline_bacnet.specs.server_answers.declared.said.ServerSaid.{ServerSaid}
 
 -- the device at this station is what safety sees of this server, which keeps its answers well
 pub record IsServed {A : Type 0} (w : ObjectCore A) (d : Station) (st : ServerTsmState A) : Type 0 where

@@ -11,15 +11,15 @@ use Rattle.headline_bacnet.specs.Protocol.{bacnet}
 use Rattle.headline_bacnet.specs.Refined.{ObjectCore}
 use Rattle.primitives.specs.declared.plain_data.Reply.{Reply}
 use Rattle.primitives.specs.declared.plain_data.Request.{Request}
-use Rattle.remembered.specs.declared.record.RememberedAnswer.{RememberedAnswer}
-use Rattle.remembered.specs.declared.record.RememberedAnswer.TheVariants as kept
+use Rattle.server_tsm.specs.remembered.declared.record.RememberedAnswer.{RememberedAnswer}
+use Rattle.server_tsm.specs.remembered.declared.record.RememberedAnswer.TheVariants as kept
 use Rattle.headline_server.specs.Safe.{safe_device}
-use Rattle.server_answers.specs.Said.{said_way}
+use Rattle.headline_bacnet.specs.server_answers.Said.{said_way}
 use Rattle.server_tsm.specs.Server.{ServerTsmState}
-use Rattle.server_answers.specs.declared.plan.ServerTold.{ServerTold}
-use Rattle.server_answers.specs.declared.plan.Executed as told
-use Rattle.server_answers.specs.declared.said.ServerSaid.{ServerSaid}
-use Rattle.server_answers.specs.declared.said.ServerSaid.TheVariants as said
+use Rattle.headline_bacnet.specs.server_answers.declared.plan.ServerTold.{ServerTold}
+use Rattle.headline_bacnet.specs.server_answers.declared.plan.Executed as told
+use Rattle.headline_bacnet.specs.server_answers.declared.said.ServerSaid.{ServerSaid}
+use Rattle.headline_bacnet.specs.server_answers.declared.said.ServerSaid.TheVariants as said
 
 -- what an answer whole says (20.1.4, 20.1.5, 20.1.7, 20.1.9)
 abbrev pub whole_body : {A : Type 0} → ℕ → RememberedAnswer A → Body

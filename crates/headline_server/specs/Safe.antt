@@ -6,11 +6,11 @@ use Rattle.history.specs.Book.{Answer, Simple, Complex, Failed}
 use Rattle.npdu.specs.declared.mac.Station.{Station}
 use Rattle.headline_bacnet.specs.Bodies.{head_of}
 use Rattle.object_model.specs.Objects.{PlainTable}
-use Rattle.remembered.specs.declared.record.Record as remembered
-use Rattle.remembered.specs.declared.record.RememberedAnswer.{RememberedAnswer}
-use Rattle.remembered.specs.declared.record.RememberedAnswer.TheVariants as kept
+use Rattle.server_tsm.specs.remembered.declared.record.Record as remembered
+use Rattle.server_tsm.specs.remembered.declared.record.RememberedAnswer.{RememberedAnswer}
+use Rattle.server_tsm.specs.remembered.declared.record.RememberedAnswer.TheVariants as kept
 use Rattle.server_tsm.specs.Server.{ServerTsmState}
-use Rattle.server_answers.specs.declared.gathering.RequestGathering as gathered
+use Rattle.headline_bacnet.specs.server_answers.declared.gathering.RequestGathering as gathered
 
 -- an answer that is remembered, or none where an Abort stands in its place (5.4.5.3)
 abbrev pub safe_answer : {A : Type 0} → RememberedAnswer A → Option Answer

@@ -10,15 +10,15 @@ use Rattle.headline.specs.Stations.{Device, Record}
 use Rattle.history.proofs.Lists.{has_front, has_last, has_split}
 use Rattle.history.specs.Book.{Answer}
 use Rattle.npdu.specs.declared.mac.Station.{Station}
-use Rattle.headline_bacnet.specs.Laws.{object_laws}
-use Rattle.headline_bacnet.specs.Protocol.{bacnet}
-use Rattle.headline_bacnet.specs.Refined.{ObjectSite, ObjectCore}
+use Rattle.headline_client.specs.headline_bacnet.Laws.{object_laws}
+use Rattle.headline_client.specs.headline_bacnet.Protocol.{bacnet}
+use Rattle.headline_client.specs.headline_bacnet.Refined.{ObjectSite, ObjectCore}
 use Rattle.object_model.specs.Objects.{PlainTable}
 use Rattle.primitives.specs.declared.plain_data.Request.{Request}
-use Rattle.headline_server.proofs.Executing.{told_may_be_executed}
-use Rattle.headline_server.specs.Laws.{IsHeardFrom, MayBeExecuted}
-use Rattle.server_answers.specs.declared.asked.Origin.{Origin}
-use Rattle.services.specs.Asked.{left_by}
+use Rattle.headline_device.proofs.headline_server.Executing.{told_may_be_executed}
+use Rattle.headline_device.specs.headline_server.Laws.{IsHeardFrom, MayBeExecuted}
+use Rattle.headline_client.specs.server_answers.declared.asked.Origin.{Origin}
+use Rattle.headline_client.specs.services.Asked.{left_by}
 use Rattle.headline_client.proofs.Places.{all_at}
 use Rattle.headline_site.specs.Fair.{Stands}
 use Rattle.headline_site.specs.Laws.{Always, ExecutedIsIssued}

@@ -2,28 +2,28 @@
 use Rattle.std.proofs.Common.{◌≡◌, inl, inr, refl, sym, ap, subst, ◌∙◌, ℕ, List, Some, None}
 use Rattle.apdu.specs.Apdu.{PlainApdu, abort_pdu, complex_ack, confirmed, error_pdu, reject_pdu, segment_ack, simple_ack, unconfirmed}
 use Rattle.apdu.specs.declared.sizes.MaxApdu.{MaxApdu}
-use Rattle.client_tsm.specs.declared.plan.TransactionOutcome.{TransactionOutcome}
-use Rattle.device.specs.Device.{DeviceState}
-use Rattle.device.specs.Hearing.{AnswersWho, DeviceHears, Does, Serves, origin_of}
-use Rattle.device.specs.declared.plan.DeviceTold.{DeviceTold}
+use Rattle.headline_client.specs.client_tsm.declared.plan.TransactionOutcome.{TransactionOutcome}
+use Rattle.headline_device.specs.device.Device.{DeviceState}
+use Rattle.headline_device.specs.device.Hearing.{AnswersWho, DeviceHears, Does, Serves, origin_of}
+use Rattle.headline_device.specs.device.declared.plan.DeviceTold.{DeviceTold}
 use Rattle.headline.proofs.Laws.{whole_requests}
 use Rattle.headline.proofs.Whole.{Inv}
 use Rattle.headline.specs.Honest.{IsAsked, MayExecute}
 use Rattle.headline.specs.Promised.{IsOfIssue}
 use Rattle.headline.specs.Stations.{Device}
-use Rattle.headline_bacnet.proofs.Places.{led_back}
-use Rattle.headline_bacnet.specs.Bodies.{Says, head_of, led_to}
-use Rattle.headline_bacnet.specs.Laws.{object_laws}
-use Rattle.headline_bacnet.specs.Network.{BringsWhatWasSaid, WasSaid}
-use Rattle.headline_bacnet.specs.Protocol.{bacnet}
-use Rattle.headline_bacnet.specs.Refined.{ObjectCore, ObjectSite}
+use Rattle.headline_client.proofs.headline_bacnet.Places.{led_back}
+use Rattle.headline_client.specs.headline_bacnet.Bodies.{Says, head_of, led_to}
+use Rattle.headline_client.specs.headline_bacnet.Laws.{object_laws}
+use Rattle.headline_client.specs.headline_bacnet.Network.{BringsWhatWasSaid, WasSaid}
+use Rattle.headline_client.specs.headline_bacnet.Protocol.{bacnet}
+use Rattle.headline_client.specs.headline_bacnet.Refined.{ObjectCore, ObjectSite}
 use Rattle.headline_client.proofs.Laws.{hearing}
 use Rattle.headline_client.proofs.Places.{all_at, all_weaken}
 use Rattle.headline_client.specs.Laws.{ClosesHonestly, IsClient}
 use Rattle.headline_client.specs.Safe as client
 use Rattle.headline_device.specs.Devices.{IsDevice, station_of}
-use Rattle.headline_server.proofs.Executing.{told_may_be_executed, whole_was_asked}
-use Rattle.headline_server.specs.Laws.{IsHeardFrom, MayBeExecuted}
+use Rattle.headline_device.proofs.headline_server.Executing.{told_may_be_executed, whole_was_asked}
+use Rattle.headline_device.specs.headline_server.Laws.{IsHeardFrom, MayBeExecuted}
 use Rattle.headline_site.proofs.Executions as executions
 use Rattle.headline_site.proofs.Outcomes as outcomes
 use Rattle.headline_site.proofs.Reached.{kept_at}
@@ -32,8 +32,8 @@ use Rattle.npdu.specs.declared.mac.Mac.{Mac}
 use Rattle.npdu.specs.declared.mac.Station.{Station}
 use Rattle.npdu.specs.declared.mac.Target.{Target}
 use Rattle.object_model.specs.Objects.{PlainTable}
-use Rattle.server_answers.specs.declared.plan.Executed.{Executed}
-use Rattle.server_answers.specs.declared.plan.ServerTold.{ServerTold}
+use Rattle.headline_client.specs.server_answers.declared.plan.Executed.{Executed}
+use Rattle.headline_client.specs.server_answers.declared.plan.ServerTold.{ServerTold}
 use Rattle.unitdata.specs.Hearing.{Heard, HeardContent, refuses, says}
 
 module _ {A : Type 0} (s : ObjectSite A) (k : ObjectCore A) (inv : Inv (bacnet A) s k) (d : DeviceState A) (v : IsDevice s k d) where

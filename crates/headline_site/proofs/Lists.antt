@@ -2,7 +2,7 @@
 use Rattle.std.proofs.Common.{◌≡◌, ◌≢◌, sym, ap, subst, ◌∙◌, ℕ, zero, suc, List, [], ◌∷◌, map, Some}
 use Rattle.std.specs.Prelude.{slice_get, slice_set}
 use Rattle.std.specs.List.{AllByRecursion}
-use Rattle.remembered.specs.Records.{AreDistinct}
+use Rattle.headline_device.specs.remembered.Records.{AreDistinct}
 
 module _ {X Y : Type 0} (f : X → Y) where
   same_some : (x y : X) → Some x ≡ Some y → x ≡ y

@@ -2,18 +2,18 @@
 use Rattle.std.proofs.Common.{◌≡◌, refl, ap, ◌∙◌, ℕ, suc, List, take, drop, map, Some}
 use Rattle.std.specs.Prelude.{slice_get}
 use Rattle.apdu.specs.declared.sizes.MaxApdu.{MaxApdu}
-use Rattle.client.specs.Client.{ClientState}
-use Rattle.client_tsm.specs.Hearing.{heard_of}
-use Rattle.client_tsm.specs.Open.{Open}
-use Rattle.client_tsm.specs.Waking.{woken}
-use Rattle.client_tsm.specs.declared.plan.TransactionOutcome.{TransactionOutcome}
+use Rattle.headline_client.specs.client.Client.{ClientState}
+use Rattle.headline_client.specs.client_tsm.Hearing.{heard_of}
+use Rattle.headline_client.specs.client_tsm.Open.{Open}
+use Rattle.headline_client.specs.client_tsm.Waking.{woken}
+use Rattle.headline_client.specs.client_tsm.declared.plan.TransactionOutcome.{TransactionOutcome}
 use Rattle.headline.proofs.Laws.{outcome_issues}
 use Rattle.headline.proofs.Whole.{Inv}
 use Rattle.headline.specs.Stations.{Client}
 use Rattle.npdu.specs.declared.mac.Station.{Station}
-use Rattle.headline_bacnet.specs.Laws.{object_laws}
-use Rattle.headline_bacnet.specs.Protocol.{bacnet}
-use Rattle.headline_bacnet.specs.Refined.{ObjectSite}
+use Rattle.headline_client.specs.headline_bacnet.Laws.{object_laws}
+use Rattle.headline_client.specs.headline_bacnet.Protocol.{bacnet}
+use Rattle.headline_client.specs.headline_bacnet.Refined.{ObjectSite}
 use Rattle.primitives.specs.declared.plain_data.Request.{Request}
 use Rattle.headline_client.proofs.Acting.{IsAt}
 use Rattle.headline_client.proofs.Hearing.{plan_arm}

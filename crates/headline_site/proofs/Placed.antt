@@ -3,7 +3,7 @@ use Rattle.std.proofs.Common.{◌≡◌, ◌≢◌, ◌∙◌, ◌⊎◌, ⊎_el
 use Rattle.std.specs.Prelude.{cond, option_map}
 use Rattle.std.specs.List.{AllByRecursion}
 use Rattle.headline.specs.Protocol as headline
-use Rattle.headline_bacnet.specs.Protocol.{bacnet}
+use Rattle.headline_client.specs.headline_bacnet.Protocol.{bacnet}
 use Rattle.headline_client.proofs.Places.{all_has}
 use Rattle.history.proofs.Lists.{has_cons, has_next, none_has}
 use Rattle.history.specs.Lists.{Has}
@@ -12,7 +12,7 @@ use Rattle.npdu.specs.Mac.{same_station}
 use Rattle.npdu.specs.declared.mac.Station.{Station}
 use Rattle.object_model.specs.Objects.{PlainTable}
 use Rattle.object_model.specs.Site.{IsSite, IsSoundTable, opening_table}
-use Rattle.remembered.specs.Records.{AreDistinct}
+use Rattle.headline_device.specs.remembered.Records.{AreDistinct}
 use Rattle.headline_site.specs.Placed.{AreSound, IsDeviceOf, Placed, SiteHasEach, SiteIsSite, opened, placed_at, site_of}
 
 some_same : {X : Type 0} (x y : X) → Some x ≡ Some y → x ≡ y

@@ -5,9 +5,9 @@ use Rattle.headline.specs.Happenings.{run}
 use Rattle.headline.specs.Honest.{IsHonestRun}
 use Rattle.headline.specs.Promised.{AnswersAreWhole, ExecutesWhatIsIssued, OutcomesAreOfIssues, RequestsAreWhole, TransactionsAreOfIssues}
 use Rattle.history.specs.Legal.{AnswersWereExecuted, AreClosedOnce, AreExecutedOnce, AreNumbered, StandAfterIssue}
-use Rattle.headline_bacnet.proofs.Refining.{refined_stays}
-use Rattle.headline_bacnet.specs.Protocol.{bacnet}
-use Rattle.headline_bacnet.specs.Refined.{ObjectCore, ObjectSite}
+use Rattle.headline_client.proofs.headline_bacnet.Refining.{refined_stays}
+use Rattle.headline_client.specs.headline_bacnet.Protocol.{bacnet}
+use Rattle.headline_client.specs.headline_bacnet.Refined.{ObjectCore, ObjectSite}
 use Rattle.headline_site.specs.AllStations.{AllStations, steps}
 use Rattle.headline_site.specs.Laws.{Always, IsReached, SaidStays, TablesAreLeft, Wherever}
 use Rattle.headline_site.proofs.Reached as wherever

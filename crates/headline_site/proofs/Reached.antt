@@ -2,7 +2,7 @@
 use Rattle.std.proofs.Common.{◌≡◌, refl, sym, ap, subst, ◌∙◌, List, [], ◌∷◌}
 use Rattle.std.specs.List.{AllByRecursion}
 use Rattle.headline_device.specs.Devices.{IsDevice, station_of}
-use Rattle.device.specs.Device.{DeviceState}
+use Rattle.headline_device.specs.device.Device.{DeviceState}
 use Rattle.headline.proofs.Laws.{executed_issues, outcome_issues, tables_of, transaction_issues, whole_answers, whole_requests}
 use Rattle.headline.proofs.Whole.{Inv, from_start}
 use Rattle.headline.specs.Happenings.{run, start}
@@ -13,12 +13,12 @@ use Rattle.headline.specs.Protocol.{IsSite}
 use Rattle.headline.specs.Stations.{Device}
 use Rattle.history.specs.Legal.{AnswersWereExecuted, AreClosedOnce, AreExecutedOnce, AreNumbered, IsWhatExecutionsLeave, StandAfterIssue}
 use Rattle.npdu.specs.declared.mac.Station.{Station}
-use Rattle.headline_bacnet.proofs.Refining.{refined_then}
-use Rattle.headline_bacnet.specs.Laws.{object_laws}
-use Rattle.headline_bacnet.specs.Protocol.{bacnet}
-use Rattle.headline_bacnet.specs.Refined.{ObjectCore, ObjectSite, Refined}
+use Rattle.headline_client.proofs.headline_bacnet.Refining.{refined_then}
+use Rattle.headline_client.specs.headline_bacnet.Laws.{object_laws}
+use Rattle.headline_client.specs.headline_bacnet.Protocol.{bacnet}
+use Rattle.headline_client.specs.headline_bacnet.Refined.{ObjectCore, ObjectSite, Refined}
 use Rattle.object_model.specs.Objects.{PlainTable}
-use Rattle.services.specs.Asked.{left_by, replied}
+use Rattle.headline_client.specs.services.Asked.{left_by, replied}
 use Rattle.headline_site.specs.AllStations.{AllStations}
 use Rattle.headline_site.specs.Laws.{BeginsReached, GoesThen, IsReached, ReachedThen, TablesAreLeft, Wherever}
 

@@ -2,22 +2,22 @@
 use Rattle.std.proofs.Common.{◌≡◌, ◌≢◌, refl, sym, ap, subst, ◌∙◌, ℕ, ◌≤◌, Some, arith}
 use Rattle.std.specs.Prelude.{slice_get}
 use Rattle.apdu.specs.declared.sizes.MaxApdu.{MaxApdu}
-use Rattle.client.specs.Client.{ClientState}
+use Rattle.headline_client.specs.client.Client.{ClientState}
 use Rattle.headline_device.proofs.Doing.{others_stand}
 use Rattle.headline_device.specs.Devices.{Deed, IsDevice, after_deed, announces, idles, left_of_deed, serves}
 use Rattle.headline_device.specs.Devices as deeds
-use Rattle.device.specs.Device.{DeviceState}
+use Rattle.headline_device.specs.device.Device.{DeviceState}
 use Rattle.headline.proofs.Puts.{put_here}
 use Rattle.headline.specs.Happenings.{put}
 use Rattle.headline.specs.Stations.{Client}
 use Rattle.npdu.specs.Mac.{same_station}
 use Rattle.npdu.specs.declared.mac.Station.{Station}
-use Rattle.headline_bacnet.specs.Laws.{object_laws}
-use Rattle.headline_bacnet.proofs.Places.{put_other}
-use Rattle.headline_bacnet.specs.Refined.{ObjectSite, Refined, ObjectCore}
+use Rattle.headline_client.specs.headline_bacnet.Laws.{object_laws}
+use Rattle.headline_client.proofs.headline_bacnet.Places.{put_other}
+use Rattle.headline_client.specs.headline_bacnet.Refined.{ObjectSite, Refined, ObjectCore}
 use Rattle.primitives.specs.declared.plain_data.Request.{Request}
-use Rattle.remembered.specs.Records.{AreDistinct}
-use Rattle.headline_server.specs.Refines.{begun_anew}
+use Rattle.headline_device.specs.remembered.Records.{AreDistinct}
+use Rattle.headline_device.specs.headline_server.Refines.{begun_anew}
 use Rattle.headline_client.proofs.Places.{all_weaken}
 use Rattle.headline_client.specs.Kept.{IsWellKept}
 use Rattle.headline_client.specs.Laws.{IsClient}

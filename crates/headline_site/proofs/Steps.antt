@@ -8,40 +8,40 @@ use Rattle.apdu.specs.declared.numbers.RejectReason.{RejectReason}
 use Rattle.apdu.specs.declared.sizes.MaxApdu.{MaxApdu}
 use Rattle.apdu.specs.declared.unconfirmed.IAm.{IAm}
 use Rattle.bindings.specs.Binding.{binding_of, introduced, mark_refused, put_binding}
-use Rattle.client.specs.Client.{ClientState}
-use Rattle.client.specs.Saying.{parcels_of}
+use Rattle.headline_client.specs.client.Client.{ClientState}
+use Rattle.headline_client.specs.client.Saying.{parcels_of}
 use Rattle.bindings.specs.declared.binding.Binding.{Binding}
-use Rattle.client.specs.declared.plan.ClientIssued.{ClientIssued}
+use Rattle.headline_client.specs.client.declared.plan.ClientIssued.{ClientIssued}
 use Rattle.bindings.specs.Accepts.{PlainAccepts}
-use Rattle.client_tsm.specs.Client as client
-use Rattle.client_tsm.specs.Hearing.{heard_of}
-use Rattle.client_tsm.specs.Issuing.{issued}
-use Rattle.client_tsm.specs.Waking.{woken}
-use Rattle.client_tsm.specs.declared.plan.ClientTsmPlan.{ClientTsmPlan}
+use Rattle.headline_client.specs.client_tsm.Client as client
+use Rattle.headline_client.specs.client_tsm.Hearing.{heard_of}
+use Rattle.headline_client.specs.client_tsm.Issuing.{issued}
+use Rattle.headline_client.specs.client_tsm.Waking.{woken}
+use Rattle.headline_client.specs.client_tsm.declared.plan.ClientTsmPlan.{ClientTsmPlan}
 use Rattle.headline_device.proofs.Doing.{opens_at_start, restart_is_done, waking_is_done}
 use Rattle.headline_device.specs.Devices.{IsDevice, announces}
 use Rattle.headline_device.specs.Devices as deeds
-use Rattle.device.specs.Device.{DeviceState, restarts}
+use Rattle.headline_device.specs.device.Device.{DeviceState, restarts}
 use Rattle.headline.specs.Happenings.{Says_other, Ticks, start}
 use Rattle.headline.specs.Happenings as core
 use Rattle.history.specs.Book.{Broadcast, Message, Other}
 use Rattle.npdu.specs.declared.mac.Station.{Station}
 use Rattle.npdu.specs.declared.mac.Way.{Way}
 use Rattle.npdu.specs.declared.message.NetworkRejectReason as network
-use Rattle.headline_bacnet.proofs.Refining.{refined_none, refined_one, refined_then}
-use Rattle.headline_bacnet.specs.Protocol.{bacnet}
-use Rattle.headline_bacnet.specs.Refined.{ObjectSite, Refined, ObjectCore}
+use Rattle.headline_client.proofs.headline_bacnet.Refining.{refined_none, refined_one, refined_then}
+use Rattle.headline_client.specs.headline_bacnet.Protocol.{bacnet}
+use Rattle.headline_client.specs.headline_bacnet.Refined.{ObjectSite, Refined, ObjectCore}
 use Rattle.primitives.specs.declared.plain_data.Reply.{Reply}
 use Rattle.primitives.specs.declared.plain_data.Request.{Request}
-use Rattle.headline_server.proofs.Executing.{step_keeps, step_refines}
-use Rattle.headline_server.proofs.Waking.{announce_refines}
-use Rattle.headline_server.specs.Laws.{IsHeardFrom}
-use Rattle.server_tsm.specs.Steps as server_steps
-use Rattle.server_tsm.specs.Steps.{told_of_plan}
-use Rattle.server_tsm.specs.Server as server
-use Rattle.server_tsm.specs.Waking as server_waking
-use Rattle.server_tsm.specs.Hearing as server_hearing
-use Rattle.server_answers.specs.declared.asked.Origin.{Origin}
+use Rattle.headline_device.proofs.headline_server.Executing.{step_keeps, step_refines}
+use Rattle.headline_device.proofs.headline_server.Waking.{announce_refines}
+use Rattle.headline_device.specs.headline_server.Laws.{IsHeardFrom}
+use Rattle.headline_device.specs.server_tsm.Steps as server_steps
+use Rattle.headline_device.specs.server_tsm.Steps.{told_of_plan}
+use Rattle.headline_device.specs.server_tsm.Server as server
+use Rattle.headline_device.specs.server_tsm.Waking as server_waking
+use Rattle.headline_device.specs.server_tsm.Hearing as server_hearing
+use Rattle.headline_client.specs.server_answers.declared.asked.Origin.{Origin}
 use Rattle.headline_client.proofs.Acting.{IsActed, IsAt}
 use Rattle.headline_client.proofs.Hearing.{plan_arm}
 use Rattle.headline_client.proofs.Hears.{accepts_stay, body_is}

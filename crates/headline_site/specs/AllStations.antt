@@ -5,31 +5,31 @@ use Rattle.apdu.specs.declared.numbers.RejectReason.{RejectReason}
 use Rattle.apdu.specs.declared.sizes.MaxApdu.{MaxApdu}
 use Rattle.apdu.specs.declared.unconfirmed.IAm.{IAm}
 use Rattle.bindings.specs.Binding.{binding_of, introduced, mark_refused, put_binding}
-use Rattle.client.specs.Client.{ClientState}
+use Rattle.headline_client.specs.client.Client.{ClientState}
 use Rattle.bindings.specs.declared.binding.Binding.{Binding}
-use Rattle.client_tsm.specs.Client as client
-use Rattle.client_tsm.specs.Hearing as client_hearing
-use Rattle.client_tsm.specs.Issuing.{issued}
-use Rattle.client_tsm.specs.Waking as client_waking
-use Rattle.client_tsm.specs.declared.plan.ClientTsmPlan.{ClientTsmPlan}
+use Rattle.headline_client.specs.client_tsm.Client as client
+use Rattle.headline_client.specs.client_tsm.Hearing as client_hearing
+use Rattle.headline_client.specs.client_tsm.Issuing.{issued}
+use Rattle.headline_client.specs.client_tsm.Waking as client_waking
+use Rattle.headline_client.specs.client_tsm.declared.plan.ClientTsmPlan.{ClientTsmPlan}
 use Rattle.headline_device.specs.Devices.{Deed, after_deed, announces, left_of_deed, serves}
 use Rattle.headline_device.specs.Devices as deeds
-use Rattle.device.specs.Device.{DeviceState, restarts}
+use Rattle.headline_device.specs.device.Device.{DeviceState, restarts}
 use Rattle.headline.specs.Happenings as core
 use Rattle.history.specs.Book.{Broadcast, Message, Other}
 use Rattle.npdu.specs.declared.mac.Station.{Station}
 use Rattle.npdu.specs.declared.mac.Way.{Way}
 use Rattle.npdu.specs.declared.message.NetworkRejectReason as network
-use Rattle.headline_bacnet.specs.Refined.{ObjectSite, ObjectCore}
+use Rattle.headline_client.specs.headline_bacnet.Refined.{ObjectSite, ObjectCore}
 use Rattle.primitives.specs.declared.plain_data.Reply.{Reply}
 use Rattle.primitives.specs.declared.plain_data.Request.{Request}
-use Rattle.headline_server.specs.Refines.{begun_anew}
-use Rattle.server_tsm.specs.Hearing as server_hearing
-use Rattle.server_answers.specs.Plan as server_plan
-use Rattle.server_tsm.specs.Server as server
-use Rattle.server_tsm.specs.Steps.{told_of_plan}
-use Rattle.server_tsm.specs.Waking as server_waking
-use Rattle.server_answers.specs.declared.asked.Origin.{Origin}
+use Rattle.headline_device.specs.headline_server.Refines.{begun_anew}
+use Rattle.headline_device.specs.server_tsm.Hearing as server_hearing
+use Rattle.headline_client.specs.server_answers.Plan as server_plan
+use Rattle.headline_device.specs.server_tsm.Server as server
+use Rattle.headline_device.specs.server_tsm.Steps.{told_of_plan}
+use Rattle.headline_device.specs.server_tsm.Waking as server_waking
+use Rattle.headline_client.specs.server_answers.declared.asked.Origin.{Origin}
 use Rattle.headline_client.specs.Safe.{safe_client, station_of}
 use Rattle.headline_client.specs.Told.{acts, issues, row_of}
 

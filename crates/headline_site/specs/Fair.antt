@@ -7,30 +7,30 @@ use Rattle.apdu.specs.declared.apdu.Apdu.{Apdu}
 use Rattle.apdu.specs.declared.numbers.RejectReason.{RejectReason}
 use Rattle.apdu.specs.declared.sizes.MaxApdu.{MaxApdu}
 use Rattle.apdu.specs.declared.unconfirmed.IAm.{IAm}
-use Rattle.client.specs.Client.{ClientState, new_client}
-use Rattle.client.specs.Issuing.{refusal}
-use Rattle.client_tsm.specs.Hearing as client_hearing
-use Rattle.client_tsm.specs.Steps as client_steps
+use Rattle.headline_client.specs.client.Client.{ClientState, new_client}
+use Rattle.headline_client.specs.client.Issuing.{refusal}
+use Rattle.headline_client.specs.client_tsm.Hearing as client_hearing
+use Rattle.headline_client.specs.client_tsm.Steps as client_steps
 use Rattle.headline_device.specs.Devices.{IsDevice}
 use Rattle.headline_device.specs.Devices as deeds
-use Rattle.device.specs.Device.{DeviceState, new_device}
+use Rattle.headline_device.specs.device.Device.{DeviceState, new_device}
 use Rattle.headline.specs.Happenings.{start}
 use Rattle.headline.specs.Honest.{IsHeard}
 use Rattle.history.specs.Book.{I_am, Message}
 use Rattle.npdu.specs.declared.mac.Station.{Station}
 use Rattle.npdu.specs.declared.mac.Way.{Way}
-use Rattle.headline_bacnet.specs.Bodies.{Says, led_to}
-use Rattle.headline_bacnet.specs.Protocol.{bacnet}
-use Rattle.headline_bacnet.specs.Refined.{ObjectSite}
-use Rattle.headline_bacnet.specs.Stations.{kind_of}
+use Rattle.headline_client.specs.headline_bacnet.Bodies.{Says, led_to}
+use Rattle.headline_client.specs.headline_bacnet.Protocol.{bacnet}
+use Rattle.headline_client.specs.headline_bacnet.Refined.{ObjectSite}
+use Rattle.headline_client.specs.headline_bacnet.Stations.{kind_of}
 use Rattle.object_model.specs.Site.{opening_table}
 use Rattle.object_model.specs.declared.site.SiteObjects.{SiteObjects}
 use Rattle.primitives.specs.Sound.{IsSoundRequest}
 use Rattle.primitives.specs.declared.plain_data.Reply.{Reply}
 use Rattle.primitives.specs.declared.plain_data.Request.{Request}
-use Rattle.remembered.specs.Records.{AreDistinct}
-use Rattle.server_tsm.specs.Hearing as server_hearing
-use Rattle.server_tsm.specs.Steps as server_steps
+use Rattle.headline_device.specs.remembered.Records.{AreDistinct}
+use Rattle.headline_device.specs.server_tsm.Hearing as server_hearing
+use Rattle.headline_device.specs.server_tsm.Steps as server_steps
 use Rattle.headline_client.specs.Laws.{IsClient}
 use Rattle.headline_client.specs.Safe.{station_of}
 use Rattle.headline_site.specs.AllStations.{Event, Passes, Issues, Asks_who, Client_hears, Client_learns, Client_marks, Client_wakes, Device_hears, Announces, Device_wakes, Restarts, AllStations, now, step}

@@ -5,16 +5,16 @@ use Rattle.apdu.specs.Apdu.{HasNamedNumbers, apdu_of}
 use Rattle.apdu.specs.declared.apdu.Apdu.{Apdu}
 use Rattle.apdu.specs.declared.numbers.RejectReason.{RejectReason}
 use Rattle.apdu.specs.declared.sizes.MaxApdu.{MaxApdu}
-use Rattle.client.specs.Client.{ClientState}
-use Rattle.client.specs.Hearing.{ClientHears}
-use Rattle.client.specs.declared.plan.ClientTold.{ClientTold}
-use Rattle.client_tsm.specs.Open.{Open}
-use Rattle.client_tsm.specs.Waking.{woken}
-use Rattle.client_tsm.specs.declared.plan.TransactionOutcome.{TransactionOutcome}
+use Rattle.headline_client.specs.client.Client.{ClientState}
+use Rattle.headline_client.specs.client.Hearing.{ClientHears}
+use Rattle.headline_client.specs.client.declared.plan.ClientTold.{ClientTold}
+use Rattle.headline_client.specs.client_tsm.Open.{Open}
+use Rattle.headline_client.specs.client_tsm.Waking.{woken}
+use Rattle.headline_client.specs.client_tsm.declared.plan.TransactionOutcome.{TransactionOutcome}
 use Rattle.headline_device.specs.Devices.{deed_in, left_of_deed, station_of}
-use Rattle.device.specs.Device.{DeviceState}
-use Rattle.device.specs.Hearing.{DeviceHears, origin_of}
-use Rattle.device.specs.declared.plan.DeviceTold as device_told
+use Rattle.headline_device.specs.device.Device.{DeviceState}
+use Rattle.headline_device.specs.device.Hearing.{DeviceHears, origin_of}
+use Rattle.headline_device.specs.device.declared.plan.DeviceTold as device_told
 use Rattle.headline.specs.Happenings.{Happening, after_all}
 use Rattle.headline.specs.Honest.{AreHonest}
 use Rattle.headline.specs.Protocol.{IsSite}
@@ -26,16 +26,16 @@ use Rattle.npdu.specs.declared.mac.Mac.{Mac}
 use Rattle.npdu.specs.declared.mac.Station.{Station}
 use Rattle.npdu.specs.declared.mac.Target.{Target}
 use Rattle.npdu.specs.declared.mac.Way.{Way}
-use Rattle.headline_bacnet.specs.Bodies.{head_of}
-use Rattle.headline_bacnet.specs.Network.{BringsWhatWasSaid}
-use Rattle.headline_bacnet.specs.Protocol.{bacnet}
-use Rattle.headline_bacnet.specs.Refined.{ObjectSite, Refined, ObjectCore}
+use Rattle.headline_client.specs.headline_bacnet.Bodies.{head_of}
+use Rattle.headline_client.specs.headline_bacnet.Network.{BringsWhatWasSaid}
+use Rattle.headline_client.specs.headline_bacnet.Protocol.{bacnet}
+use Rattle.headline_client.specs.headline_bacnet.Refined.{ObjectSite, Refined, ObjectCore}
 use Rattle.object_model.specs.Objects.{PlainTable}
 use Rattle.primitives.specs.declared.plain_data.Reply.{Reply}
 use Rattle.primitives.specs.declared.plain_data.Request.{Request}
-use Rattle.server_answers.specs.declared.plan.Executed.{Executed}
-use Rattle.server_tsm.specs.Hearing.{Whole, completes, heard_of, reached}
-use Rattle.services.specs.Asked.{left_by, replied}
+use Rattle.headline_client.specs.server_answers.declared.plan.Executed.{Executed}
+use Rattle.headline_device.specs.server_tsm.Hearing.{Whole, completes, heard_of, reached}
+use Rattle.headline_client.specs.services.Asked.{left_by, replied}
 use Rattle.unitdata.specs.Hearing.{Brings, Heard, says}
 use Rattle.headline_client.specs.Heard.{said_in}
 use Rattle.headline_client.specs.Safe as client

@@ -2,15 +2,15 @@
 use Rattle.std.specs.Prelude.{◌≡◌, ℕ, cond, List, [], ◌∷◌, map, Option, Some, None, option_map}
 use Rattle.std.specs.List.{AllByRecursion}
 use Rattle.headline.specs.Protocol as headline
-use Rattle.headline_bacnet.specs.Protocol.{bacnet}
-use Rattle.headline_bacnet.specs.Refined.{ObjectSite}
+use Rattle.headline_client.specs.headline_bacnet.Protocol.{bacnet}
+use Rattle.headline_client.specs.headline_bacnet.Refined.{ObjectSite}
 use Rattle.history.specs.Lists.{Has}
 use Rattle.npdu.specs.Mac.{same_station}
 use Rattle.npdu.specs.declared.mac.Station.{Station}
 use Rattle.object_model.specs.Objects.{PlainTable}
 use Rattle.object_model.specs.Site.{IsSite, opening_table}
 use Rattle.object_model.specs.declared.site.SiteObjects.{SiteObjects}
-use Rattle.remembered.specs.Records.{AreDistinct}
+use Rattle.headline_device.specs.remembered.Records.{AreDistinct}
 
 -- a device with these objects at a station (6.1, 12.11)
 pub record Placed (A : Type 0) : Type 0 where

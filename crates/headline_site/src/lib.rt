@@ -12,7 +12,7 @@
 ghost use Rattle.headline.specs.Promised.{AnswersAreWhole, ExecutesWhatIsIssued, RequestsAreWhole, TransactionsAreOfIssues};
 ghost use Rattle.headline.specs.Promised as core;
 ghost use Rattle.history.specs.Legal.{AnswersWereExecuted, AreClosedOnce, AreExecutedOnce, AreNumbered, StandAfterIssue};
-ghost use Rattle.headline_bacnet.specs.Protocol.{bacnet};
+ghost use Rattle.headline_client.specs.headline_bacnet.Protocol.{bacnet};
 ghost use Rattle.headline_site.specs.Laws.{Always, BeginsWell, ClientHearingGoes, DeviceHearingGoes, ExecutedIsIssued, IsReached, OutcomesAreOfIssues, SaidStays, StepRefines, TablesAreLeft};
 ghost use Rattle.headline_site.specs.Laws.{BeginsReached, GoesThen, HearingExecutesIssued, HearingIsWholeIssue, HearingTellsOfIssues, ReachedThen, Wherever};
 ghost use Rattle.headline_site.specs.Placed.{SiteHasEach, SiteIsSite};

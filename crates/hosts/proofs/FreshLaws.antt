@@ -2,13 +2,13 @@
 use Rattle.std.proofs.Common.{◌≡◌, inl, refl, sym, subst, arith, Bool, List, [], ◌∷◌, ◌++◌, map, Option, Some, None}
 use Rattle.std.specs.Prelude.{option_map, option_to_list}
 use Rattle.std.specs.List.{AllByRecursion, flat_map}
-use Rattle.client.specs.Client.{ClientState, new_client}
-use Rattle.device.specs.Device.{DeviceState, new_device}
-use Rattle.headline_site.specs.headline_bacnet.Refined.{ObjectSite}
-use Rattle.headline_site.specs.headline_client.Safe as client_side
-use Rattle.headline_site.specs.headline_device.Devices as device_side
-use Rattle.headline_site.specs.headline_device.Devices.{HasNumbers}
-use Rattle.headline_site.specs.Fair.{IsNewClient, IsNewDevice}
+use Rattle.site_station.specs.client.Client.{ClientState, new_client}
+use Rattle.site_station.specs.device.Device.{DeviceState, new_device}
+use Rattle.carry_said.specs.headline_site.headline_bacnet.Refined.{ObjectSite}
+use Rattle.carry_said.specs.headline_site.headline_client.Safe as client_side
+use Rattle.carry_said.specs.headline_site.headline_device.Devices as device_side
+use Rattle.carry_said.specs.headline_site.headline_device.Devices.{HasNumbers}
+use Rattle.carry_said.specs.headline_site.Fair.{IsNewClient, IsNewDevice}
 use Rattle.link_site.specs.Port as site
 use Rattle.link_site.specs.declared.port.SitePort.{SitePort}
 use Rattle.npdu.specs.declared.mac.Station as npdu

@@ -2,7 +2,7 @@
 use Rattle.std.proofs.Common.{◌≡◌, ◌≤◌, refl, sym, arith, List, [], ◌∷◌, Option, Some, None}
 use Rattle.std.specs.Prelude.{option_map, option_to_list}
 use Rattle.std.specs.List.{AllByRecursion}
-use Rattle.device.specs.Device.{new_device}
+use Rattle.site_station.specs.device.Device.{new_device}
 use Rattle.link_site.specs.Port as site
 use Rattle.link_site.specs.declared.port.SitePort.{SitePort}
 use Rattle.link_ports.specs.Ports.{AreBefore}

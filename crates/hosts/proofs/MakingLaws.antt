@@ -1,8 +1,8 @@
 -- What the making of a site's stations stands on: their ports, and sound objects.
 use Rattle.std.proofs.Common.{◌≡◌, ◌∙◌, ap, Bool, List, [], ◌∷◌, Option, Some, None}
 use Rattle.std.specs.Prelude.{option_map, option_to_list}
-use Rattle.client.specs.Client.{ClientState, new_client}
-use Rattle.device.specs.Device.{DeviceState, new_device}
+use Rattle.site_station.specs.client.Client.{ClientState, new_client}
+use Rattle.site_station.specs.device.Device.{DeviceState, new_device}
 use Rattle.link_site.specs.Port as site
 use Rattle.link_site.specs.declared.port.SitePort.{SitePort}
 use Rattle.object_model.specs.declared.site.SiteObjects.{SiteObjects}

@@ -2,8 +2,8 @@
 use Rattle.std.proofs.Common.{◌≡◌, ◌∙◌, refl, sym, ap, subst, Bool, true, false, List, [], ◌∷◌, ◌++◌, map, Option, Some, None}
 use Rattle.std.specs.Prelude.{◌||◌, cond, if◌then◌else◌, option_map}
 use Rattle.std.specs.List.{AllByRecursion, flat_map, list_any}
-use Rattle.headline_site.proofs.Placed.{is_there}
-use Rattle.headline_site.specs.Placed.{Placed, opened, placed_at}
+use Rattle.carry_said.proofs.headline_site.Placed.{is_there}
+use Rattle.carry_said.specs.headline_site.Placed.{Placed, opened, placed_at}
 use Rattle.history.proofs.HasLaws.{all_has}
 use Rattle.npdu.proofs.Stations.{one_station}
 use Rattle.npdu.specs.Mac.{same_station}

@@ -3,7 +3,7 @@ use Rattle.std.proofs.Common.{rules, ◌≡◌, ◌≤◌, ◌∙◌, ◌⊎◌,
 use Rattle.std.proofs.lemmas.List.{map-append}
 use Rattle.std.specs.Prelude.{if◌then◌else◌, option_map, option_to_list}
 use Rattle.std.specs.List.{AllByRecursion, flat_map, list_any}
-use Rattle.device.specs.Device.{new_device}
+use Rattle.site_station.specs.device.Device.{new_device}
 use Rattle.link_site.specs.Port as site
 use Rattle.link_site.specs.declared.port.SitePort.{SitePort}
 use Rattle.npdu.specs.declared.mac.Station as npdu

@@ -3,12 +3,12 @@ use Rattle.std.proofs.Common.{◌≡◌, refl, sym, subst, arith, ℕ, List, map
 use Rattle.std.specs.List.{AllByRecursion}
 use Rattle.bvll.specs.Address.{address_octets}
 use Rattle.bvll.specs.declared.address.Address.{Address}
-use Rattle.device.specs.Device.{DeviceState, new_device}
-use Rattle.headline_site.specs.headline_bacnet.Stations.{kind_of}
-use Rattle.headline_site.specs.headline_device.Devices.{HasNumbers}
-use Rattle.headline_site.proofs.Placed.{site_has_each, site_is_site}
-use Rattle.headline_site.specs.Fair.{IsNewDevice}
-use Rattle.headline_site.specs.Placed.{AreSound, Placed}
+use Rattle.site_station.specs.device.Device.{DeviceState, new_device}
+use Rattle.carry_said.specs.headline_site.headline_bacnet.Stations.{kind_of}
+use Rattle.carry_said.specs.headline_site.headline_device.Devices.{HasNumbers}
+use Rattle.carry_said.proofs.headline_site.Placed.{site_has_each, site_is_site}
+use Rattle.carry_said.specs.headline_site.Fair.{IsNewDevice}
+use Rattle.carry_said.specs.headline_site.Placed.{AreSound, Placed}
 use Rattle.history.proofs.HasLaws.{all_has, has_all, has_map}
 use Rattle.npdu.specs.declared.mac.Mac.TheVariants.{Six}
 use Rattle.npdu.specs.declared.mac.Station as npdu

@@ -1,7 +1,7 @@
 -- How each station of a world stands.
 use Rattle.std.specs.Prelude.{◌≡◌, ◌≤◌, ℕ, [], ◌∷◌, Some}
-use Rattle.headline_site.specs.headline_bacnet.Refined.{ObjectSite}
-use Rattle.headline_site.specs.headline_device.Devices as device_side
+use Rattle.carry_said.specs.headline_site.headline_bacnet.Refined.{ObjectSite}
+use Rattle.carry_said.specs.headline_site.headline_device.Devices as device_side
 use Rattle.hosts.specs.Stations.{WorldStation}
 use Rattle.link_site.specs.Port as site
 use Rattle.link_site.specs.declared.port.SitePort.{SitePort}

@@ -1,13 +1,13 @@
 -- What is promised of the stations that a site opens with.
 use Rattle.std.specs.Prelude.{◌≡◌, List, [], ◌∷◌, ◌++◌, map}
 use Rattle.std.specs.List.{AllByRecursion}
-use Rattle.headline_site.specs.headline.Protocol.{IsSite}
-use Rattle.headline_site.specs.headline_bacnet.Protocol.{bacnet}
-use Rattle.headline_site.specs.headline_bacnet.Refined.{ObjectSite}
-use Rattle.headline_site.specs.headline_client.Safe as client_side
-use Rattle.headline_site.specs.headline_device.Devices as device_side
-use Rattle.headline_site.specs.headline_device.Devices.{HasNumbers}
-use Rattle.headline_site.specs.Fair.{IsNewClient, IsNewDevice}
+use Rattle.carry_said.specs.headline_site.headline.Protocol.{IsSite}
+use Rattle.carry_said.specs.headline_site.headline_bacnet.Protocol.{bacnet}
+use Rattle.carry_said.specs.headline_site.headline_bacnet.Refined.{ObjectSite}
+use Rattle.carry_said.specs.headline_site.headline_client.Safe as client_side
+use Rattle.carry_said.specs.headline_site.headline_device.Devices as device_side
+use Rattle.carry_said.specs.headline_site.headline_device.Devices.{HasNumbers}
+use Rattle.carry_said.specs.headline_site.Fair.{IsNewClient, IsNewDevice}
 use Rattle.remembered.specs.Records.{AreDistinct}
 use Rattle.site.specs.Sound.{IsSound}
 use Rattle.site_parts.specs.declared.parts.Parts.{Parts}

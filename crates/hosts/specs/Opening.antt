@@ -3,10 +3,10 @@ use Rattle.std.specs.Prelude.{Bool, List, [], ◌∷◌, map, Option, Some, None
 use Rattle.std.specs.List.{flat_map}
 use Rattle.bbmd_manager.specs.State.{new_manager}
 use Rattle.bbmd_tables.specs.Tables.{others}
-use Rattle.client.specs.Client.{new_client}
-use Rattle.device.specs.Device.{new_device}
-use Rattle.headline_site.specs.headline_bacnet.Refined.{ObjectSite}
-use Rattle.headline_site.specs.Placed.{Placed, site_of}
+use Rattle.site_station.specs.client.Client.{new_client}
+use Rattle.site_station.specs.device.Device.{new_device}
+use Rattle.carry_said.specs.headline_site.headline_bacnet.Refined.{ObjectSite}
+use Rattle.carry_said.specs.headline_site.Placed.{Placed, site_of}
 use Rattle.hosts.specs.Stations.{WorldStation}
 use Rattle.link_bus.specs.Port as bus
 use Rattle.link_ip.specs.Port as ip

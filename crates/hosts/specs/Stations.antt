@@ -1,8 +1,8 @@
 -- The stations of a world (6.1).
 use Rattle.std.specs.Prelude.{List, [], ◌∷◌}
 use Rattle.std.specs.List.{flat_map}
-use Rattle.client.specs.Client.{ClientState}
-use Rattle.device.specs.Device.{DeviceState}
+use Rattle.site_station.specs.client.Client.{ClientState}
+use Rattle.site_station.specs.device.Device.{DeviceState}
 use Rattle.link_site.specs.declared.port.SitePort.{SitePort}
 use Rattle.site_station.specs.Station.{StationState}
 use Rattle.site_station.specs.declared.entity.Entity.{Entity}

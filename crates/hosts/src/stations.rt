@@ -2,7 +2,7 @@
 
 ghost use Rattle.std.specs.Prelude.{◌≡◌, ◌++◌, ◌∷◌, [], IfOk, IfErr, OnOk};
 ghost use Rattle.std.specs.List.{flat_map};
-ghost use Rattle.device.specs.Device.{new_device};
+ghost use Rattle.site_station.specs.device.Device.{new_device};
 ghost use Rattle.hosts.specs.Opening.{opening_stations, opens};
 ghost use Rattle.object_model.specs.Site.{IsSite};
 ghost use Rattle.site.specs.Devices.{AreDevices, IsDeviceIn};
@@ -10,14 +10,12 @@ ghost use Rattle.site.specs.Sound.{IsSound};
 ghost use Rattle.site_parts.specs.declared.role.Role.TheVariants as role;
 
 use crate::ports::place_port;
-use client::Client;
-use device::Device;
 use link::Link;
 use link_site::SitePort;
 use object_model::SiteObjects;
 use site::Site;
 use site_parts::{Place, Role, Station};
-use site_station::{Entity, SiteStation};
+use site_station::{Client, Device, Entity, SiteStation};
 use std::alloc::{AllocError, Allocator};
 use tags::Fault;
 

@@ -3,9 +3,9 @@ use Rattle.std.proofs.Common.{◌≡◌, ◌∙◌, refl, sym, ap, subst, ℕ, z
 use Rattle.std.proofs.lemmas.List.{map-append}
 use Rattle.std.specs.Prelude.{option_to_list, slice_get, slice_set}
 use Rattle.buses.specs.Puts.{BusesState, put_on}
-use Rattle.directory.proofs.StayLaws.{leads_set, stays}
-use Rattle.directory.specs.Directory.{DirectoryState, Leads}
-use Rattle.headline_client.proofs.Places.{all_at}
+use Rattle.plans.proofs.directory.StayLaws.{leads_set, stays}
+use Rattle.plans.specs.directory.Directory.{DirectoryState, Leads}
+use Rattle.chronicle.proofs.headline_client.Places.{all_at}
 use Rattle.history.specs.declared.Entry.{Entry}
 use Rattle.plans.specs.hosts.Hosts.{IsHost}
 use Rattle.plans.specs.hosts.Stations.{WorldStation}
@@ -17,17 +17,17 @@ use Rattle.primitives.specs.declared.plain_data.Reply.{Reply}
 use Rattle.primitives.specs.declared.plain_data.Request.{Request}
 use Rattle.site_parts.specs.declared.parts.Parts.{Parts}
 use Rattle.site_parts.specs.declared.parts.Station as site_part
-use Rattle.site_station.specs.Entity as entity
-use Rattle.site_station.specs.Station.{left_by, told_by}
-use Rattle.site_station.specs.declared.entity.EntityTold.{EntityTold}
-use Rattle.site_station.specs.declared.station.StationPlan.{StationPlan}
+use Rattle.chronicle.specs.site_station.Entity as entity
+use Rattle.chronicle.specs.site_station.Station.{left_by, told_by}
+use Rattle.chronicle.specs.site_station.declared.entity.EntityTold.{EntityTold}
+use Rattle.chronicle.specs.site_station.declared.station.StationPlan.{StationPlan}
 use Rattle.traffic.specs.declared.frame.FramePut.{FramePut}
 use Rattle.traffic.specs.declared.item.Item.{Item}
 use Rattle.chronicle.specs.Chronicle.{IsGrown, IsSame, IsTold}
 use Rattle.internetwork.proofs.Standing.{steady_set}
 use Rattle.plans.specs.Plans.{MayBeDone}
 use Rattle.internetwork.specs.Doing.{AtPlace, IsDone, Tells}
-use Rattle.relays.specs.Laws.{SiteRelay}
+use Rattle.plans.specs.relays.Laws.{SiteRelay}
 use Rattle.internetwork.specs.Laws.{ArePassing, AreSteady}
 use Rattle.chronicle.specs.Kept.{all_keys, all_said, key_of, said_of}
 use Rattle.chronicle.specs.Growing.{AreFromMacs, frames_of, items_of, told_in}

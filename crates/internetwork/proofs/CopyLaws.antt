@@ -7,7 +7,7 @@ use Rattle.plans.specs.hosts.Stations.{WorldStation}
 use Rattle.internetwork.proofs.ActingLaws.{same_seen, seen}
 use Rattle.internetwork.specs.Laws.{ArePassing, AreSteady}
 use Rattle.internetwork.specs.World.{WorldState}
-use Rattle.relays.specs.Laws.{SiteRelay}
+use Rattle.plans.specs.relays.Laws.{SiteRelay}
 use Rattle.site.specs.Sound.{IsFaulty, IsSound}
 use Rattle.site_parts.specs.declared.parts.Parts.{Parts}
 use Rattle.tags.specs.declared.fault.Fault.{Fault}

@@ -10,7 +10,7 @@ use Rattle.history.specs.declared.Entry.TheVariants.{Issue}
 use Rattle.link_site.specs.Port as port
 use Rattle.link_site.specs.Steps as site
 use Rattle.link_site.specs.declared.port.SitePort.{SitePort}
-use Rattle.headline_bacnet.specs.Refined.{ObjectSite}
+use Rattle.chronicle.specs.headline_bacnet.Refined.{ObjectSite}
 use Rattle.plans.specs.hosts.Hosts.{IsOfSite}
 use Rattle.plans.specs.hosts.Opening.{object_site}
 use Rattle.link_ports.specs.declared.ports.PortSent.{PortSent}
@@ -18,13 +18,13 @@ use Rattle.npdu.specs.declared.mac.Station.{Station}
 use Rattle.object_model.specs.Objects.{PlainTable}
 use Rattle.primitives.specs.declared.plain_data.Reply.{Reply}
 use Rattle.primitives.specs.declared.plain_data.Request.{Request}
-use Rattle.site_station.specs.Entity as entity
-use Rattle.site_station.specs.Entity.{EntityAsks, EntityIssues, EntityRestarts, IsClient, IsDevice, says, silence}
-use Rattle.site_station.specs.Station.{HearingIsRefused, StationAsks, StationHears, StationIssues, StationRegisters, StationRestarts, StationWakes, left_by, told_by}
-use Rattle.site_station.specs.declared.entity.Entity.{Entity}
-use Rattle.site_station.specs.declared.entity.Entity.TheVariants.{Client, Device}
-use Rattle.site_station.specs.declared.entity.EntityTold.{EntityTold}
-use Rattle.site_station.specs.declared.station.StationPlan.{StationPlan}
+use Rattle.chronicle.specs.site_station.Entity as entity
+use Rattle.chronicle.specs.site_station.Entity.{EntityAsks, EntityIssues, EntityRestarts, IsClient, IsDevice, says, silence}
+use Rattle.chronicle.specs.site_station.Station.{HearingIsRefused, StationAsks, StationHears, StationIssues, StationRegisters, StationRestarts, StationWakes, left_by, told_by}
+use Rattle.chronicle.specs.site_station.declared.entity.Entity.{Entity}
+use Rattle.chronicle.specs.site_station.declared.entity.Entity.TheVariants.{Client, Device}
+use Rattle.chronicle.specs.site_station.declared.entity.EntityTold.{EntityTold}
+use Rattle.chronicle.specs.site_station.declared.station.StationPlan.{StationPlan}
 use Rattle.tags.specs.declared.fault.Fault.{Fault}
 use Rattle.tags.specs.declared.fault.Fault.TheVariants.{Expired, Memory, NoSuch}
 use Rattle.traffic.specs.Seeking.{is_young}
@@ -32,11 +32,11 @@ use Rattle.traffic.specs.declared.item.Item.{Item}
 use Rattle.plans.specs.Plans.{MayBeDone, WakeIsTooLong}
 use Rattle.internetwork.specs.Doing.{AtPlace, IsDone}
 use Rattle.plans.specs.hosts.Finding.{IsNoHostAt}
-use Rattle.relays.specs.Laws.{SiteRelay, site_places}
-use Rattle.relays.specs.Refusals as refusing
-use Rattle.relays.specs.Relay as passing
-use Rattle.relays.specs.Steps.{RelayHears, RelayWakes}
-use Rattle.relays.specs.declared.plan.RelayPlan.{RelayPlan}
+use Rattle.plans.specs.relays.Laws.{SiteRelay, site_places}
+use Rattle.plans.specs.relays.Refusals as refusing
+use Rattle.plans.specs.relays.Relay as passing
+use Rattle.plans.specs.relays.Steps.{RelayHears, RelayWakes}
+use Rattle.plans.specs.relays.declared.plan.RelayPlan.{RelayPlan}
 use Rattle.internetwork.specs.Passing.{HasPassed}
 use Rattle.internetwork.specs.Finding.{IsAddressee, IsNamed, IsNoRelay, IsNobody, IsRelayAddressee, IsRelayNamed, addressee_of}
 use Rattle.internetwork.specs.Refusals.{GoesToNoRelay, IsNowhere, IsRefused, IsTooOld, RefusesNamed, RefusesWake}

@@ -8,7 +8,7 @@ use Rattle.plans.specs.hosts.Opening.{opening_relays, opening_stations}
 use Rattle.plans.specs.hosts.Stations.{WorldStation}
 use Rattle.internetwork.specs.Laws.{ArePassing, AreSteady}
 use Rattle.profile.specs.Times.{MAX_MOMENT_MS}
-use Rattle.relays.specs.Laws.{SiteRelay}
+use Rattle.plans.specs.relays.Laws.{SiteRelay}
 use Rattle.site.specs.Sound.{IsSound}
 use Rattle.site_parts.specs.declared.parts.Parts.{Parts}
 

@@ -28,16 +28,16 @@ use Rattle.link_site.specs.declared.port.SitePort.{SitePort}
 use Rattle.npdu.specs.declared.mac.Mac.TheVariants.{One}
 use Rattle.npdu.specs.declared.mac.Station.{Station}
 use Rattle.plans.specs.Listening.{HearsWith, HearsWithNone}
-use Rattle.relays.specs.Laws.{SiteRelay, site_places}
-use Rattle.relays.specs.Refusals as refusing
-use Rattle.relays.specs.Relay as passing
-use Rattle.relays.specs.Steps.{RelayCounts, RelayHearsFrame}
-use Rattle.relays.specs.declared.plan.RelayPlan.{RelayPlan}
-use Rattle.site_station.specs.Entity as entity
-use Rattle.site_station.specs.Entity.{says}
-use Rattle.site_station.specs.Station.{FrameIsRefused, StationCounts, StationHearsFrame, left_by, told_by}
-use Rattle.site_station.specs.declared.entity.EntityTold.{EntityTold}
-use Rattle.site_station.specs.declared.station.StationPlan.{StationPlan}
+use Rattle.plans.specs.relays.Laws.{SiteRelay, site_places}
+use Rattle.plans.specs.relays.Refusals as refusing
+use Rattle.plans.specs.relays.Relay as passing
+use Rattle.plans.specs.relays.Steps.{RelayCounts, RelayHearsFrame}
+use Rattle.plans.specs.relays.declared.plan.RelayPlan.{RelayPlan}
+use Rattle.chronicle.specs.site_station.Entity as entity
+use Rattle.chronicle.specs.site_station.Entity.{says}
+use Rattle.chronicle.specs.site_station.Station.{FrameIsRefused, StationCounts, StationHearsFrame, left_by, told_by}
+use Rattle.chronicle.specs.site_station.declared.entity.EntityTold.{EntityTold}
+use Rattle.chronicle.specs.site_station.declared.station.StationPlan.{StationPlan}
 use Rattle.tags.specs.declared.fault.Fault.{Fault}
 use Rattle.tags.specs.declared.fault.Fault.TheVariants.{Memory, NoSuch}
 

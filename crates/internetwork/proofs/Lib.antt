@@ -11,3 +11,6 @@ pub mod CopyLaws
 pub use Rattle.chronicle.proofs.carry_world as carry_world
 pub use Rattle.plans.proofs as plans
 pub use Rattle.plans.proofs.hosts as hosts
+pub use Rattle.plans.proofs.relays as relays
+pub use Rattle.chronicle.proofs.site_station as site_station
+pub use Rattle.chronicle.proofs.headline_client as headline_client

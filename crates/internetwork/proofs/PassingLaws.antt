@@ -10,11 +10,11 @@ use Rattle.primitives.specs.declared.plain_data.Reply.{Reply}
 use Rattle.primitives.specs.declared.plain_data.Request.{Request}
 use Rattle.plans.proofs.RelayPlans.{seen_before}
 use Rattle.plans.specs.Plans.{MayPass}
-use Rattle.relays.specs.Laws.{RelayStands, SiteRelay, site_places}
-use Rattle.relays.specs.Relay.{left_by, out_of, without_out}
-use Rattle.relays.specs.declared.plan.RelayPlan.{RelayPlan}
-use Rattle.relays.specs.declared.plan.RelayPlan.TheVariants as plan
-use Rattle.relays.specs.declared.relay.Relay.TheVariants.{Router, Manager}
+use Rattle.plans.specs.relays.Laws.{RelayStands, SiteRelay, site_places}
+use Rattle.plans.specs.relays.Relay.{left_by, out_of, without_out}
+use Rattle.plans.specs.relays.declared.plan.RelayPlan.{RelayPlan}
+use Rattle.plans.specs.relays.declared.plan.RelayPlan.TheVariants as plan
+use Rattle.plans.specs.relays.declared.relay.Relay.TheVariants.{Router, Manager}
 use Rattle.site_parts.specs.declared.parts.Parts.{Parts}
 use Rattle.traffic.specs.declared.item.Item.{Item}
 use Rattle.chronicle.specs.Chronicle.{IsGrown, IsSame}

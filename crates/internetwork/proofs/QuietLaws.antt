@@ -13,10 +13,10 @@ use Rattle.link_site.specs.Port.{station_of}
 use Rattle.link_site.specs.declared.port.SitePort.{SitePort}
 use Rattle.npdu.specs.declared.mac.Station.{Station}
 use Rattle.plans.specs.hosts.Stations.{WorldStation}
-use Rattle.site_station.specs.Entity as entity
-use Rattle.site_station.specs.Station.{told_by}
-use Rattle.site_station.specs.declared.entity.EntityTold.{EntityTold}
-use Rattle.site_station.specs.declared.station.StationPlan.{StationPlan}
+use Rattle.chronicle.specs.site_station.Entity as entity
+use Rattle.chronicle.specs.site_station.Station.{told_by}
+use Rattle.chronicle.specs.site_station.declared.entity.EntityTold.{EntityTold}
+use Rattle.chronicle.specs.site_station.declared.station.StationPlan.{StationPlan}
 
 pub tells_quietly : {A : Type 0} (now : ℕ) (plan : StationPlan (SitePort A) A) (s : WorldStation A)
     (c0 c1 c2 : Chronicle A) (x : Station) (told : EntityTold A) → x ≡ entity.station_of s.entity → IsSame c0 c1 →

@@ -2,24 +2,24 @@
 use Rattle.std.proofs.Common.{◌≡◌, sym, subst, arith, ℕ, zero, suc, ◌≤◌, true, List, [], ◌∷◌, Option, Some, None}
 use Rattle.std.specs.Prelude.{slice_get, slice_set}
 use Rattle.std.specs.List.{AllByRecursion}
-use Rattle.device.specs.Device.{DeviceState}
-use Rattle.device.specs.Plan as device
+use Rattle.plans.specs.device.Device.{DeviceState}
+use Rattle.plans.specs.device.Plan as device
 use Rattle.link_site.specs.Port.{moment_of}
 use Rattle.link_site.specs.declared.port.SitePort.{SitePort}
-use Rattle.server_answers.specs.Plan.{ServerPlan}
-use Rattle.site_station.specs.Entity.{left_by}
-use Rattle.site_station.specs.declared.entity.Entity.{Entity}
-use Rattle.site_station.specs.declared.entity.Entity.TheVariants.{Client, Device}
-use Rattle.site_station.specs.declared.entity.EntityPlan.{EntityPlan}
-use Rattle.site_station.specs.declared.entity.EntityPlan.TheVariants as plan
-use Rattle.headline_bacnet.specs.Refined.{ObjectSite}
-use Rattle.headline_client.proofs.Places.{all_at}
+use Rattle.chronicle.specs.server_answers.Plan.{ServerPlan}
+use Rattle.chronicle.specs.site_station.Entity.{left_by}
+use Rattle.chronicle.specs.site_station.declared.entity.Entity.{Entity}
+use Rattle.chronicle.specs.site_station.declared.entity.Entity.TheVariants.{Client, Device}
+use Rattle.chronicle.specs.site_station.declared.entity.EntityPlan.{EntityPlan}
+use Rattle.chronicle.specs.site_station.declared.entity.EntityPlan.TheVariants as plan
+use Rattle.chronicle.specs.headline_bacnet.Refined.{ObjectSite}
+use Rattle.chronicle.proofs.headline_client.Places.{all_at}
 use Rattle.plans.specs.hosts.Hosts.{IsHost, IsOfSite}
 use Rattle.plans.specs.hosts.Opening.{object_site}
 use Rattle.profile.specs.Times.{MAX_MOMENT_MS}
 use Rattle.link_ports.specs.Ports.{AreBefore}
-use Rattle.relays.specs.Laws.{IsMac, RelayStands, SiteRelay}
-use Rattle.relays.specs.declared.relay.Relay.TheVariants.{Router, Manager}
+use Rattle.plans.specs.relays.Laws.{IsMac, RelayStands, SiteRelay}
+use Rattle.plans.specs.relays.declared.relay.Relay.TheVariants.{Router, Manager}
 use Rattle.internetwork.specs.Laws.{ArePassing, AreSteady}
 use Rattle.traffic.specs.declared.item.Item.{Item}
 use Rattle.site_parts.specs.declared.parts.Parts.{Parts}

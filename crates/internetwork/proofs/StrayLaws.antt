@@ -10,13 +10,13 @@ use Rattle.internetwork.specs.World.{WorldState}
 use Rattle.link_site.specs.Port as port
 use Rattle.link_site.specs.Steps as site
 use Rattle.link_site.specs.declared.port.SitePort.{SitePort}
-use Rattle.relays.specs.Laws.{SiteRelay}
-use Rattle.relays.specs.Refusals as refusing
-use Rattle.relays.specs.Relay as passing
-use Rattle.relays.specs.Steps.{RelayHears}
-use Rattle.relays.specs.declared.plan.RelayPlan.{RelayPlan}
-use Rattle.site_station.specs.Station.{HearingIsRefused, StationHears, left_by, told_by}
-use Rattle.site_station.specs.declared.station.StationPlan.{StationPlan}
+use Rattle.plans.specs.relays.Laws.{SiteRelay}
+use Rattle.plans.specs.relays.Refusals as refusing
+use Rattle.plans.specs.relays.Relay as passing
+use Rattle.plans.specs.relays.Steps.{RelayHears}
+use Rattle.plans.specs.relays.declared.plan.RelayPlan.{RelayPlan}
+use Rattle.chronicle.specs.site_station.Station.{HearingIsRefused, StationHears, left_by, told_by}
+use Rattle.chronicle.specs.site_station.declared.station.StationPlan.{StationPlan}
 use Rattle.tags.specs.declared.fault.Fault.{Fault}
 use Rattle.tags.specs.declared.fault.Fault.TheVariants.{Memory}
 use Rattle.traffic.specs.declared.item.Item.{Item}

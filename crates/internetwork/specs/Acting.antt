@@ -7,9 +7,9 @@ use Rattle.inside.specs.Inside.{AreInside, Said}
 use Rattle.internetwork.specs.World.{WorldState}
 use Rattle.link_ports.specs.declared.ports.PortSent.{PortSent}
 use Rattle.link_site.specs.Port as port
-use Rattle.relays.specs.Laws.{SiteRelay, site_places}
-use Rattle.site_station.specs.Entity as entity
-use Rattle.site_station.specs.Station.{StationTold}
+use Rattle.plans.specs.relays.Laws.{SiteRelay, site_places}
+use Rattle.chronicle.specs.site_station.Entity as entity
+use Rattle.chronicle.specs.site_station.Station.{StationTold}
 use Rattle.traffic.specs.declared.item.Item.{Item}
 
 -- the station at a place did this: what it put out stands behind these items, or goes out on these buses, and what its

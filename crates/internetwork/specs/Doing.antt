@@ -7,9 +7,9 @@ use Rattle.primitives.specs.declared.plain_data.Reply.{Reply}
 use Rattle.primitives.specs.declared.plain_data.Request.{Request}
 use Rattle.link_site.specs.Port.{station_of}
 use Rattle.link_site.specs.declared.port.SitePort.{SitePort}
-use Rattle.site_station.specs.Entity as entity
-use Rattle.site_station.specs.Station.{IsPlanned, left_by, told_by}
-use Rattle.site_station.specs.declared.station.StationPlan.{StationPlan}
+use Rattle.chronicle.specs.site_station.Entity as entity
+use Rattle.chronicle.specs.site_station.Station.{IsPlanned, left_by, told_by}
+use Rattle.chronicle.specs.site_station.declared.station.StationPlan.{StationPlan}
 use Rattle.plans.specs.hosts.Hosts.{IsHost}
 use Rattle.inside.specs.Inside.{AreInside, Said}
 use Rattle.chronicle.specs.Kept.{all_keys, all_said}

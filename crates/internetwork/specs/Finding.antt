@@ -3,11 +3,11 @@ use Rattle.std.specs.Prelude.{◌≡◌, ℕ, ◌+◌, Bool, List, [], ◌∷◌
 use Rattle.plans.specs.hosts.Finding.{IsHostAt, IsNoHostAt}
 use Rattle.npdu.specs.declared.mac.Station.{Station}
 use Rattle.object_model.specs.Objects.{PlainTable}
-use Rattle.relays.specs.Finding.{IsRelayAt, place_of}
+use Rattle.plans.specs.relays.Finding.{IsRelayAt, place_of}
 use Rattle.link_site.specs.Port.{station_of}
-use Rattle.relays.specs.Laws.{SiteRelay}
-use Rattle.site_station.specs.declared.entity.Entity.{Entity}
-use Rattle.site_station.specs.declared.entity.Entity.TheVariants.{Device, Client}
+use Rattle.plans.specs.relays.Laws.{SiteRelay}
+use Rattle.chronicle.specs.site_station.declared.entity.Entity.{Entity}
+use Rattle.chronicle.specs.site_station.declared.entity.Entity.TheVariants.{Device, Client}
 use Rattle.traffic.specs.declared.item.Item.{Item}
 use Rattle.plans.specs.hosts.Stations.{WorldStation}
 use Rattle.internetwork.specs.World.{WorldState}

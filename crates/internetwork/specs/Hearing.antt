@@ -23,11 +23,11 @@ use Rattle.link_site.specs.Steps as site
 use Rattle.npdu.specs.declared.mac.Mac.TheVariants.{One}
 use Rattle.npdu.specs.declared.mac.Station.{Station}
 use Rattle.plans.specs.Listening.{HearsWith}
-use Rattle.relays.specs.Laws.{SiteRelay, site_places}
-use Rattle.relays.specs.Refusals as relay
-use Rattle.relays.specs.Steps.{RelayCounts, RelayHearsFrame}
-use Rattle.site_station.specs.Entity as entity
-use Rattle.site_station.specs.Station.{FrameIsRefused, StationCounts, StationHearsFrame, StationTold}
+use Rattle.plans.specs.relays.Laws.{SiteRelay, site_places}
+use Rattle.plans.specs.relays.Refusals as relay
+use Rattle.plans.specs.relays.Steps.{RelayCounts, RelayHearsFrame}
+use Rattle.chronicle.specs.site_station.Entity as entity
+use Rattle.chronicle.specs.site_station.Station.{FrameIsRefused, StationCounts, StationHearsFrame, StationTold}
 use Rattle.tags.specs.declared.fault.Fault.{Fault}
 
 -- a device or a client hears on a bus

@@ -7,7 +7,7 @@ use Rattle.plans.specs.hosts.Opening.{object_site}
 use Rattle.plans.specs.hosts.Stations.{WorldStation}
 use Rattle.internetwork.specs.World.{WorldState}
 use Rattle.profile.specs.Times.{MAX_MOMENT_MS}
-use Rattle.relays.specs.Laws.{RelayStands, SiteRelay}
+use Rattle.plans.specs.relays.Laws.{RelayStands, SiteRelay}
 use Rattle.site_parts.specs.declared.parts.Parts.{Parts}
 use Rattle.traffic.specs.declared.item.Item.{Item}
 

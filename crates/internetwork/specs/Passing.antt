@@ -3,9 +3,9 @@ use Rattle.std.specs.Prelude.{◌≡◌, ℕ, List, ◌++◌}
 use Rattle.chronicle.specs.Growing.{AreFromMacs, items_at}
 use Rattle.chronicle.specs.declared.chronicle.Chronicle.{Chronicle}
 use Rattle.link_site.specs.declared.port.SitePort.{SitePort}
-use Rattle.relays.specs.Laws.{RelayStands, SiteRelay, site_places}
-use Rattle.relays.specs.Relay.{left_by, out_of}
-use Rattle.relays.specs.declared.plan.RelayPlan.{RelayPlan}
+use Rattle.plans.specs.relays.Laws.{RelayStands, SiteRelay, site_places}
+use Rattle.plans.specs.relays.Relay.{left_by, out_of}
+use Rattle.plans.specs.relays.declared.plan.RelayPlan.{RelayPlan}
 use Rattle.internetwork.specs.Acting.{RelayActs}
 use Rattle.internetwork.specs.World.{WorldState}
 

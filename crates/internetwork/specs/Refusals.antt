@@ -6,14 +6,14 @@ use Rattle.link_ports.specs.Ports.{IsTooLong}
 use Rattle.npdu.specs.declared.mac.Station.{Station}
 use Rattle.plans.specs.Plans.{WakeIsTooLong, places_of}
 use Rattle.profile.specs.Times.{MAX_MOMENT_MS}
-use Rattle.site_station.specs.Entity.{IsClient, told_awake}
-use Rattle.site_station.specs.Station.{AskingIsRefused, HearingIsRefused, ITS_PORT, IsNotForeign, IssueIsRefused}
+use Rattle.chronicle.specs.site_station.Entity.{IsClient, told_awake}
+use Rattle.chronicle.specs.site_station.Station.{AskingIsRefused, HearingIsRefused, ITS_PORT, IsNotForeign, IssueIsRefused}
 use Rattle.tags.specs.declared.fault.Fault.{Fault}
 use Rattle.tags.specs.declared.fault.Fault.TheVariants.{Expired, Memory, NoSuch, TooLong}
 use Rattle.traffic.specs.Seeking.{is_young}
 use Rattle.traffic.specs.declared.item.Item.{Item}
-use Rattle.relays.specs.Laws.{SiteRelay}
-use Rattle.relays.specs.Refusals as relay
+use Rattle.plans.specs.relays.Laws.{SiteRelay}
+use Rattle.plans.specs.relays.Refusals as relay
 use Rattle.internetwork.specs.Finding.{HasNoRelay, IsAddressee, IsNamed, IsNoRelay, IsNobody, IsRelayAddressee, IsRelayNamed, addressee_of}
 use Rattle.internetwork.specs.Hearing.{HasListener, HasNoListener, RefusesOctets, Then}
 use Rattle.internetwork.specs.Step.{Steps}

@@ -14,16 +14,16 @@ use Rattle.npdu.specs.declared.mac.Station.{Station}
 use Rattle.primitives.specs.Sound.{IsSoundRequest}
 use Rattle.primitives.specs.declared.plain_data.Request.{Request}
 use Rattle.profile.specs.Times.{MAX_MOMENT_MS}
-use Rattle.site_station.specs.Entity as entity
-use Rattle.site_station.specs.Station.{StationAsks, StationHears, StationIssues, StationRestarts}
-use Rattle.site_station.specs.Station.{StationRegisters, StationTold, StationWakes}
-use Rattle.site_station.specs.declared.entity.Entity.{Entity}
-use Rattle.site_station.specs.declared.entity.Entity.TheVariants.{Device, Client}
+use Rattle.chronicle.specs.site_station.Entity as entity
+use Rattle.chronicle.specs.site_station.Station.{StationAsks, StationHears, StationIssues, StationRestarts}
+use Rattle.chronicle.specs.site_station.Station.{StationRegisters, StationTold, StationWakes}
+use Rattle.chronicle.specs.site_station.declared.entity.Entity.{Entity}
+use Rattle.chronicle.specs.site_station.declared.entity.Entity.TheVariants.{Device, Client}
 use Rattle.traffic.specs.Seeking.{is_young}
 use Rattle.traffic.specs.declared.item.Item.{Item}
 use Rattle.link_ports.specs.declared.ports.PortSent.{PortSent}
-use Rattle.relays.specs.Laws.{SiteRelay}
-use Rattle.relays.specs.Steps.{RelayHears, RelayWakes}
+use Rattle.plans.specs.relays.Laws.{SiteRelay}
+use Rattle.plans.specs.relays.Steps.{RelayHears, RelayWakes}
 use Rattle.internetwork.specs.Acting.{Acts, RelayActs}
 use Rattle.internetwork.specs.Hearing.{Hears}
 use Rattle.internetwork.specs.Finding.{IsAddressee, IsNamed, IsRelayAddressee, IsRelayNamed, addressee_of}

@@ -11,11 +11,11 @@ use Rattle.link_site.specs.Steps as site
 use Rattle.link_ports.specs.declared.ports.PortSent.{PortSent}
 use Rattle.npdu.specs.declared.mac.Mac.{Mac}
 use Rattle.npdu.specs.declared.mac.Station.{Station}
-use Rattle.relays.specs.Laws.{SiteRelay}
-use Rattle.relays.specs.Refusals as relay
-use Rattle.relays.specs.Steps.{RelayHears}
-use Rattle.site_station.specs.Entity as entity
-use Rattle.site_station.specs.Station.{HearingIsRefused, StationHears, StationTold}
+use Rattle.plans.specs.relays.Laws.{SiteRelay}
+use Rattle.plans.specs.relays.Refusals as relay
+use Rattle.plans.specs.relays.Steps.{RelayHears}
+use Rattle.chronicle.specs.site_station.Entity as entity
+use Rattle.chronicle.specs.site_station.Station.{HearingIsRefused, StationHears, StationTold}
 use Rattle.tags.specs.declared.fault.Fault.{Fault}
 use Rattle.tags.specs.declared.fault.Fault.TheVariants.{Memory, NoSuch}
 use Rattle.traffic.specs.declared.item.Item.{Item}

@@ -14,8 +14,8 @@ use Rattle.inside.specs.Inside.{Said}
 use Rattle.link_site.specs.Port.{station_of, waiting_in}
 use Rattle.link_site.specs.Things.{thing_at}
 use Rattle.link_site.specs.declared.port.SitePort.{SitePort}
-use Rattle.relays.specs.Laws.{SiteRelay}
-use Rattle.relays.specs.declared.relay.Relay.TheVariants.{Router, Manager}
+use Rattle.plans.specs.relays.Laws.{SiteRelay}
+use Rattle.plans.specs.relays.declared.relay.Relay.TheVariants.{Router, Manager}
 use Rattle.site_parts.specs.declared.parts.Parts.{Parts}
 use Rattle.traffic.specs.declared.item.Item.{Item}
 

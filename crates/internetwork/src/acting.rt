@@ -7,14 +7,14 @@ ghost use Rattle.profile.specs.Times.{MAX_MOMENT_MS};
 ghost use Rattle.chronicle.specs.Chronicle.{IsSame};
 ghost use Rattle.chronicle.specs.Growing.{frames_at, frames_of};
 ghost use Rattle.link_site.specs.Port as ports;
-ghost use Rattle.relays.specs.Laws.{RelayStands, site_places};
-ghost use Rattle.relays.specs.Relay as passing;
+ghost use Rattle.plans.specs.relays.Laws.{RelayStands, site_places};
+ghost use Rattle.plans.specs.relays.Relay as passing;
 ghost use Rattle.internetwork.specs.Doing.{AtPlace, IsDone, Tells};
 ghost use Rattle.plans.specs.Plans.{MayBeDone, MayPass};
 ghost use Rattle.internetwork.specs.Passing.{HasPassed, Passes};
 ghost use Rattle.plans.specs.hosts.Hosts.{IsHost};
-ghost use Rattle.site_station.specs.Entity as entity;
-ghost use Rattle.site_station.specs.Station.{left_by, told_by};
+ghost use Rattle.chronicle.specs.site_station.Entity as entity;
+ghost use Rattle.chronicle.specs.site_station.Station.{left_by, told_by};
 
 use crate::internetwork::Internetwork;
 use buses::Buses;

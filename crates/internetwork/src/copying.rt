@@ -3,8 +3,7 @@
 ghost use Rattle.std.specs.Prelude.{◌≡◌, IfErr, IfOk};
 
 use crate::internetwork::Internetwork;
-use directory::Directory;
-use plans::{WorldRelay, WorldStation};
+use plans::{Directory, WorldRelay, WorldStation};
 use primitives::copy_all;
 use site::Site;
 use site_parts::Parts;

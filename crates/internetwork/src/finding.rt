@@ -3,7 +3,7 @@
 ghost use Rattle.std.specs.Prelude.{◌≡◌, Some, true, IfOk, IfErr, OnErr, IfSome, IfNone, length, slice_get};
 ghost use Rattle.plans.specs.hosts.Hosts.{IsHost, IsOfSite};
 ghost use Rattle.plans.specs.hosts.Opening.{object_site};
-ghost use Rattle.relays.specs.Laws.{RelayStands};
+ghost use Rattle.plans.specs.relays.Laws.{RelayStands};
 ghost use Rattle.internetwork.specs.Finding.{HasNoRelay, HasNoTable, HasTable, IsAddressee, IsNamed, IsNoRelay};
 ghost use Rattle.internetwork.specs.Finding as spec;
 ghost use Rattle.internetwork.specs.Finding.{IsNobody, IsRelayAddressee, IsRelayNamed};
@@ -12,13 +12,11 @@ ghost use Rattle.internetwork.specs.Refusals.{GoesToNoRelay, RefusesItem};
 ghost use Rattle.traffic.specs.Seeking.{is_young};
 
 use crate::internetwork::Internetwork;
-use directory::HostFound;
+use chronicle::Entity;
 use link_site::SitePort;
 use npdu::Station;
 use objects::Table;
-use plans::{WorldRelay, WorldStation, station_at};
-use relays::{RelayFound, relay_at, relay_in};
-use site_station::Entity;
+use plans::{HostFound, RelayFound, WorldRelay, WorldStation, relay_at, relay_in, station_at};
 use std::alloc::Allocator;
 use tags::Fault;
 use traffic::{Item, in_time, item_at};

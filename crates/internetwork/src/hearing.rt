@@ -11,7 +11,7 @@ ghost use Rattle.internetwork.specs.Hearing.{HostTakes, IsThere, IsTold, Keeps, 
 ghost use Rattle.internetwork.specs.Hearing.{RelayIsTold, RelayRefuses, RelayTakes, Takes, TakesAll, TakesEach};
 ghost use Rattle.internetwork.specs.Refusals.{IsRefused};
 ghost use Rattle.internetwork.specs.declared.event.Event.TheVariants as event;
-ghost use Rattle.relays.specs.Laws.{RelayStands};
+ghost use Rattle.plans.specs.relays.Laws.{RelayStands};
 
 use crate::finding::{Found, FoundRelay};
 use crate::internetwork::Internetwork;

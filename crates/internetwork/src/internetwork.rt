@@ -2,8 +2,7 @@
 
 use buses::Buses;
 use chronicle::{Chronicle, SaidMessage, WorldEntry};
-use directory::Directory;
-use plans::{WorldRelay, WorldStation, buses_of, relays_of, stations_of};
+use plans::{Directory, WorldRelay, WorldStation, buses_of, relays_of, stations_of};
 use site::Site;
 use std::alloc::Allocator;
 use std::marker::Model;
@@ -26,7 +25,7 @@ pub struct Internetwork<A: Allocator + Copy> {
 impl<A: Allocator + Copy> Model for Internetwork<A> {
     ghost use Rattle.buses.specs.Buses.{buses_of};
     ghost use Rattle.chronicle.specs.Kept.{all_keys, all_said};
-    ghost use Rattle.directory.specs.Directory.{Leads};
+    ghost use Rattle.plans.specs.directory.Directory.{Leads};
     ghost use Rattle.internetwork.specs.Laws.{ArePassing, AreSteady};
     ghost use Rattle.internetwork.specs.World.{WorldState};
 
@@ -55,7 +54,7 @@ impl<A: Allocator + Copy> Internetwork<A> {
     ghost use Rattle.buses.specs.Buses.{buses_of};
     ghost use Rattle.profile.specs.Times.{MAX_MOMENT_MS};
     ghost use Rattle.chronicle.specs.Kept.{all_said};
-    ghost use Rattle.directory.specs.Directory.{Leads};
+    ghost use Rattle.plans.specs.directory.Directory.{Leads};
     ghost use Rattle.internetwork.specs.Laws.{ArePassing, AreSteady, Stands};
     ghost use Rattle.internetwork.specs.World.{fresh_world};
     ghost use Rattle.site.specs.Sound.{IsSound};

@@ -13,8 +13,8 @@ ghost use Rattle.internetwork.specs.Laws.{Stands};
 ghost use Rattle.internetwork.specs.Step.{Asks, Delivers, IsSoundEvent, Issues, PassesNow, Steps, Ticks};
 ghost use Rattle.internetwork.specs.Step.{DeliversToRelay, Registers, RelayWakesUp, Restarts, Wakes};
 ghost use Rattle.internetwork.specs.Step.{deafened, delivered, restarted};
-ghost use Rattle.site_station.specs.Entity as entity;
-ghost use Rattle.site_station.specs.Entity.{IsClient, IsDevice};
+ghost use Rattle.chronicle.specs.site_station.Entity as entity;
+ghost use Rattle.chronicle.specs.site_station.Entity.{IsClient, IsDevice};
 ghost use Rattle.internetwork.specs.declared.event.Event.TheVariants as event;
 
 use crate::acting::place_of;
@@ -22,7 +22,7 @@ use crate::event::Event;
 use crate::finding::{Found, FoundRelay, Recipient, RelayRecipient};
 use crate::internetwork::Internetwork;
 use apdu::Limits;
-use chronicle::{Key, WorldEntry};
+use chronicle::{Entity, Key, WorldEntry};
 use history::Entry;
 use npdu::{Mac, Station};
 use objects::Table;
@@ -32,7 +32,6 @@ use plans::{
 };
 use primitives::Request;
 use profile::MAX_MOMENT_MS;
-use site_station::Entity;
 use std::alloc::{AllocError, Allocator};
 use tags::Fault;
 use traffic::in_time;

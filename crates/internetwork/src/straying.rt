@@ -8,10 +8,8 @@ ghost use Rattle.internetwork.specs.Straying.{HostTakes, StrayIsRefused, Strays}
 
 use crate::finding::addressee_of;
 use crate::internetwork::Internetwork;
-use directory::HostFound;
 use npdu::{Mac, Station};
-use plans::{plan_hears, plan_passing};
-use relays::RelayFound;
+use plans::{HostFound, RelayFound, plan_hears, plan_passing};
 use std::alloc::{AllocError, Allocator};
 use tags::{Fault, Items};
 use traffic::Item;

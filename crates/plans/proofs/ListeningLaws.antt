@@ -8,7 +8,7 @@ use Rattle.npdu.specs.declared.mac.Mac.TheVariants.{One, Six}
 use Rattle.npdu.specs.declared.mac.Station.{Station}
 use Rattle.plans.proofs.Hosts.{some_same}
 use Rattle.plans.specs.Listening.{HearsWith, HearsWithNone, is_on}
-use Rattle.relays.specs.Finding.{place_from, place_of}
+use Rattle.directory.specs.relays.Finding.{place_from, place_of}
 
 before_end : {X : Type 0} (xs : List X) (n : ℕ) (x : X) → slice_get xs n ≡ Some x → n < length xs
 before_end [] n x e = absurd (cc e)

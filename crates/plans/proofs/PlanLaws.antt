@@ -2,18 +2,18 @@
 use Rattle.std.proofs.Common.{◌≡◌, ◌∙◌, refl, sym, ap, subst, arith, ℕ, ◌≤◌, List, [], ◌∷◌, map, Option, Some, None, Result, Ok, Err, IfOk}
 use Rattle.std.specs.List.{AllByRecursion}
 use Rattle.apdu.specs.declared.unconfirmed.Limits.{Limits}
-use Rattle.carry_said.proofs.Clients.{client_hearing_has_insides, client_says_something, who_is_says_something}
-use Rattle.carry_said.proofs.Devices.{device_hearing_has_insides, device_says_something}
-use Rattle.carry_said.proofs.Parcels.{all_insides}
-use Rattle.carry_said.specs.Said.{HasInsides}
-use Rattle.client.specs.Client.{ClientState}
-use Rattle.client.specs.Saying as client_saying
-use Rattle.client.specs.Saying.{who_is_parcel}
-use Rattle.client_tsm.specs.Issuing.{issued}
-use Rattle.client_tsm.specs.Steps as client_tsm_steps
-use Rattle.client_tsm.specs.Waking as client_waking
-use Rattle.device.specs.Device.{DeviceState}
-use Rattle.hosts.specs.headline_device.Devices.{serves}
+use Rattle.directory.proofs.carry_said.Clients.{client_hearing_has_insides, client_says_something, who_is_says_something}
+use Rattle.directory.proofs.carry_said.Devices.{device_hearing_has_insides, device_says_something}
+use Rattle.directory.proofs.carry_said.Parcels.{all_insides}
+use Rattle.directory.specs.carry_said.Said.{HasInsides}
+use Rattle.directory.specs.client.Client.{ClientState}
+use Rattle.directory.specs.client.Saying as client_saying
+use Rattle.directory.specs.client.Saying.{who_is_parcel}
+use Rattle.directory.specs.client_tsm.Issuing.{issued}
+use Rattle.directory.specs.client_tsm.Steps as client_tsm_steps
+use Rattle.directory.specs.client_tsm.Waking as client_waking
+use Rattle.directory.specs.device.Device.{DeviceState}
+use Rattle.directory.specs.hosts.headline_device.Devices.{serves}
 use Rattle.history.specs.Lists.{Has}
 use Rattle.link_site.specs.CarryLaws.{carries_counting, carries_down, carries_on, carries_registering, carries_up}
 use Rattle.link_site.specs.Port.{moment_of, restarted, station_of, waiting_in}
@@ -29,22 +29,22 @@ use Rattle.npdu.specs.declared.mac.Station.{Station}
 use Rattle.npdu.specs.declared.parcel.Parcel.{Parcel}
 use Rattle.object_model.specs.Objects.{PlainTable}
 use Rattle.primitives.specs.declared.plain_data.Request.{Request}
-use Rattle.server_tsm.specs.Server as server_tsm
-use Rattle.server_tsm.specs.Steps as server_tsm_steps
-use Rattle.server_tsm.specs.Waking as server_waking
-use Rattle.site_station.proofs.StationKeeping.{frame_keeps, hears_keep, octets_keep, says_keep, station_wakes_keep}
-use Rattle.site_station.specs.Entity as entity
-use Rattle.site_station.specs.Entity.{EntityAsks, EntityHears, EntityIssues, EntityRestarts, silence, told_awake}
-use Rattle.site_station.specs.Station.{AnswersIf, ITS_PORT, IsPlanned, SaysDown, StationAsks, StationCounts, StationHears, StationHearsFrame, StationIssues, StationRegisters, StationRestarts, StationTold, StationWakes, left_by, told_by}
-use Rattle.site_station.specs.declared.entity.Entity.{Entity}
-use Rattle.site_station.specs.declared.entity.Entity.TheVariants.{Client, Device}
-use Rattle.site_station.specs.declared.entity.EntityTold.{EntityTold}
-use Rattle.site_station.specs.declared.station.StationPlan.{StationPlan}
+use Rattle.directory.specs.server_tsm.Server as server_tsm
+use Rattle.directory.specs.server_tsm.Steps as server_tsm_steps
+use Rattle.directory.specs.server_tsm.Waking as server_waking
+use Rattle.directory.proofs.site_station.StationKeeping.{frame_keeps, hears_keep, octets_keep, says_keep, station_wakes_keep}
+use Rattle.directory.specs.site_station.Entity as entity
+use Rattle.directory.specs.site_station.Entity.{EntityAsks, EntityHears, EntityIssues, EntityRestarts, silence, told_awake}
+use Rattle.directory.specs.site_station.Station.{AnswersIf, ITS_PORT, IsPlanned, SaysDown, StationAsks, StationCounts, StationHears, StationHearsFrame, StationIssues, StationRegisters, StationRestarts, StationTold, StationWakes, left_by, told_by}
+use Rattle.directory.specs.site_station.declared.entity.Entity.{Entity}
+use Rattle.directory.specs.site_station.declared.entity.Entity.TheVariants.{Client, Device}
+use Rattle.directory.specs.site_station.declared.entity.EntityTold.{EntityTold}
+use Rattle.directory.specs.site_station.declared.station.StationPlan.{StationPlan}
 use Rattle.plans.proofs.Hosts.{Kept, nothing_yet}
 use Rattle.plans.proofs.Standing.{stands_then}
 use Rattle.plans.specs.Plans.{MayBeDone}
-use Rattle.hosts.specs.Hosts.{IsHost}
-use Rattle.hosts.specs.Stations.{WorldStation}
+use Rattle.directory.specs.hosts.Hosts.{IsHost}
+use Rattle.directory.specs.hosts.Stations.{WorldStation}
 
 -- whatever goes out over a port is good enough where only its place is asked for
 abbrev AnyThing : {A : Type 0} → Station → Parcel A → Type 0

@@ -5,12 +5,12 @@ use Rattle.link_site.specs.Steps.{Counts, Downs, Hears, Wakes, is_due}
 use Rattle.link_site.specs.declared.port.SitePort.{SitePort}
 use Rattle.npdu.specs.declared.mac.Mac.{Mac}
 use Rattle.plans.specs.Plans.{MayPass}
-use Rattle.relays.proofs.RelayLaws.{relay_stays_at_counting, relay_stays_at_frame, relay_stays_at_hearing, relay_stays_at_wake}
-use Rattle.relays.specs.Laws.{RelayStands, SiteRelay}
-use Rattle.relays.specs.Relay.{IsBefore, left_by, out_of}
-use Rattle.relays.specs.Steps.{RelayCounts, RelayHears, RelayHearsFrame, RelayWakes}
-use Rattle.relays.specs.declared.plan.RelayPlan.{RelayPlan}
-use Rattle.relays.specs.declared.relay.Relay.TheVariants.{Router, Manager}
+use Rattle.directory.proofs.relays.RelayLaws.{relay_stays_at_counting, relay_stays_at_frame, relay_stays_at_hearing, relay_stays_at_wake}
+use Rattle.directory.specs.relays.Laws.{RelayStands, SiteRelay}
+use Rattle.directory.specs.relays.Relay.{IsBefore, left_by, out_of}
+use Rattle.directory.specs.relays.Steps.{RelayCounts, RelayHears, RelayHearsFrame, RelayWakes}
+use Rattle.directory.specs.relays.declared.plan.RelayPlan.{RelayPlan}
+use Rattle.directory.specs.relays.declared.relay.Relay.TheVariants.{Router, Manager}
 
 module _ {A : Type 0} (now : ℕ) (r : SiteRelay A) (stands : RelayStands now r) where
   -- a relay that stands has seen no later moment

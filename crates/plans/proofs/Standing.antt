@@ -1,33 +1,33 @@
 -- How a station stands once it did something: its port is where its entity is, and neither has seen a later moment.
 use Rattle.std.proofs.Common.{◌≡◌, ◌∙◌, refl, sym, ap, subst, arith, ℕ, zero, suc, ◌≤◌, true, List, [], ◌∷◌, Option, Some, None}
 use Rattle.std.specs.Prelude.{slice_get, slice_set}
-use Rattle.client.specs.Client.{ClientState}
-use Rattle.client.specs.Plan as client
-use Rattle.client.specs.declared.plan.ClientChange.{ClientChange}
-use Rattle.client.specs.declared.plan.ClientChange.TheVariants.{Binds, Refuses, Stays, Transacts}
-use Rattle.client_tsm.specs.Client as client_tsm
-use Rattle.client_tsm.specs.declared.plan.ClientTsmChange.{ClientTsmChange}
-use Rattle.client_tsm.specs.declared.plan.ClientTsmChange.TheVariants as client_change
-use Rattle.client_tsm.specs.Client.{ClientTsmState}
-use Rattle.device.specs.Device.{DeviceState}
-use Rattle.device.specs.Plan as device
+use Rattle.directory.specs.client.Client.{ClientState}
+use Rattle.directory.specs.client.Plan as client
+use Rattle.directory.specs.client.declared.plan.ClientChange.{ClientChange}
+use Rattle.directory.specs.client.declared.plan.ClientChange.TheVariants.{Binds, Refuses, Stays, Transacts}
+use Rattle.directory.specs.client_tsm.Client as client_tsm
+use Rattle.directory.specs.client_tsm.declared.plan.ClientTsmChange.{ClientTsmChange}
+use Rattle.directory.specs.client_tsm.declared.plan.ClientTsmChange.TheVariants as client_change
+use Rattle.directory.specs.client_tsm.Client.{ClientTsmState}
+use Rattle.directory.specs.device.Device.{DeviceState}
+use Rattle.directory.specs.device.Plan as device
 use Rattle.link_site.specs.Port.{moment_of}
 use Rattle.link_site.specs.declared.port.SitePort.{SitePort}
 use Rattle.link_ports.specs.declared.ports.PortSent.{PortSent}
 use Rattle.npdu.specs.declared.mac.Station.{Station}
 use Rattle.npdu.specs.declared.parcel.Parcel.{Parcel}
-use Rattle.server_answers.specs.Plan.{ServerChange, ServerPlan}
-use Rattle.server_answers.specs.Plan as server_change
-use Rattle.server_tsm.specs.Server.{ServerTsmState}
-use Rattle.server_tsm.specs.Server as server_tsm
-use Rattle.site_station.specs.Entity as entity
-use Rattle.site_station.specs.Entity.{left_by}
-use Rattle.site_station.specs.declared.entity.Entity.{Entity}
-use Rattle.site_station.specs.declared.entity.Entity.TheVariants.{Client, Device}
-use Rattle.site_station.specs.declared.entity.EntityPlan.{EntityPlan}
-use Rattle.site_station.specs.declared.entity.EntityPlan.TheVariants as plan
+use Rattle.directory.specs.server_answers.Plan.{ServerChange, ServerPlan}
+use Rattle.directory.specs.server_answers.Plan as server_change
+use Rattle.directory.specs.server_tsm.Server.{ServerTsmState}
+use Rattle.directory.specs.server_tsm.Server as server_tsm
+use Rattle.directory.specs.site_station.Entity as entity
+use Rattle.directory.specs.site_station.Entity.{left_by}
+use Rattle.directory.specs.site_station.declared.entity.Entity.{Entity}
+use Rattle.directory.specs.site_station.declared.entity.Entity.TheVariants.{Client, Device}
+use Rattle.directory.specs.site_station.declared.entity.EntityPlan.{EntityPlan}
+use Rattle.directory.specs.site_station.declared.entity.EntityPlan.TheVariants as plan
 use Rattle.plans.proofs.Hosts.{Kept, one_port}
-use Rattle.hosts.specs.Hosts.{IsHost}
+use Rattle.directory.specs.hosts.Hosts.{IsHost}
 
 server_stays : {A : Type 0} (now : ℕ) (s : Option (ServerPlan A)) (d : DeviceState A) →
     entity.station_of (Device (device.left_of now s d)) ≡ entity.station_of (Device d)

@@ -2,7 +2,7 @@
 use Rattle.std.specs.Prelude.{◌≡◌, ◌==◌, ℕ, Bool, List, Some, slice_get}
 use Rattle.npdu.specs.declared.mac.Mac.TheVariants.{One}
 use Rattle.npdu.specs.declared.mac.Station.{Station}
-use Rattle.relays.specs.Finding.{place_of}
+use Rattle.directory.specs.relays.Finding.{place_of}
 
 -- a place is on the network of a number (6.1)
 abbrev pub is_on : (network : ℕ) → Station → Bool

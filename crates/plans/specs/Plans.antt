@@ -1,19 +1,19 @@
 -- A plan of a station or a relay of a world, and why none is made.
 use Rattle.std.specs.Prelude.{◌≡◌, ℕ, List, map}
-use Rattle.carry_said.specs.Said.{HasInsides}
-use Rattle.hosts.specs.Hosts.{IsHost}
-use Rattle.hosts.specs.Stations.{WorldStation}
+use Rattle.directory.specs.carry_said.Said.{HasInsides}
+use Rattle.directory.specs.hosts.Hosts.{IsHost}
+use Rattle.directory.specs.hosts.Stations.{WorldStation}
 use Rattle.link_ports.specs.Ports.{IsTooLong}
 use Rattle.link_site.specs.Port as port
 use Rattle.link_site.specs.declared.port.SitePort.{SitePort}
 use Rattle.npdu.specs.declared.mac.Station.{Station}
-use Rattle.relays.specs.Laws.{RelayStands, SiteRelay}
-use Rattle.relays.specs.Relay as passing
-use Rattle.relays.specs.declared.plan.RelayPlan.{RelayPlan}
-use Rattle.site_station.specs.Entity as entity
-use Rattle.site_station.specs.Entity.{told_awake}
-use Rattle.site_station.specs.Station.{ITS_PORT, IsPlanned, left_by, told_by}
-use Rattle.site_station.specs.declared.station.StationPlan.{StationPlan}
+use Rattle.directory.specs.relays.Laws.{RelayStands, SiteRelay}
+use Rattle.directory.specs.relays.Relay as passing
+use Rattle.directory.specs.relays.declared.plan.RelayPlan.{RelayPlan}
+use Rattle.directory.specs.site_station.Entity as entity
+use Rattle.directory.specs.site_station.Entity.{told_awake}
+use Rattle.directory.specs.site_station.Station.{ITS_PORT, IsPlanned, left_by, told_by}
+use Rattle.directory.specs.site_station.declared.station.StationPlan.{StationPlan}
 use Rattle.tags.specs.declared.fault.Fault.{Fault}
 use Rattle.tags.specs.declared.fault.Fault.TheVariants.{TooLong}
 

@@ -15,8 +15,9 @@ mod listening;
 mod passing;
 mod stations;
 
-pub use hosts::{
-    WorldRelay, WorldStation, buses_of, opening_of, relays_of, station_at, stations_of,
+pub use directory::{
+    Directory, HostFound, RelayFound, WorldRelay, WorldStation, buses_of, opening_of, relay_at,
+    relay_in, relays_of, station_at, stations_of,
 };
 pub use listening::{EarPort, ear_port, relay_ear_port};
 pub use passing::{

@@ -4,14 +4,13 @@ ghost use Rattle.std.specs.Prelude.{◌≡◌, ◌<◌, IfNone, IfSome, length, 
 ghost use Rattle.link_site.specs.Port.{station_of};
 ghost use Rattle.plans.specs.Listening as spec;
 ghost use Rattle.plans.specs.Listening.{HearsWith, HearsWithNone};
-ghost use Rattle.relays.specs.Finding.{place_of};
-ghost use Rattle.relays.specs.Laws.{site_places};
+ghost use Rattle.directory.specs.relays.Finding.{place_of};
+ghost use Rattle.directory.specs.relays.Laws.{site_places};
 
-use hosts::WorldRelay;
+use directory::{Relay, WorldRelay};
 use link::Link;
 use link_site::SitePort;
 use npdu::Mac;
-use relays::Relay;
 use std::alloc::Allocator;
 
 /// Whether a port is on the network of a number.

@@ -1,26 +1,25 @@
 //! What a station of a world plans on each input, so that it may be done.
 
 ghost use Rattle.std.specs.Prelude.{◌≡◌, ◌≤◌, ◌⊎◌, IfOk, IfErr};
-ghost use Rattle.hosts.specs.Hosts.{IsHost};
+ghost use Rattle.directory.specs.hosts.Hosts.{IsHost};
 ghost use Rattle.link_site.specs.Port as ports;
 ghost use Rattle.link_site.specs.Steps as site;
 ghost use Rattle.plans.specs.Plans.{MayBeDone, WakeIsTooLong, places_of};
 ghost use Rattle.primitives.specs.Sound.{IsSoundRequest};
 ghost use Rattle.profile.specs.Times.{MAX_MOMENT_MS};
-ghost use Rattle.site_station.specs.Entity.{IsClient};
-ghost use Rattle.site_station.specs.Station.{AskingIsRefused, FrameIsRefused, HearingIsRefused, IssueIsRefused};
-ghost use Rattle.site_station.specs.Station.{IsNotForeign, StationAsks, StationCounts, StationHears, StationHearsFrame};
-ghost use Rattle.site_station.specs.Station.{StationIssues, StationRegisters, StationRestarts, StationWakes};
-ghost use Rattle.site_station.specs.Station.{left_by, told_by};
+ghost use Rattle.directory.specs.site_station.Entity.{IsClient};
+ghost use Rattle.directory.specs.site_station.Station.{AskingIsRefused, FrameIsRefused, HearingIsRefused, IssueIsRefused};
+ghost use Rattle.directory.specs.site_station.Station.{IsNotForeign, StationAsks, StationCounts, StationHears, StationHearsFrame};
+ghost use Rattle.directory.specs.site_station.Station.{StationIssues, StationRegisters, StationRestarts, StationWakes};
+ghost use Rattle.directory.specs.site_station.Station.{left_by, told_by};
 
 use apdu::Limits;
 use bus_traffic::HeardFrame;
-use hosts::WorldStation;
+use directory::{StationPlan, WorldStation};
 use link_site::SitePort;
 use npdu::Mac;
 use objects::Table;
 use primitives::Request;
-use site_station::StationPlan;
 use std::alloc::Allocator;
 use tags::Fault;
 use traffic::Item;

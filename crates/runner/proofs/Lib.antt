@@ -4,3 +4,4 @@ pub mod SeekingLaws
 pub mod SenderLaws
 pub mod StrayLaws
 pub mod TurnLaws
+pub mod HearingLaws

@@ -3,6 +3,7 @@ pub mod Seeking
 pub mod Strays
 pub mod Turns
 pub mod Laws
+pub mod Hearing
 -- What the layers above cite of those below.
 pub use Rattle.simulator.specs.internetwork as internetwork
 pub use Rattle.simulator.specs.chronicle as chronicle

@@ -13,6 +13,7 @@
 //! - `laws`: what holds of any number of turns.
 #![tactic(auto)]
 
+mod hearing;
 mod laws;
 mod runner;
 mod seeking;
@@ -20,6 +21,7 @@ mod sending;
 mod straying;
 mod turned;
 
+pub use hearing::{Heard, next_hear};
 pub use laws::turns_are_steps;
 pub use runner::Runner;
 pub use simulator::{Event, Internetwork, World, WorldEntry};

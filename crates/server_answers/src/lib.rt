@@ -27,6 +27,8 @@ pub use asked::{AnswerLimits, Asked, Origin};
 pub use gathering::RequestGathering;
 pub use limits::{answer_chunk, begun, fitted};
 pub use plan::{Executed, Planned, QuietChange, Saying, ServerPlan, ServerPlanSaid, ServerTold};
+pub use remembered::{Asker, Record, Records, SlabRecords};
 pub use restarting::restart;
 pub use said::{ServerSaid, write_whole};
+pub use services::{Executor, decode_request};
 pub use speaking::WholeAnswer;

@@ -8,17 +8,17 @@ use Rattle.apdu.specs.declared.numbers.RejectReason.{RejectReason}
 use Rattle.npdu.specs.declared.mac.Way.{Way}
 use Rattle.primitives.specs.declared.plain_data.Request.{Request}
 use Rattle.profile.specs.Limits.{MAX_SERVICE_DATA_OCTETS}
-use Rattle.remembered.proofs.Keeping.{one_asker}
-use Rattle.remembered.specs.Records.{is_full, remembered, said_on, some_if}
-use Rattle.remembered.specs.declared.record.Asker.{Asker}
-use Rattle.remembered.specs.declared.record.Record.{Record}
+use Rattle.server_answers.proofs.remembered.Keeping.{one_asker}
+use Rattle.server_answers.specs.remembered.Records.{is_full, remembered, said_on, some_if}
+use Rattle.server_answers.specs.remembered.declared.record.Asker.{Asker}
+use Rattle.server_answers.specs.remembered.declared.record.Record.{Record}
 use Rattle.segments.specs.Receiver.{ReceiverState, granted_window, joins, nothing_joined}
 use Rattle.segments.specs.Sender.{SenderState, hears}
 use Rattle.segments.specs.declared.step.Step.{Step}
 use Rattle.segments.specs.declared.step.Step.TheVariants.{Taken, Nak, Dropped, Full}
 use Rattle.segments.specs.declared.step.Turn.{Turn}
 use Rattle.segments.specs.declared.step.Turn.TheVariants as turn
-use Rattle.services.specs.Asked.{replied}
+use Rattle.server_answers.specs.services.Asked.{replied}
 use Rattle.server_answers.specs.Gathering.{gathering_of, gathers_still, is_for, still}
 use Rattle.server_answers.specs.Limits.{begun}
 use Rattle.server_answers.specs.Plan.{ServerPlan, Stays, Says, GivesUp, quiet}

@@ -6,8 +6,8 @@ use Rattle.std.proofs.lemmas.Bool.{leb-true}
 use Rattle.apdu.specs.declared.numbers.AbortReason.TheVariants.{BufferOverflow, OutOfResources}
 use Rattle.npdu.specs.declared.mac.Way.{Way}
 use Rattle.profile.specs.Limits.{MAX_GATHERINGS, MAX_REMEMBERED}
-use Rattle.remembered.specs.Records.{said_on}
-use Rattle.remembered.specs.declared.record.Record.{Record}
+use Rattle.server_answers.specs.remembered.Records.{said_on}
+use Rattle.server_answers.specs.remembered.declared.record.Record.{Record}
 use Rattle.segments.specs.Pieces.{PlainPiece}
 use Rattle.segments.specs.Sender.{SenderState, window_of}
 use Rattle.server_answers.specs.Answering.{answered_by, data_of, answer_segment}

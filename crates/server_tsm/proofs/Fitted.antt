@@ -4,8 +4,8 @@ use Rattle.std.specs.Prelude.{length}
 use Rattle.primitives.specs.declared.plain_data.Request.{Request}
 use Rattle.primitives.specs.declared.plain_data.Reply.{Reply}
 use Rattle.primitives.specs.declared.plain_data.Reply.TheVariants.{Values, Many, Done, Error, ErrorAt}
-use Rattle.remembered.specs.declared.record.RememberedAnswer.{RememberedAnswer}
-use Rattle.remembered.specs.declared.record.RememberedAnswer.TheVariants as kept
+use Rattle.server_answers.specs.remembered.declared.record.RememberedAnswer.{RememberedAnswer}
+use Rattle.server_answers.specs.remembered.declared.record.RememberedAnswer.TheVariants as kept
 use Rattle.server_answers.specs.Answering.{answer_of}
 use Rattle.server_answers.specs.Limits.{fitted, fitted_if, goes_whole, is_too_long}
 use Rattle.server_answers.specs.declared.asked.AnswerLimits.{AnswerLimits}

@@ -2,9 +2,9 @@
 use Rattle.std.proofs.Common.{◌≡◌, ◌∙◌, refl, sym, ℕ, ◌≤◌, Bool, true, false, List, [], ◌∷◌}
 use Rattle.std.specs.Prelude.{◌&&◌, nat_le, not, length, filter}
 use Rattle.std.proofs.lemmas.Bool.{leb-true}
-use Rattle.remembered.proofs.Living.{forgotten_are_dead}
-use Rattle.remembered.specs.Records.{AreAscending, forgotten, is_full, lives}
-use Rattle.remembered.specs.declared.record.Record.{Record}
+use Rattle.server_answers.proofs.remembered.Living.{forgotten_are_dead}
+use Rattle.server_answers.specs.remembered.Records.{AreAscending, forgotten, is_full, lives}
+use Rattle.server_answers.specs.remembered.declared.record.Record.{Record}
 use Rattle.profile.specs.Limits.{MAX_REMEMBERED}
 
 both : (a b : Bool) → (a && b) ≡ true → (a ≡ true) × (b ≡ true)

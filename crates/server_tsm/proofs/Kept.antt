@@ -7,13 +7,13 @@ use Rattle.std.proofs.lemmas.List.{length-append, length-map, map-append}
 use Rattle.npdu.specs.declared.mac.Way.{Way}
 use Rattle.profile.specs.Limits.{MAX_REMEMBERED}
 use Rattle.profile.specs.Times.{KEEP_MS}
-use Rattle.remembered.proofs.Keeping.{distinct_more}
-use Rattle.remembered.proofs.Living.{forgotten_are_dead, newest_lives}
-use Rattle.remembered.proofs.Ordering.{itself}
-use Rattle.remembered.specs.Records.{AreAscending, AreDistinct, asker_cmp, askers, forgotten, is_full, is_of, later_or, lives, newest, remembered, said_again}
-use Rattle.remembered.specs.Records.{said_by, some_if}
-use Rattle.remembered.specs.declared.record.Asker.{Asker}
-use Rattle.remembered.specs.declared.record.Record.{Record}
+use Rattle.server_answers.proofs.remembered.Keeping.{distinct_more}
+use Rattle.server_answers.proofs.remembered.Living.{forgotten_are_dead, newest_lives}
+use Rattle.server_answers.proofs.remembered.Ordering.{itself}
+use Rattle.server_answers.specs.remembered.Records.{AreAscending, AreDistinct, asker_cmp, askers, forgotten, is_full, is_of, later_or, lives, newest, remembered, said_again}
+use Rattle.server_answers.specs.remembered.Records.{said_by, some_if}
+use Rattle.server_answers.specs.remembered.declared.record.Asker.{Asker}
+use Rattle.server_answers.specs.remembered.declared.record.Record.{Record}
 use Rattle.segments.specs.Sender.{SenderState}
 use Rattle.std.specs.Ordering.{is_eq}
 use Rattle.server_answers.specs.Plan.{ServerChange, ServerPlan, Stays, Says, Gathers, GivesUp, Executes, Wakes, plan_of, plan_with}

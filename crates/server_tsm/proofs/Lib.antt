@@ -9,3 +9,5 @@ pub mod Planned
 pub mod Busy
 pub mod Silent
 pub mod Fitted
+-- What the proofs above cite of those below.
+pub use Rattle.server_answers.proofs.remembered as remembered

@@ -7,7 +7,7 @@ use Rattle.primitives.specs.declared.plain_data.Request.{Request}
 use Rattle.profile.specs.Limits.{MAX_SERVICE_DATA_OCTETS}
 use Rattle.segments.specs.Receiver.{ReceiverState, joining_after, joins, step_of}
 use Rattle.segments.specs.declared.step.Step.{Step}
-use Rattle.services.specs.Request.{RejectsRequest, SpellsRequest}
+use Rattle.server_answers.specs.services.Request.{RejectsRequest, SpellsRequest}
 use Rattle.server_answers.specs.declared.asked.Asked.{Asked}
 use Rattle.server_answers.specs.declared.asked.Origin.{Origin}
 use Rattle.server_tsm.specs.Hearing.{Heard, Whole, completed, completed_if, finished_by, joined, joined_by}

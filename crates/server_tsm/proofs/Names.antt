@@ -3,8 +3,8 @@ use Rattle.std.proofs.Common.{◌≡◌, sym}
 use Rattle.objects.specs.Machine.{reply, after}
 use Rattle.object_model.specs.Objects.{PlainTable}
 use Rattle.primitives.specs.declared.plain_data.Request.{Request}
-use Rattle.services.proofs.AskedNames.{left_by_is, replied_is}
-use Rattle.services.specs.Asked.{left_by, replied}
+use Rattle.server_answers.proofs.services.AskedNames.{left_by_is, replied_is}
+use Rattle.server_answers.specs.services.Asked.{left_by, replied}
 
 pub left_is : {A : Type 0} (t : PlainTable A) (request : Request A) → after t request ≡ left_by t request
 left_is t request = sym (left_by_is t request)

@@ -3,7 +3,7 @@ use Rattle.std.proofs.Common.{◌≡◌, ◌∙◌, refl, sym, ap, subst, ℕ, �
 use Rattle.std.proofs.lemmas.List.{append_assoc}
 use Rattle.std.specs.List.{find, flat_map}
 use Rattle.std.specs.Prelude.{OnOk, IfSome, Option, Some, None, Result, Ok, Err, cond, zero, suc, filter, remove, slice_get, slice_index_or, slice_set}
-use Rattle.remembered.specs.declared.record.Asker.{Asker}
+use Rattle.server_answers.specs.remembered.declared.record.Asker.{Asker}
 use Rattle.server_answers.specs.Gathering.{is_for, still}
 use Rattle.server_answers.specs.declared.gathering.RequestGathering.{RequestGathering}
 use Rattle.server_tsm.specs.Places.{IsPlaceOf}

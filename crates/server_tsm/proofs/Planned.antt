@@ -6,16 +6,16 @@ use Rattle.apdu.specs.declared.apdu.Segment.{Segment}
 use Rattle.apdu.specs.declared.numbers.RejectReason.{RejectReason}
 use Rattle.primitives.specs.declared.plain_data.Request.{Request}
 use Rattle.primitives.specs.declared.plain_data.Reply.TheVariants.{Values, Many, Done, Error, ErrorAt}
-use Rattle.remembered.proofs.Living.{full_is_living as living_are_full}
-use Rattle.remembered.specs.Records.{AreAscending, is_full, lives, remembered}
-use Rattle.remembered.specs.declared.record.Record.{Record}
+use Rattle.server_answers.proofs.remembered.Living.{full_is_living as living_are_full}
+use Rattle.server_answers.specs.remembered.Records.{AreAscending, is_full, lives, remembered}
+use Rattle.server_answers.specs.remembered.declared.record.Record.{Record}
 use Rattle.segments.specs.Receiver.{joins}
 use Rattle.segments.specs.declared.step.Step.{Step}
 use Rattle.profile.specs.Limits.{MAX_REMEMBERED, MAX_SERVICE_DATA_OCTETS}
-use Rattle.services.proofs.NoRequest.{request_not_spelled}
-use Rattle.services.proofs.OneReason.{one_reason}
-use Rattle.services.proofs.OneRequest.{one_request}
-use Rattle.services.specs.Asked.{replied}
+use Rattle.server_answers.proofs.services.NoRequest.{request_not_spelled}
+use Rattle.server_answers.proofs.services.OneReason.{one_reason}
+use Rattle.server_answers.proofs.services.OneRequest.{one_request}
+use Rattle.server_answers.specs.services.Asked.{replied}
 use Rattle.server_tsm.proofs.Arms.{holds_of_plan}
 use Rattle.server_tsm.proofs.Full.{full_is_living}
 use Rattle.server_answers.specs.Answering.{answer_of}

@@ -2,8 +2,8 @@
 use Rattle.std.proofs.Common.{◌≡◌, refl, subst, ℕ, Bool, true, false, List, [], ◌∷◌, ◌++◌}
 use Rattle.std.specs.Prelude.{zero, suc, Option, Some, slice_get}
 use Rattle.std.specs.List.{AllByRecursion, flat_map}
-use Rattle.remembered.specs.Records.{lives}
-use Rattle.remembered.specs.declared.record.Record.{Record}
+use Rattle.server_answers.specs.remembered.Records.{lives}
+use Rattle.server_answers.specs.remembered.declared.record.Record.{Record}
 use Rattle.segments.specs.declared.step.Turn.{Turn}
 use Rattle.segments.specs.declared.step.Turn.TheVariants.{Waits, Sends, Ends}
 use Rattle.server_answers.specs.Answering.{answered_by}

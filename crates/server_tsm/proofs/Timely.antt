@@ -2,9 +2,9 @@
 use Rattle.std.proofs.Common.{◌≡◌, refl, ℕ, ◌≤◌, Bool, true, false, List, [], ◌∷◌, ◌++◌, arith}
 use Rattle.std.specs.Prelude.{Option, Some, None, if◌then◌else◌}
 use Rattle.npdu.specs.declared.mac.Way.{Way}
-use Rattle.remembered.specs.Records.{AreAscending, AreFrom, forgotten, is_of, lives, newest, said_again, said_by}
-use Rattle.remembered.specs.declared.record.Asker.{Asker}
-use Rattle.remembered.specs.declared.record.Record.{Record}
+use Rattle.server_answers.specs.remembered.Records.{AreAscending, AreFrom, forgotten, is_of, lives, newest, said_again, said_by}
+use Rattle.server_answers.specs.remembered.declared.record.Asker.{Asker}
+use Rattle.server_answers.specs.remembered.declared.record.Record.{Record}
 use Rattle.segments.specs.Sender.{SenderState}
 use Rattle.server_tsm.specs.Server.{AreTimely, AreUpTo, stamped}
 use Rattle.server_tsm.specs.Waking.{after_sayings, after_saying}

@@ -10,9 +10,9 @@ use Rattle.apdu.specs.declared.numbers.RejectReason.{RejectReason}
 use Rattle.npdu.specs.declared.mac.Way.{Way}
 use Rattle.primitives.specs.declared.plain_data.Request.{Request}
 use Rattle.primitives.specs.declared.plain_data.Reply.{Reply}
-use Rattle.remembered.specs.Records.{is_full, remembered, said_on}
-use Rattle.remembered.specs.declared.record.Asker.{Asker}
-use Rattle.remembered.specs.declared.record.Record.{Record}
+use Rattle.server_answers.specs.remembered.Records.{is_full, remembered, said_on}
+use Rattle.server_answers.specs.remembered.declared.record.Asker.{Asker}
+use Rattle.server_answers.specs.remembered.declared.record.Record.{Record}
 use Rattle.segments.specs.Sender.{SenderState, Turned, has_ended, hears}
 use Rattle.segments.specs.Receiver.{ReceiverState, granted_window, joins, nothing_joined}
 use Rattle.profile.specs.Limits.{MAX_GATHERINGS, MAX_SERVICE_DATA_OCTETS}
@@ -20,7 +20,7 @@ use Rattle.segments.specs.declared.step.Step.{Step}
 use Rattle.segments.specs.declared.step.Step.TheVariants.{Taken, Nak, Dropped, Full}
 use Rattle.segments.specs.declared.step.Turn.{Turn}
 use Rattle.segments.specs.declared.step.Turn.TheVariants as turn
-use Rattle.services.specs.Asked.{replied}
+use Rattle.server_answers.specs.services.Asked.{replied}
 use Rattle.server_answers.specs.Answering.{answered_by, record_of}
 use Rattle.server_answers.specs.Limits.{begun}
 use Rattle.server_answers.specs.Plan.{ServerChange, ServerPlan, Stays, Says, Gathers, GivesUp, Executes, quiet}

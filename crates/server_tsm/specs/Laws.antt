@@ -7,16 +7,16 @@ use Rattle.apdu.specs.declared.numbers.AbortReason.TheVariants.{BufferOverflow, 
 use Rattle.npdu.specs.declared.mac.Way.{Way}
 use Rattle.primitives.specs.declared.plain_data.Reply.{Reply}
 use Rattle.primitives.specs.declared.plain_data.Request.{Request}
-use Rattle.remembered.specs.Records.{lives, remembered}
-use Rattle.remembered.specs.declared.record.Record.{Record}
-use Rattle.remembered.specs.declared.record.RememberedAnswer.{RememberedAnswer}
-use Rattle.remembered.specs.declared.record.RememberedAnswer.TheVariants as kept
+use Rattle.server_answers.specs.remembered.Records.{lives, remembered}
+use Rattle.server_answers.specs.remembered.declared.record.Record.{Record}
+use Rattle.server_answers.specs.remembered.declared.record.RememberedAnswer.{RememberedAnswer}
+use Rattle.server_answers.specs.remembered.declared.record.RememberedAnswer.TheVariants as kept
 use Rattle.segments.specs.Sender.{SenderState}
 use Rattle.segments.specs.Receiver.{joins}
 use Rattle.segments.specs.declared.step.Step.TheVariants.{Taken}
 use Rattle.profile.specs.Limits.{MAX_GATHERINGS, MAX_REMEMBERED, MAX_SERVICE_DATA_OCTETS}
-use Rattle.services.specs.Asked.{replied}
-use Rattle.services.specs.Request.{SpellsRequest}
+use Rattle.server_answers.specs.services.Asked.{replied}
+use Rattle.server_answers.specs.services.Request.{SpellsRequest}
 use Rattle.server_answers.specs.Answering.{answer_apdu, answer_of, answered_by, number_of}
 use Rattle.server_answers.specs.Plan.{quiet, ServerChange, ServerPlan, Stays, GivesUp, Executes}
 use Rattle.server_tsm.specs.Hearing.{Heard, aborting, asks, acknowledges, ack_if, asked_by, asked_on, asker_of, executing, is_deaf, repeated}

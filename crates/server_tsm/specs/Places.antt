@@ -1,6 +1,6 @@
 -- The places of the requests that are gathered.
 use Rattle.std.specs.Prelude.{◌≡◌, ℕ, true, List, Some, slice_get}
-use Rattle.remembered.specs.declared.record.Asker.{Asker}
+use Rattle.server_answers.specs.remembered.declared.record.Asker.{Asker}
 use Rattle.server_answers.specs.Gathering.{gathering_of, is_for}
 use Rattle.server_answers.specs.declared.gathering.RequestGathering.{RequestGathering}
 

@@ -2,12 +2,12 @@
 use Rattle.std.specs.Prelude.{◌≡◌, ℕ, ◌≤◌, false, List, [], ◌∷◌, ◌++◌, length, filter, Option, Some, None}
 use Rattle.apdu.specs.declared.sizes.MaxApdu.{MaxApdu}
 use Rattle.object_model.specs.Objects.{PlainTable}
-use Rattle.remembered.specs.Records.{AreAscending, AreDistinct, askers, forgotten, is_full, remembered}
-use Rattle.remembered.specs.declared.record.Asker.{Asker}
-use Rattle.remembered.specs.declared.record.Record.{Record}
+use Rattle.server_answers.specs.remembered.Records.{AreAscending, AreDistinct, askers, forgotten, is_full, remembered}
+use Rattle.server_answers.specs.remembered.declared.record.Asker.{Asker}
+use Rattle.server_answers.specs.remembered.declared.record.Record.{Record}
 use Rattle.profile.specs.Ages as age
 use Rattle.profile.specs.Limits.{MAX_REMEMBERED}
-use Rattle.services.specs.Asked.{left_by}
+use Rattle.server_answers.specs.services.Asked.{left_by}
 use Rattle.server_answers.specs.Gathering.{gathered_with, gathering_of, is_kept, receiver_of}
 use Rattle.server_tsm.specs.Waking.{after_sayings, after_saying}
 use Rattle.server_answers.specs.declared.gathering.RequestGathering.{RequestGathering}

@@ -2,7 +2,7 @@
 use Rattle.std.specs.Prelude.{◌≡◌, ℕ, List, Option, Some, None, Result, Ok, Err}
 use Rattle.apdu.specs.declared.numbers.RejectReason.{RejectReason}
 use Rattle.primitives.specs.declared.plain_data.Request.{Request}
-use Rattle.services.specs.Request.{RejectsRequest, SpellsRequest}
+use Rattle.server_answers.specs.services.Request.{RejectsRequest, SpellsRequest}
 use Rattle.server_tsm.specs.Hearing.{Heard, Reached, Whole, plans, completes, reached, finished}
 use Rattle.server_answers.specs.Plan.{ServerPlan}
 use Rattle.server_tsm.specs.Server.{ServerTsmState, committed}

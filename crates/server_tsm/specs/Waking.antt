@@ -1,8 +1,8 @@
 -- What a server does when it wakes, one remembered answer after another in order of execution (5.4.5).
 use Rattle.std.specs.Prelude.{ℕ, Bool, true, false, List, [], ◌∷◌, Option, Some, None}
 use Rattle.std.specs.List.{flat_map}
-use Rattle.remembered.specs.Records.{lives, said_again}
-use Rattle.remembered.specs.declared.record.Record.{Record}
+use Rattle.server_answers.specs.remembered.Records.{lives, said_again}
+use Rattle.server_answers.specs.remembered.declared.record.Record.{Record}
 use Rattle.segments.specs.Sender.{SenderState, wakes}
 use Rattle.segments.specs.declared.step.Turn.{Turn}
 use Rattle.segments.specs.declared.step.Turn.TheVariants.{Waits, Sends, Ends}

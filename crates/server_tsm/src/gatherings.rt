@@ -11,9 +11,8 @@ ghost use Rattle.tags.specs.Number.{bit};
 
 use apdu::Segment;
 use profile::MAX_GATHERINGS;
-use remembered::Asker;
 use segments::{Receiver, granted_window};
-use server_answers::{Asked, RequestGathering};
+use server_answers::{Asked, Asker, RequestGathering};
 use std::alloc::{AllocError, Allocator};
 
 /// Keeps what is still gathered, but for what is of an excepted asker.

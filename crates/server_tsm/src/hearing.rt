@@ -17,13 +17,12 @@ use crate::server::ServerTsm;
 use apdu::{AbortReason, Apdu, RejectReason, Segment};
 use primitives::{Reply, Request};
 use profile::{MAX_SERVICE_DATA_OCTETS, has_no_place, lives};
-use remembered::{Asker, Record, Records};
 use segments::{Receiver, Step, granted_window};
 use server_answers::{
-    AnswerLimits, Asked, Executed, Origin, QuietChange, RequestGathering, ServerPlan, ServerSaid,
-    ServerTold, answer_chunk, fitted, kept_answer, push_window, recorded,
+    AnswerLimits, Asked, Asker, Executed, Executor, Origin, QuietChange, Record, Records,
+    RequestGathering, ServerPlan, ServerSaid, ServerTold, answer_chunk, decode_request, fitted,
+    kept_answer, push_window, recorded,
 };
-use services::{Executor, decode_request};
 use std::alloc::{AllocError, Allocator};
 use tags::{Items, Octets};
 
@@ -139,9 +138,9 @@ fn answering<A: Allocator + Copy>(
 impl<E: Executor<A> + Drop, A: Allocator + Copy> ServerTsm<E, A> {
     ghost use Rattle.std.specs.Prelude.{◌≡◌, ◌≤◌, ◌^◌, ◌==◌, IfOk, OnErr, Some, option_copied};
     ghost use Rattle.primitives.specs.Sound.{IsSoundRequest};
-    ghost use Rattle.remembered.specs.Records.{is_full, remembered};
+    ghost use Rattle.server_answers.specs.remembered.Records.{is_full, remembered};
     ghost use Rattle.segments.specs.Receiver.{joining_after};
-    ghost use Rattle.services.specs.Asked.{replied};
+    ghost use Rattle.server_answers.specs.services.Asked.{replied};
     ghost use Rattle.server_answers.specs.Gathering.{gathering_of};
     ghost use Rattle.server_tsm.specs.Hearing.{
       begins_if,

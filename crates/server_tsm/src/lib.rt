@@ -61,5 +61,5 @@ pub use laws::{
 pub use server::ServerTsm;
 pub use server_answers::{
     AnswerLimits, Asked, Executed, Origin, QuietChange, RequestGathering, Saying, ServerPlan,
-    ServerPlanSaid, ServerSaid, ServerTold, write_whole,
+    ServerPlanSaid, ServerSaid, ServerTold, WholeAnswer, write_whole,
 };

@@ -1,16 +1,15 @@
 //! A remembered answer that is said, whole or in segments (5.4.5.3, 5.4.5.4).
 
 ghost use Rattle.std.specs.Prelude.{◌≡◌, IfOk, None, option_copied};
-ghost use Rattle.remembered.specs.Records.{said_on};
+ghost use Rattle.server_answers.specs.remembered.Records.{said_on};
 ghost use Rattle.server_tsm.specs.Hearing.{ack_heard, ack_taken, given_up, is_sending};
 ghost use Rattle.server_answers.specs.Plan.{change_of, quiet};
 ghost use Rattle.server_tsm.specs.Hearing.{repeated, answer_plan, turned_by};
 ghost use Rattle.server_tsm.specs.Waking.{saying_by};
 
 use npdu::Way;
-use remembered::{Asker, Record};
 use segments::{Sender, Turn};
-use server_answers::{QuietChange, Saying, ServerPlan, begun, push_answer};
+use server_answers::{Asker, QuietChange, Record, Saying, ServerPlan, begun, push_answer};
 use std::alloc::{AllocError, Allocator};
 use tags::Items;
 

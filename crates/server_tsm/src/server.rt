@@ -7,12 +7,10 @@ ghost use Rattle.server_tsm.specs.Waking.{after_sayings};
 use crate::gatherings::{copied, keep_gathered, take_joined};
 use apdu::{MaxApdu, Segment};
 use primitives::Request;
-use remembered::{Asker, Record, Records, SlabRecords};
 use server_answers::{
-    Asked, Executed, Planned, QuietChange, RequestGathering, Saying, ServerPlan, ServerTold,
-    push_whole, restart,
+    Asked, Asker, Executed, Executor, Planned, QuietChange, Record, Records, RequestGathering,
+    Saying, ServerPlan, ServerTold, SlabRecords, push_whole, restart,
 };
-use services::Executor;
 use std::alloc::{AllocError, Allocator};
 use std::marker::Model;
 use tags::Items;

@@ -6,10 +6,11 @@ ghost use Rattle.server_tsm.specs.Waking.{again, said_on_wake, saying_on_wake, t
 
 use crate::server::ServerTsm;
 use profile::lives;
-use remembered::{Record, Records, SlabRecords};
 use segments::{Sender, Turn};
-use server_answers::{QuietChange, Saying, ServerPlan, ServerSaid, ServerTold, push_answer};
-use services::Executor;
+use server_answers::{
+    Executor, QuietChange, Record, Records, Saying, ServerPlan, ServerSaid, ServerTold,
+    SlabRecords, push_answer,
+};
 use std::alloc::{AllocError, Allocator};
 use tags::Items;
 

@@ -5,12 +5,12 @@ use Rattle.std.specs.Prelude.{slice_get, slice_set}
 use Rattle.buses.specs.Puts.{BusesState}
 use Rattle.carry.specs.Passing.{PassesOn, PutsOut}
 use Rattle.carry.specs.Things.{Thing, Waiting}
-use Rattle.carry_stations.specs.Within.{IsWithin}
+use Rattle.internetwork.specs.carry_stations.Within.{IsWithin}
 use Rattle.internetwork.specs.carry_world.PlainSteps.{PlainStep, StepsTo, something_passes}
 use Rattle.internetwork.specs.carry_world.PlainWorld.{PlainWorld, Puts}
-use Rattle.client.specs.Client.{ClientState}
-use Rattle.device.specs.Device.{DeviceState}
-use Rattle.headline_bacnet.specs.Refined.{ObjectSite}
+use Rattle.internetwork.specs.client.Client.{ClientState}
+use Rattle.internetwork.specs.device.Device.{DeviceState}
+use Rattle.internetwork.specs.headline_bacnet.Refined.{ObjectSite}
 use Rattle.history.proofs.HasLaws.{has_map, map_has}
 use Rattle.history.proofs.Lists.{has, has_back, has_either, has_front, none_has}
 use Rattle.history.specs.Lists.{Has}
@@ -25,10 +25,10 @@ use Rattle.link_site.specs.Port.{station_of}
 use Rattle.link_site.specs.declared.port.SitePort.{SitePort}
 use Rattle.npdu.specs.declared.mac.Station.{Station}
 use Rattle.npdu.specs.declared.parcel.Parcel.{Parcel}
-use Rattle.site_station.specs.Entity as entity
-use Rattle.site_station.specs.Station.{ITS_PORT, StationTold}
-use Rattle.site_station.specs.declared.entity.Entity.{Entity}
-use Rattle.site_station.specs.declared.entity.Entity.TheVariants.{Device, Client}
+use Rattle.internetwork.specs.site_station.Entity as entity
+use Rattle.internetwork.specs.site_station.Station.{ITS_PORT, StationTold}
+use Rattle.internetwork.specs.site_station.declared.entity.Entity.{Entity}
+use Rattle.internetwork.specs.site_station.declared.entity.Entity.TheVariants.{Device, Client}
 use Rattle.traffic.specs.declared.item.Item.{Item}
 use Rattle.simulator.proofs.Growing.{OutPasses, host_grows, out_passes, waiting_is_within, waits_here}
 use Rattle.simulator.proofs.Parts.{IsPart, part_at, part_none}

@@ -7,13 +7,13 @@ use Rattle.bus_traffic.specs.declared.hearing.HeardFrame.{HeardFrame}
 use Rattle.buses.proofs.HeardLaws.{heard_is_known}
 use Rattle.buses.proofs.KnownLaws.{heard_known}
 use Rattle.carry.specs.Things.{SentFrame, Thing}
-use Rattle.carry_stations.specs.Within.{IsWithin}
+use Rattle.internetwork.specs.carry_stations.Within.{IsWithin}
 use Rattle.internetwork.proofs.carry_world.Promised.{stays_so, step_leads, steps_lead_on}
 use Rattle.internetwork.specs.carry_world.PlainSteps.{PlainStep, StepsTo, something_passes}
 use Rattle.internetwork.specs.carry_world.PlainWorld as plain_world
 use Rattle.internetwork.specs.chronicle.Growing.{told_in}
-use Rattle.headline_bacnet.specs.Refined.{ObjectSite}
-use Rattle.headline_client.proofs.Places.{all_at}
+use Rattle.internetwork.specs.headline_bacnet.Refined.{ObjectSite}
+use Rattle.internetwork.proofs.headline_client.Places.{all_at}
 use Rattle.history.proofs.HasLaws.{all_has}
 use Rattle.history.proofs.Lists.{has, has_back, has_either, has_front, has_next}
 use Rattle.history.specs.Lists.{Has}
@@ -38,11 +38,11 @@ use Rattle.npdu.specs.declared.mac.Mac.TheVariants.{One}
 use Rattle.npdu.specs.declared.mac.Station.{Station}
 use Rattle.npdu.specs.declared.parcel.Parcel.{Parcel}
 use Rattle.profile.specs.Times.{LIFE_MS}
-use Rattle.relays.proofs.RelayLaws.{counting_relay_passes_on, relay_passes_frame_on, relay_stays_at_counting, relay_stays_at_frame}
-use Rattle.relays.specs.Laws.{RelayStands, SiteRelay, site_places}
-use Rattle.site_station.proofs.StationKeeping.{frame_keeps, octets_keep}
-use Rattle.site_station.specs.Entity as entity
-use Rattle.site_station.specs.declared.entity.EntityTold.{EntityTold}
+use Rattle.internetwork.proofs.relays.RelayLaws.{counting_relay_passes_on, relay_passes_frame_on, relay_stays_at_counting, relay_stays_at_frame}
+use Rattle.internetwork.specs.relays.Laws.{RelayStands, SiteRelay, site_places}
+use Rattle.internetwork.proofs.site_station.StationKeeping.{frame_keeps, octets_keep}
+use Rattle.internetwork.specs.site_station.Entity as entity
+use Rattle.internetwork.specs.site_station.declared.entity.EntityTold.{EntityTold}
 use Rattle.simulator.proofs.ActLaws.{and_said, mid, passes_then, plain_with, quiet, said_waits, two_steps}
 use Rattle.simulator.proofs.HearLeads.{AreComing, answer_step, comes_up, silent_step}
 use Rattle.simulator.proofs.PassLeads.{passing, waits_among}

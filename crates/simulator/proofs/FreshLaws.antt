@@ -10,11 +10,11 @@ use Rattle.internetwork.proofs.hosts.SiteLaws.{devices_are_site}
 use Rattle.internetwork.specs.hosts.Buses.{bus_of_kind}
 use Rattle.internetwork.specs.hosts.Opening.{client_at, foreign_port, host_at, object_site, opening_relays, opening_stations, opens, place_port, port_at, ports_at, relay_opens}
 use Rattle.internetwork.specs.hosts.Stations.{WorldStation}
-use Rattle.device.specs.Device.{new_device}
+use Rattle.internetwork.specs.device.Device.{new_device}
 use Rattle.npdu.specs.declared.mac.Station as npdu
 use Rattle.profile.specs.declared.link_kind.LinkKind.{LinkKind}
 use Rattle.profile.specs.declared.link_kind.LinkKind.TheVariants.{BacnetIp, MsTp}
-use Rattle.relays.specs.Laws.{SiteRelay}
+use Rattle.internetwork.specs.relays.Laws.{SiteRelay}
 use Rattle.site_parts.specs.declared.parts.Network.{Network}
 use Rattle.site_parts.specs.declared.parts.Station.{Station}
 use Rattle.site_parts.specs.declared.place.Foreign.{Foreign}
@@ -24,8 +24,8 @@ use Rattle.site_parts.specs.declared.place.Place.{Place}
 use Rattle.site_parts.specs.declared.place.Place.TheVariants as place
 use Rattle.site_parts.specs.declared.role.Role.{Role}
 use Rattle.site_parts.specs.declared.role.Role.TheVariants as role
-use Rattle.site_station.specs.declared.entity.Entity.{Entity}
-use Rattle.site_station.specs.declared.entity.Entity.TheVariants.{Device}
+use Rattle.internetwork.specs.site_station.declared.entity.Entity.{Entity}
+use Rattle.internetwork.specs.site_station.declared.entity.Entity.TheVariants.{Device}
 use Rattle.site_views.specs.Views.{host}
 use Rattle.site.specs.Sound.{IsSound}
 use Rattle.site_parts.specs.declared.parts.Parts.{Parts}

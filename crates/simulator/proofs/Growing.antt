@@ -7,7 +7,7 @@ use Rattle.buses.proofs.KnownLaws.{puts_has}
 use Rattle.buses.specs.Puts.{BusesState, put_on}
 use Rattle.carry.specs.Passing.{IsInsideOne, PassesOn}
 use Rattle.carry.specs.Things.{SentFrame, Thing, Waiting}
-use Rattle.carry_stations.specs.Within.{IsWithin}
+use Rattle.internetwork.specs.carry_stations.Within.{IsWithin}
 use Rattle.internetwork.specs.chronicle.Growing.{frame_from, frame_over, frames_at, frames_behind, item_from, item_over, items_at}
 use Rattle.history.proofs.HasLaws.{flat_has, has_map, map_has}
 use Rattle.history.proofs.Lists.{has, has_back, has_cons, has_either, has_front, has_next, none_has}
@@ -28,7 +28,7 @@ use Rattle.npdu.specs.declared.mac.Mac.{Mac}
 use Rattle.npdu.specs.declared.mac.Mac.TheVariants.{One, Six}
 use Rattle.npdu.specs.declared.mac.Station.{Station}
 use Rattle.npdu.specs.declared.parcel.Parcel.{Parcel}
-use Rattle.relays.specs.Laws.{SiteRelay}
+use Rattle.internetwork.specs.relays.Laws.{SiteRelay}
 use Rattle.traffic.specs.declared.frame.FramePut.{FramePut}
 use Rattle.traffic.specs.declared.item.Item.{Item}
 

@@ -7,9 +7,9 @@ use Rattle.internetwork.specs.carry_world.PlainSteps.{PlainStep, client_hears, d
 use Rattle.internetwork.specs.carry_world.PlainWorld as plain_world
 use Rattle.internetwork.specs.carry_world.PlainWorld.{PlainWorld}
 use Rattle.internetwork.specs.chronicle.Growing.{told_in}
-use Rattle.client.specs.Client.{ClientState}
-use Rattle.device.specs.Device.{DeviceState}
-use Rattle.headline_bacnet.specs.Refined.{ObjectSite}
+use Rattle.internetwork.specs.client.Client.{ClientState}
+use Rattle.internetwork.specs.device.Device.{DeviceState}
+use Rattle.internetwork.specs.headline_bacnet.Refined.{ObjectSite}
 use Rattle.history.specs.Lists.{Has}
 use Rattle.internetwork.specs.hosts.Hosts.{IsHost}
 use Rattle.internetwork.specs.hosts.Stations.{WorldStation, clients_of, devices_of}
@@ -29,12 +29,12 @@ use Rattle.npdu.specs.declared.mac.Mac.{Mac}
 use Rattle.npdu.specs.declared.mac.Station.{Station}
 use Rattle.npdu.specs.declared.parcel.Parcel.{Parcel}
 use Rattle.profile.specs.Times.{LIFE_MS}
-use Rattle.site_station.specs.Entity as entity
-use Rattle.site_station.specs.Entity.{EntityHears, OfClient, OfDevice, by_client, silence}
-use Rattle.site_station.specs.Station.{AnswersIf, StationTold}
-use Rattle.site_station.specs.declared.entity.Entity.{Entity}
-use Rattle.site_station.specs.declared.entity.Entity.TheVariants.{Device, Client}
-use Rattle.site_station.specs.declared.entity.EntityTold.{EntityTold}
+use Rattle.internetwork.specs.site_station.Entity as entity
+use Rattle.internetwork.specs.site_station.Entity.{EntityHears, OfClient, OfDevice, by_client, silence}
+use Rattle.internetwork.specs.site_station.Station.{AnswersIf, StationTold}
+use Rattle.internetwork.specs.site_station.declared.entity.Entity.{Entity}
+use Rattle.internetwork.specs.site_station.declared.entity.Entity.TheVariants.{Device, Client}
+use Rattle.internetwork.specs.site_station.declared.entity.EntityTold.{EntityTold}
 use Rattle.traffic.specs.declared.item.Item.{Item}
 use Rattle.simulator.proofs.ActLaws.{acts_puts, client_acts, device_acts, mid, nothing_said, plain_with}
 

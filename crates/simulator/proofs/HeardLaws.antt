@@ -10,15 +10,15 @@ use Rattle.internetwork.specs.carry_world.Laws.{IsExecuted, IsFresh, IsIssuedTo,
 use Rattle.internetwork.specs.carry_world.PlainSteps.{StepsTo}
 use Rattle.internetwork.specs.carry_world.PlainWorld as plain_world
 use Rattle.internetwork.specs.carry_world.PlainWorld.{PlainWorld}
-use Rattle.client.specs.Client.{ClientState}
-use Rattle.client_tsm.specs.declared.plan.TransactionOutcome.{TransactionOutcome}
-use Rattle.device.specs.Device.{DeviceState}
+use Rattle.internetwork.specs.client.Client.{ClientState}
+use Rattle.internetwork.specs.client_tsm.declared.plan.TransactionOutcome.{TransactionOutcome}
+use Rattle.internetwork.specs.device.Device.{DeviceState}
 use Rattle.headline.specs.Happenings.{Fails, Gives, Outcome}
 use Rattle.headline.specs.Protocol.{IsSite}
-use Rattle.headline_bacnet.specs.Protocol.{bacnet}
-use Rattle.headline_bacnet.specs.Refined.{ObjectSite}
-use Rattle.headline_client.proofs.Places.{all_weaken}
-use Rattle.headline_client.specs.Told.{outcome_of}
+use Rattle.internetwork.specs.headline_bacnet.Protocol.{bacnet}
+use Rattle.internetwork.specs.headline_bacnet.Refined.{ObjectSite}
+use Rattle.internetwork.proofs.headline_client.Places.{all_weaken}
+use Rattle.internetwork.specs.headline_client.Told.{outcome_of}
 use Rattle.history.proofs.Lists.{has, has_next}
 use Rattle.history.specs.Lists.{Has}
 use Rattle.internetwork.specs.hosts.Hosts.{IsHost}
@@ -40,13 +40,13 @@ use Rattle.link_site.specs.declared.port.SitePort.{SitePort}
 use Rattle.npdu.specs.declared.mac.Station.{Station}
 use Rattle.npdu.specs.declared.parcel.Parcel.{Parcel}
 use Rattle.primitives.specs.declared.plain_data.Reply.{Reply}
-use Rattle.server_answers.specs.declared.plan.Executed.{Executed}
-use Rattle.site_station.specs.Entity as entity
-use Rattle.site_station.specs.Entity.{EntityHears}
-use Rattle.site_station.specs.Station.{AnswersIf, StationTold}
-use Rattle.site_station.specs.declared.entity.Entity.{Entity}
-use Rattle.site_station.specs.declared.entity.Entity.TheVariants.{Device, Client}
-use Rattle.site_station.specs.declared.entity.EntityTold.{EntityTold}
+use Rattle.internetwork.specs.server_answers.declared.plan.Executed.{Executed}
+use Rattle.internetwork.specs.site_station.Entity as entity
+use Rattle.internetwork.specs.site_station.Entity.{EntityHears}
+use Rattle.internetwork.specs.site_station.Station.{AnswersIf, StationTold}
+use Rattle.internetwork.specs.site_station.declared.entity.Entity.{Entity}
+use Rattle.internetwork.specs.site_station.declared.entity.Entity.TheVariants.{Device, Client}
+use Rattle.internetwork.specs.site_station.declared.entity.EntityTold.{EntityTold}
 use Rattle.traffic.specs.declared.item.Item.{Item}
 use Rattle.simulator.proofs.ActLaws.{client_acts, device_acts, plain_with}
 use Rattle.simulator.proofs.BusLeads as bus

@@ -6,15 +6,15 @@ use Rattle.apdu.specs.declared.unconfirmed.Limits.{Limits}
 use Rattle.buses.proofs.KnownLaws.{ears_anew_known}
 use Rattle.buses.specs.Puts.{BusesState}
 use Rattle.carry.specs.Things.{SentFrame, Thing}
-use Rattle.carry_stations.specs.Within.{IsWithin}
+use Rattle.internetwork.specs.carry_stations.Within.{IsWithin}
 use Rattle.internetwork.proofs.carry_world.Promised.{step_leads}
 use Rattle.internetwork.specs.carry_world.PlainSteps.{PlainStep, StepsTo, client_asks, client_issues, client_wakes, device_restarts, device_wakes, time_passes}
 use Rattle.internetwork.specs.carry_world.PlainWorld as plain_world
 use Rattle.internetwork.specs.carry_world.PlainWorld.{PlainWorld}
 use Rattle.internetwork.specs.chronicle.Growing.{told_in}
-use Rattle.client.specs.Saying.{who_is_parcel}
-use Rattle.device.specs.Device.{restarts}
-use Rattle.headline_bacnet.specs.Refined.{ObjectSite}
+use Rattle.internetwork.specs.client.Saying.{who_is_parcel}
+use Rattle.internetwork.specs.device.Device.{restarts}
+use Rattle.internetwork.specs.headline_bacnet.Refined.{ObjectSite}
 use Rattle.history.proofs.HasLaws.{all_has, has_map}
 use Rattle.history.proofs.Lists.{has, has_front, none_has}
 use Rattle.history.specs.Lists.{Has}
@@ -49,14 +49,14 @@ use Rattle.npdu.specs.declared.parcel.Parcel.{Parcel}
 use Rattle.primitives.specs.Sound.{IsSoundRequest}
 use Rattle.primitives.specs.declared.plain_data.Request.{Request}
 use Rattle.profile.specs.Times.{LIFE_MS}
-use Rattle.relays.specs.Finding.{place_of}
-use Rattle.site_station.proofs.StationKeeping.{hears_keep, says_keep, station_wakes_keep}
-use Rattle.site_station.specs.Entity as entity
-use Rattle.site_station.specs.Entity.{EntityAsks, EntityIssues, EntityRestarts, awake, told_awake}
-use Rattle.site_station.specs.Station.{ITS_PORT}
-use Rattle.site_station.specs.declared.entity.Entity.{Entity}
-use Rattle.site_station.specs.declared.entity.Entity.TheVariants.{Device, Client}
-use Rattle.site_station.specs.declared.entity.EntityTold.{EntityTold}
+use Rattle.internetwork.specs.relays.Finding.{place_of}
+use Rattle.internetwork.proofs.site_station.StationKeeping.{hears_keep, says_keep, station_wakes_keep}
+use Rattle.internetwork.specs.site_station.Entity as entity
+use Rattle.internetwork.specs.site_station.Entity.{EntityAsks, EntityIssues, EntityRestarts, awake, told_awake}
+use Rattle.internetwork.specs.site_station.Station.{ITS_PORT}
+use Rattle.internetwork.specs.site_station.declared.entity.Entity.{Entity}
+use Rattle.internetwork.specs.site_station.declared.entity.Entity.TheVariants.{Device, Client}
+use Rattle.internetwork.specs.site_station.declared.entity.EntityTold.{EntityTold}
 use Rattle.simulator.proofs.ActLaws.{acts_puts, and_said, client_acts, device_acts, marked_same, mid, nobody_acts, passes_then, plain_with, quiet, said_waits, two_steps}
 use Rattle.simulator.proofs.BusLeads.{hears_lead}
 use Rattle.simulator.proofs.HearLeads.{AreComing, answer_step, comes_up, silent_step}

@@ -5,7 +5,7 @@ use Rattle.internetwork.proofs.carry_world.Promised.{all_said, is_legal, steps_l
 use Rattle.internetwork.specs.carry_world.Laws.{IsFresh, IsLegal, WholeIsIssued}
 use Rattle.internetwork.specs.carry_world.PlainSteps.{StepsTo}
 use Rattle.headline.specs.Protocol.{IsSite}
-use Rattle.headline_bacnet.specs.Protocol.{bacnet}
+use Rattle.internetwork.specs.headline_bacnet.Protocol.{bacnet}
 use Rattle.site_parts.specs.declared.parts.Parts.{Parts}
 use Rattle.simulator.proofs.LeadLaws.{steps_lead}
 use Rattle.internetwork.specs.Laws.{Stands}

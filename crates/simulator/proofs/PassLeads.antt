@@ -5,8 +5,8 @@ use Rattle.buses.specs.Puts.{BusesState}
 use Rattle.carry.specs.Passing.{PassesOn}
 use Rattle.carry.specs.Things.{Thing, Waiting}
 use Rattle.internetwork.specs.carry_world.PlainSteps.{PlainStep, something_passes}
-use Rattle.headline_bacnet.specs.Refined.{ObjectSite}
-use Rattle.headline_client.proofs.Places.{all_at}
+use Rattle.internetwork.specs.headline_bacnet.Refined.{ObjectSite}
+use Rattle.internetwork.proofs.headline_client.Places.{all_at}
 use Rattle.history.proofs.HasLaws.{has_map}
 use Rattle.history.proofs.Lists.{has, has_back, has_either, has_front, none_has}
 use Rattle.history.specs.Lists.{Has}
@@ -18,10 +18,10 @@ use Rattle.npdu.proofs.Stations.{one_station}
 use Rattle.npdu.specs.Mac.{same_station}
 use Rattle.npdu.specs.declared.mac.Station.{Station}
 use Rattle.npdu.specs.declared.parcel.Parcel.{Parcel}
-use Rattle.relays.proofs.RelayLaws.{relay_passes_on, woken_relay_passes_on}
-use Rattle.relays.specs.Finding.{place_from, place_of}
-use Rattle.relays.specs.Laws.{IsMac, Passes, RelayStands, SiteRelay, Waits, WaitsAmong, site_places}
-use Rattle.relays.specs.declared.relay.Relay.TheVariants.{Router, Manager}
+use Rattle.internetwork.proofs.relays.RelayLaws.{relay_passes_on, woken_relay_passes_on}
+use Rattle.internetwork.specs.relays.Finding.{place_from, place_of}
+use Rattle.internetwork.specs.relays.Laws.{IsMac, Passes, RelayStands, SiteRelay, Waits, WaitsAmong, site_places}
+use Rattle.internetwork.specs.relays.declared.relay.Relay.TheVariants.{Router, Manager}
 use Rattle.traffic.specs.declared.item.Item.{Item}
 use Rattle.simulator.proofs.ActLaws.{marked_same, plain_with}
 use Rattle.simulator.proofs.Growing.{relay_grows, waits_there}

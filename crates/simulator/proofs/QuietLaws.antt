@@ -25,13 +25,13 @@ use Rattle.link_site.specs.declared.port.SitePort.TheVariants.{Ip, Bus}
 use Rattle.mstp_table.specs.Node.{all_sent}
 use Rattle.mstp_table.specs.Table.{Octets, step}
 use Rattle.npdu.specs.declared.parcel.Parcel.{Parcel}
-use Rattle.relays.specs.Laws.{SiteRelay, site_places}
-use Rattle.relays.specs.Steps.{RelayCounts}
-use Rattle.relays.specs.declared.relay.Relay.TheVariants.{Router, Manager}
+use Rattle.internetwork.specs.relays.Laws.{SiteRelay, site_places}
+use Rattle.internetwork.specs.relays.Steps.{RelayCounts}
+use Rattle.internetwork.specs.relays.declared.relay.Relay.TheVariants.{Router, Manager}
 use Rattle.simulator.specs.Quiet.{HostPortAlone, OthersStay, PortAlone, PortAloneAs, PortAndEarAlone, QuietHears, RelayPortAlone, StaysButPort}
-use Rattle.site_station.specs.Entity as entity
+use Rattle.internetwork.specs.site_station.Entity as entity
 use Rattle.site_parts.specs.declared.parts.Parts.{Parts}
-use Rattle.site_station.specs.declared.entity.EntityTold.{EntityTold}
+use Rattle.internetwork.specs.site_station.declared.entity.EntityTold.{EntityTold}
 use Rattle.traffic.specs.declared.item.Item.{Item}
 
 -- a place that is set is the only one that may differ

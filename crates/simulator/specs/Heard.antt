@@ -4,14 +4,14 @@ use Rattle.std.specs.List.{AllByRecursion}
 use Rattle.apdu.specs.Apdu.{PlainApdu}
 use Rattle.bus_traffic.specs.declared.hearing.HeardFrame.{HeardFrame}
 use Rattle.internetwork.specs.carry_world.Laws.{IsHeardAsSaid, IsIssuedTo, IsOfItsIssue}
-use Rattle.client.specs.Client.{ClientState}
-use Rattle.device.specs.Device.{DeviceState}
+use Rattle.internetwork.specs.client.Client.{ClientState}
+use Rattle.internetwork.specs.device.Device.{DeviceState}
 use Rattle.npdu.specs.declared.parcel.Parcel.{Parcel}
-use Rattle.server_answers.specs.declared.plan.Executed.{Executed}
-use Rattle.site_station.specs.Entity.{station_of}
-use Rattle.site_station.specs.declared.entity.Entity.{Entity}
-use Rattle.site_station.specs.declared.entity.Entity.TheVariants.{Device, Client}
-use Rattle.site_station.specs.declared.entity.EntityTold.{EntityTold}
+use Rattle.internetwork.specs.server_answers.declared.plan.Executed.{Executed}
+use Rattle.internetwork.specs.site_station.Entity.{station_of}
+use Rattle.internetwork.specs.site_station.declared.entity.Entity.{Entity}
+use Rattle.internetwork.specs.site_station.declared.entity.Entity.TheVariants.{Device, Client}
+use Rattle.internetwork.specs.site_station.declared.entity.EntityTold.{EntityTold}
 use Rattle.unitdata.specs.Hearing.{Brings, Heard, says}
 use Rattle.internetwork.specs.Hearing.{Hears, TakesAs, TakesEach}
 use Rattle.internetwork.specs.Step.{Delivers}

@@ -3,7 +3,7 @@ use Rattle.internetwork.specs.carry_world.Laws.{IsFresh}
 use Rattle.internetwork.specs.carry_world.PlainSteps.{StepsTo}
 use Rattle.internetwork.specs.carry_world.PlainWorld.{PlainWorld}
 use Rattle.headline.specs.Protocol.{IsSite}
-use Rattle.headline_bacnet.specs.Protocol.{bacnet}
+use Rattle.internetwork.specs.headline_bacnet.Protocol.{bacnet}
 use Rattle.internetwork.specs.hosts.Opening.{object_site}
 use Rattle.internetwork.specs.Laws.{Stands}
 use Rattle.internetwork.specs.Step.{IsSoundEvent, Steps}

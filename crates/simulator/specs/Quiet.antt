@@ -6,8 +6,8 @@ use Rattle.internetwork.specs.World.{WorldState}
 use Rattle.internetwork.specs.declared.listener.Listener.{Listener}
 use Rattle.internetwork.specs.declared.listener.Whom.{Whom}
 use Rattle.internetwork.specs.declared.listener.Whom.TheVariants.{Host, Relay}
-use Rattle.relays.specs.Laws.{SiteRelay}
-use Rattle.relays.specs.declared.relay.Relay.TheVariants.{Router, Manager}
+use Rattle.internetwork.specs.relays.Laws.{SiteRelay}
+use Rattle.internetwork.specs.relays.declared.relay.Relay.TheVariants.{Router, Manager}
 
 -- all but the one at a place stay
 abbrev pub OthersStay : {X : Type 0} → (place : ℕ) → (old new : List X) → Type 0

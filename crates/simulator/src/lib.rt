@@ -14,6 +14,6 @@ mod laws;
 mod world;
 
 pub use flow::Flow;
-pub use internetwork::{Event, Internetwork, WorldEntry};
+pub use internetwork::{Event, Internetwork, SaidMessage, WorldEntry};
 pub use laws::{events_lead, quiet_hears};
 pub use world::World;

@@ -15,3 +15,5 @@ mod putting;
 
 pub use capturing::capture;
 pub use living::LiveCapture;
+pub use site_live::{Ending, Settings, Stop, run_over_udp, run_over_udp_observed, say_stop};
+pub use site_steps::{simulate, simulate_traced};

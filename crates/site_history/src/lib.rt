@@ -15,6 +15,7 @@ mod printed;
 mod printing;
 mod stop;
 
+pub use console::say_failed;
 pub use counting::{Counts, counted};
 pub use printed::{EndLine, EntryLine, RefusedLine};
 pub use printing::{print_entries, print_refusal};

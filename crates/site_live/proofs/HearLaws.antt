@@ -1,8 +1,8 @@
 -- Frames are heard, one after another.
 use Rattle.std.proofs.Common.{subst, [], Some}
-use Rattle.frame_hearing.proofs.HearingLaws.{next_less, passed_less}
-use Rattle.frame_hearing.specs.Hearing.{HearsNext}
-use Rattle.frame_hearing.specs.declared.hearing.Heard.{Heard}
+use Rattle.runner.proofs.HearingLaws.{next_less, passed_less}
+use Rattle.runner.specs.Hearing.{HearsNext}
+use Rattle.runner.specs.declared.hearing.Heard.{Heard}
 use Rattle.runner.specs.internetwork.World.{WorldState}
 use Rattle.runner.specs.internetwork.declared.event.Event.{Event}
 use Rattle.runner.specs.Runner.{RunnerState}

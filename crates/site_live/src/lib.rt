@@ -28,6 +28,7 @@ pub use observer::{Nobody, Observer};
 pub use reading::live_steps_of;
 pub use runner::Internetwork;
 pub use running::{Ending, Opened, Settings, open, run, run_over_udp, run_over_udp_observed};
+pub use site_history::{Stop, say_stop};
 pub use step::LiveStep;
 pub use timer::{SystemTimer, Timer};
 pub use wire::Got;

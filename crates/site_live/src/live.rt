@@ -7,8 +7,7 @@ use crate::observer::Observer;
 use crate::step::LiveStep;
 use crate::timer::Timer;
 use crate::turning::print_turn;
-use frame_hearing::{Heard, next_hear};
-use runner::{Event, Internetwork, Runner, World};
+use runner::{Event, Heard, Internetwork, Runner, World, next_hear};
 use site_history::print_refusal;
 use std::alloc::{AllocError, Allocator};
 use std::io;
@@ -78,7 +77,7 @@ fn stray_of<'w, W: Wire, A: Allocator + Copy>(runner: &Runner<A>, wire: &'w W) -
 
 impl<W: Wire + Drop, T: Timer + Drop, S: Observer<A> + Drop, A: Allocator + Copy> Live<W, T, S, A> {
     ghost use Rattle.std.specs.Prelude.{◌≡◌, ◌<◌, [], true, false, IfOk, OnOk};
-    ghost use Rattle.frame_hearing.specs.Hearing.{left_to_hear};
+    ghost use Rattle.runner.specs.Hearing.{left_to_hear};
     ghost use Rattle.runner.specs.Runner.{RunnerState};
     ghost use Rattle.site_live.specs.Running.{Lives};
     ghost use Rattle.site_live.specs.Steps.{IsSoundLiveStep, asked_at, asked_in};

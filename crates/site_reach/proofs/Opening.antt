@@ -7,8 +7,8 @@ use Rattle.device.specs.Device.{new_device}
 use Rattle.headline_client.proofs.Places.{all_has, all_join}
 use Rattle.history.proofs.Lists.{has_next}
 use Rattle.history.specs.Lists.{Has}
-use Rattle.hosts.specs.Opening.{client_at, foreign_port, host_at, manager_at, opens, place_port, port_at, relay_opens}
-use Rattle.hosts.specs.Stations.{WorldStation}
+use Rattle.internetwork.specs.hosts.Opening.{client_at, foreign_port, host_at, manager_at, opens, place_port, port_at, relay_opens}
+use Rattle.internetwork.specs.hosts.Stations.{WorldStation}
 use Rattle.internetwork.specs.Refusals.{Comes, Runs}
 use Rattle.internetwork.specs.World.{WorldState, fresh_world}
 use Rattle.internetwork.specs.declared.event.Event.{Event}

@@ -11,11 +11,11 @@ use Rattle.bvll.specs.Datagram.{Spells, register}
 use Rattle.bvll.specs.declared.address.Address.{Address}
 use Rattle.carry.specs.Datagrams.{mac_at}
 use Rattle.carry_stations.proofs.Addresses.{address_again}
-use Rattle.chronicle.specs.Growing.{item_from, item_over, items_at, items_of}
+use Rattle.internetwork.specs.chronicle.Growing.{item_from, item_over, items_at, items_of}
 use Rattle.headline_client.proofs.Places.{all_at, all_join, all_map, all_weaken}
 use Rattle.history.proofs.Lists.{has_cons, has_next, none_has}
 use Rattle.history.specs.Lists.{Has}
-use Rattle.hosts.specs.Stations.{WorldStation}
+use Rattle.internetwork.specs.hosts.Stations.{WorldStation}
 use Rattle.internetwork.proofs.Standing.{all_set}
 use Rattle.internetwork.specs.Acting.{Acts, RelayActs}
 use Rattle.internetwork.specs.Finding.{addressee_of}

@@ -17,4 +17,4 @@ pub use running::{Telling, make, take_steps};
 pub use script::Step;
 pub use simulating::{Opened, open, print_end, simulate, simulate_traced};
 pub use simulator::{Event, Flow, World, WorldEntry};
-pub use site_history::{EndLine, EntryLine, Stop, counted, say_stop};
+pub use site_history::{EndLine, EntryLine, Stop, counted, say_failed, say_stop};

@@ -12,10 +12,9 @@ ghost use Rattle.site_history.specs.Printed.{end_text, line};
 ghost use Rattle.site_run.specs.Simulate.{IsOpened, PrintsRun, Simulates};
 
 use crate::running::{Telling, take_steps};
-use console::say_failed;
 use script::{Step, script_of};
 use simulator::World;
-use site_history::{EndLine, Stop, counted, say_stop};
+use site_history::{EndLine, Stop, counted, say_failed, say_stop};
 use site_text::site_of;
 use std::alloc::{Allocator, Global};
 use std::io;

@@ -18,3 +18,4 @@ mod until;
 
 pub use failure::{Failure, say_found};
 pub use searching::{Found, search};
+pub use site_storm::{Chances, Weather, storm, storm_counted};

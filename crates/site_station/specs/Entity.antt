@@ -9,9 +9,9 @@ use Rattle.client.specs.Plan as client
 use Rattle.client.specs.Saying.{who_is_parcel}
 use Rattle.client.specs.Saying as client_saying
 use Rattle.client.specs.declared.plan.ClientTold.{ClientTold}
-use Rattle.client_tsm.specs.Client as client_tsm
-use Rattle.client_tsm.specs.Steps as client_tsm_steps
-use Rattle.client_tsm.specs.Waking as client_waking
+use Rattle.client.specs.client_tsm.Client as client_tsm
+use Rattle.client.specs.client_tsm.Steps as client_tsm_steps
+use Rattle.client.specs.client_tsm.Waking as client_waking
 use Rattle.device.specs.Device.{DeviceState, restarts}
 use Rattle.device.specs.Hearing.{DeviceHears}
 use Rattle.device.specs.Plan as device
@@ -21,9 +21,9 @@ use Rattle.npdu.specs.declared.mac.Station.{Station}
 use Rattle.npdu.specs.declared.parcel.Parcel.{Parcel}
 use Rattle.object_model.specs.Objects.{PlainTable}
 use Rattle.primitives.specs.declared.plain_data.Request.{Request}
-use Rattle.server_tsm.specs.Server as server_tsm
-use Rattle.server_tsm.specs.Steps as server_tsm_steps
-use Rattle.server_tsm.specs.Waking as server_waking
+use Rattle.device.specs.server_tsm.Server as server_tsm
+use Rattle.device.specs.server_tsm.Steps as server_tsm_steps
+use Rattle.device.specs.server_tsm.Waking as server_waking
 use Rattle.tags.specs.declared.fault.Fault.{Fault}
 use Rattle.tags.specs.declared.fault.Fault.TheVariants.{NoSuch}
 use Rattle.site_station.specs.declared.entity.Entity.{Entity}

@@ -8,13 +8,11 @@ ghost use Rattle.site_station.specs.Entity.{EntityAsks, EntityHears, EntityIssue
 ghost use Rattle.site_station.specs.Entity.{IsClient, IsDevice, RefusesParcel, awake, issue_refusal, left_by, told_awake, told_by};
 
 use apdu::Limits;
-use client::{Client, ClientPlan, ClientTold};
-use client_tsm::TransactionOutcome;
-use device::{Device, DevicePlan, DeviceTold};
+use client::{Client, ClientPlan, ClientTold, TransactionOutcome};
+use device::{Device, DevicePlan, DeviceTold, Executed};
 use npdu::Parcel;
 use objects::Table;
 use primitives::Request;
-use server_answers::Executed;
 use std::alloc::{AllocError, Allocator};
 use tags::{Fault, Items};
 

@@ -11,5 +11,7 @@
 mod entity;
 mod station;
 
+pub use client::{Client, Outcome, TransactionOutcome};
+pub use device::{Device, Executed};
 pub use entity::{Entity, EntityPlan, EntityTold};
 pub use station::{SiteStation, StationPlan};

@@ -7,5 +7,7 @@
 
 mod watching;
 
-pub use site_run::{EndLine, EntryLine, Event, Stop, World, WorldEntry, counted, open};
+pub use site_run::{
+    EndLine, EntryLine, Event, Stop, World, WorldEntry, counted, open, simulate, simulate_traced,
+};
 pub use watching::{Watcher, watch};

@@ -2,9 +2,9 @@
 use Rattle.std.proofs.Common.{◌≡◌, ℕ, ◌+◌, List, [], ◌∷◌, length, refl, sym, arith}
 use Rattle.std.specs.Io.KnownBytes.{Appends}
 use Rattle.std.specs.List.{AllByRecursion}
-use Rattle.simulator.specs.internetwork.Step.{IsSoundEvent}
-use Rattle.simulator.specs.internetwork.World.{WorldState}
-use Rattle.simulator.specs.internetwork.declared.event.Event.{Event}
+use Rattle.site_run.specs.simulator.internetwork.Step.{IsSoundEvent}
+use Rattle.site_run.specs.simulator.internetwork.World.{WorldState}
+use Rattle.site_run.specs.simulator.internetwork.declared.event.Event.{Event}
 use Rattle.site_run.specs.Running.{Known, PrintsEvents}
 use Rattle.site_run.specs.declared.running.Telling.TheVariants.{Entries}
 use Rattle.site_run.proofs.RunLaws.{event_before}

@@ -4,13 +4,13 @@ use Rattle.std.specs.Fmt.{decimal}
 use Rattle.apdu.specs.PduType.{type_number}
 use Rattle.apdu.specs.declared.pdu_type.PduType.{PduType}
 use Rattle.apdu.specs.declared.pdu_type.PduType.TheVariants.{ConfirmedRequest, UnconfirmedRequest, SimpleAck, ComplexAck, SegmentAck, Error, Reject, Abort}
-use Rattle.chronicle.specs.Growing.{WorldHistory}
-use Rattle.chronicle.specs.Kept.{all_said}
-use Rattle.chronicle.specs.declared.saying.SaidMessage.{SaidMessage}
+use Rattle.storm.specs.chronicle.Growing.{WorldHistory}
+use Rattle.storm.specs.chronicle.Kept.{all_said}
+use Rattle.storm.specs.chronicle.declared.saying.SaidMessage.{SaidMessage}
 use Rattle.history.specs.declared.End.{End}
 use Rattle.history.specs.declared.End.TheVariants as why
 use Rattle.history.specs.declared.Entry.TheVariants as entry
-use Rattle.simulator.specs.internetwork.World.{WorldState}
+use Rattle.site_run.specs.simulator.internetwork.World.{WorldState}
 use Rattle.site_storm.specs.Lines.{spaced}
 use Rattle.site_storm.specs.Waits.{WorldEntry, greatest_wait}
 use Rattle.site_storm.specs.declared.counts.Counts.{Counts}

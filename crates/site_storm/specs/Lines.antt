@@ -2,9 +2,9 @@
 use Rattle.std.specs.Prelude.{ℕ, List, [], ◌∷◌, Option, None, Some, codes, flat_map}
 use Rattle.std.specs.Fmt.{decimal}
 use Rattle.apdu.specs.declared.unconfirmed.Limits.{Limits}
-use Rattle.simulator.specs.internetwork.declared.event.Event.{Event}
-use Rattle.simulator.specs.internetwork.declared.event.Event.TheVariants as event
-pub use Rattle.site_history.specs.Printed.{Known, line, spaced}
+use Rattle.site_run.specs.simulator.internetwork.declared.event.Event.{Event}
+use Rattle.site_run.specs.simulator.internetwork.declared.event.Event.TheVariants as event
+pub use Rattle.site_run.specs.site_history.Printed.{Known, line, spaced}
 use Rattle.words.specs.Printed.{octets_text, request_text}
 
 -- a client asks who is there, within limits or without (16.10)

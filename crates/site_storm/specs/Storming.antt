@@ -1,13 +1,13 @@
 -- What is printed of a storm behind a script at a site, as their texts describe them.
 use Rattle.std.specs.Prelude.{◌≡◌, ℕ, List, None}
 use Rattle.std.specs.Io.KnownBytes.{Appends}
-use Rattle.simulator.specs.carry_world.Laws.{IsLegal}
+use Rattle.site_run.specs.simulator.carry_world.Laws.{IsLegal}
 use Rattle.script.specs.declared.step.Step.{Step}
-use Rattle.simulator.specs.hosts.Opening.{object_site}
-use Rattle.simulator.specs.hosts.Stations.{devices_of}
-use Rattle.simulator.specs.internetwork.World.{WorldState}
-use Rattle.site_history.specs.Counting.{counts_of}
-use Rattle.site_history.specs.Printed.{end_text}
+use Rattle.site_run.specs.simulator.hosts.Opening.{object_site}
+use Rattle.site_run.specs.simulator.hosts.Stations.{devices_of}
+use Rattle.site_run.specs.simulator.internetwork.World.{WorldState}
+use Rattle.site_run.specs.site_history.Counting.{counts_of}
+use Rattle.site_run.specs.site_history.Printed.{end_text}
 use Rattle.site_run.specs.Running.{PrintsSteps}
 use Rattle.site_run.specs.Simulate.{IsOpened}
 use Rattle.site_run.specs.declared.running.Telling.TheVariants.{Entries}

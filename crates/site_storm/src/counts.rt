@@ -2,18 +2,18 @@
 
 ghost use Rattle.std.specs.Prelude.{◌≡◌, Some, IfOk};
 ghost use Rattle.std.specs.Fmt.{WritesOnOk};
-ghost use Rattle.simulator.specs.carry_world.Laws.{IsLegal};
-ghost use Rattle.simulator.specs.hosts.Opening.{object_site};
-ghost use Rattle.simulator.specs.hosts.Stations.{devices_of};
+ghost use Rattle.site_run.specs.simulator.carry_world.Laws.{IsLegal};
+ghost use Rattle.site_run.specs.simulator.hosts.Opening.{object_site};
+ghost use Rattle.site_run.specs.simulator.hosts.Stations.{devices_of};
 ghost use Rattle.site_storm.specs.Counting as spec;
 
 use crate::waits::greatest_wait;
 use apdu::PduType;
-use chronicle::SaidMessage;
 use history::{End, Entry};
-use simulator::{World, WorldEntry};
+use site_run::{World, WorldEntry};
 use std::alloc::{AllocError, Allocator};
 use std::fmt;
+use storm::SaidMessage;
 
 /// The kinds of entries that are counted.
 #[derive(Clone, Copy, Debug, PartialEq, Eq)]

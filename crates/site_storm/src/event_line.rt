@@ -5,7 +5,7 @@ ghost use Rattle.std.specs.Fmt.{WritesOnOk};
 ghost use Rattle.site_storm.specs.Lines.{event_text, who_is_text};
 
 use apdu::Limits;
-use simulator::Event;
+use site_run::Event;
 use std::alloc::Allocator;
 use std::fmt;
 use words::{Hex, Words};

@@ -6,8 +6,7 @@ ghost use Rattle.site_storm.specs.Lines.{event_text, line};
 ghost use Rattle.site_storm.specs.Raging.{Rages, RagesOnce};
 
 use crate::event_line::EventLine;
-use simulator::{Event, World};
-use site_run::{Telling, make};
+use site_run::{Event, Telling, World, make};
 use std::alloc::Allocator;
 use std::io;
 use std::io::Write;

@@ -4,7 +4,7 @@ ghost use Rattle.std.specs.Prelude.{◌≡◌, ◌++◌, IfOk, OnOk};
 ghost use Rattle.site_storm.specs.Waits as spec;
 
 use history::Entry;
-use simulator::WorldEntry;
+use site_run::WorldEntry;
 use std::alloc::{AllocError, Allocator};
 
 /// The moment of an entry, in milliseconds, if it is an issue.

@@ -1,0 +1,2 @@
+-- What the layers above cite of those below.
+pub use Rattle.simulator.specs.chronicle as chronicle

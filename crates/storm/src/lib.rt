@@ -29,4 +29,5 @@ mod wakes;
 mod writes;
 
 pub use chances::Chances;
+pub use simulator::SaidMessage;
 pub use storm::Storm;

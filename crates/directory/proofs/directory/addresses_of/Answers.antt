@@ -3,7 +3,7 @@ use Rattle.directory.proofs.DirectoryLaws.{all_made, of_first, one_more}
 use Rattle.directory.proofs.directory.addresses_of.Goals as goal
 use Rattle.hosts.specs.Hosts.{IsHost}
 use Rattle.npdu.specs.declared.mac.Station.{Station}
-use Rattle.site_station.specs.Entity.{station_of}
+use Rattle.hosts.specs.site_station.Entity.{station_of}
 
 pub address_of-requires : goal.address_of-requires
 address_of-requires g c = of_first (λ s. station_of s.entity) (λ s. IsHost c.args.now s) _ c.loop-left.left.now

@@ -2,7 +2,7 @@ use Rattle.std.proofs.Common.{◌≡◌, ◌++◌, length, map}
 use Rattle.std.specs.List.{AllByRecursion}
 use Rattle.directory.proofs.directory.addresses_of.Given as goal
 use Rattle.hosts.specs.Hosts.{IsHost}
-use Rattle.site_station.specs.Entity.{station_of}
+use Rattle.hosts.specs.site_station.Entity.{station_of}
 
 -- those behind are still to come
 abbrev pub invariant-loop-left : goal.invariant-loop-left

@@ -1,6 +1,6 @@
 use Rattle.std.proofs.Common.{◌≡◌, ◌+◌, length}
 use Rattle.hosts.specs.Finding.{is_at}
-use Rattle.relays.specs.Finding.{place_from, place_of}
+use Rattle.hosts.specs.the_relays.Finding.{place_from, place_of}
 use Rattle.directory.proofs.directory.port_at.Given as goal
 
 -- what is found in the rest is found in all

@@ -5,8 +5,8 @@ use Rattle.internetwork.proofs.ActingLaws.{puts_so, tells_so}
 use Rattle.internetwork.proofs.acting.act.Goals as goal
 use Rattle.link_site.specs.Port.{station_of}
 use Rattle.link_site.specs.declared.port.SitePort.{SitePort}
-use Rattle.site_station.specs.Entity as entity
-use Rattle.site_station.specs.declared.entity.EntityPlan.{EntityPlan}
+use Rattle.chronicle.specs.site_station.Entity as entity
+use Rattle.chronicle.specs.site_station.declared.entity.EntityPlan.{EntityPlan}
 
 -- memory was refused
 pub returns-in_err-growth-clause-puts : goal.returns-in_err-growth-clause-puts

@@ -1,6 +1,6 @@
 use Rattle.std.proofs.Common.{◌∙◌, ◌++◌, ◌∷◌, [], ap, sym, List, take}
 use Rattle.std.proofs.lemmas.List.{take_more}
-use Rattle.relays.specs.Laws.{SiteRelay}
+use Rattle.plans.specs.relays.Laws.{SiteRelay}
 use Rattle.internetwork.proofs.copying.relays_in.Goals as goal
 
 -- one more

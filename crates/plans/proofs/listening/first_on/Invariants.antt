@@ -2,7 +2,7 @@ use Rattle.std.proofs.Common.{◌≡◌, ◌+◌, length, map}
 use Rattle.plans.specs.Listening.{is_on}
 use Rattle.plans.proofs.listening.first_on.Given as goal
 use Rattle.link_site.specs.Port.{station_of}
-use Rattle.relays.specs.Finding.{place_from, place_of}
+use Rattle.directory.specs.relays.Finding.{place_from, place_of}
 
 -- what is found in the rest is found in all
 abbrev pub invariant-loop-left : goal.invariant-loop-left

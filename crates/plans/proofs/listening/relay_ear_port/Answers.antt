@@ -4,7 +4,7 @@ use Rattle.link_site.specs.Port.{station_of}
 use Rattle.link_site.specs.declared.port.SitePort.{SitePort}
 use Rattle.plans.proofs.listening.relay_ear_port.Goals as goal
 use Rattle.plans.specs.Listening.{HearsWith}
-use Rattle.relays.specs.Laws.{SiteRelay, site_places}
+use Rattle.directory.specs.relays.Laws.{SiteRelay, site_places}
 
 -- a router is where its ports are
 pub returns-in-Router-clause-with : goal.returns-in-Router-clause-with

@@ -2,7 +2,7 @@ use Rattle.link_site.specs.Steps.{Counts}
 use Rattle.plans.proofs.PlanLaws.{both_ok, may_be_told}
 use Rattle.plans.proofs.stations.plan_is_told.Goals as goal
 use Rattle.plans.specs.Plans.{MayBeDone}
-use Rattle.site_station.specs.Station.{IsPlanned, StationCounts, left_by, told_by}
+use Rattle.directory.specs.site_station.Station.{IsPlanned, StationCounts, left_by, told_by}
 
 -- what is planned may be done
 pub returns-clause-may : goal.returns-clause-may

@@ -1,7 +1,7 @@
 use Rattle.link_site.specs.Port.{restarted}
 use Rattle.plans.proofs.PlanLaws.{both_ok, may_restart}
 use Rattle.plans.specs.Plans.{MayBeDone}
-use Rattle.site_station.specs.Station.{IsPlanned, StationRestarts, left_by, told_by}
+use Rattle.directory.specs.site_station.Station.{IsPlanned, StationRestarts, left_by, told_by}
 use Rattle.plans.proofs.stations.plan_restarts.Goals as goal
 
 -- what is planned may be done

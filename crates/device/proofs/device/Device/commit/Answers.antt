@@ -1,7 +1,7 @@
 use Rattle.std.proofs.Common.{subst, sym}
 use Rattle.std.specs.Prelude.{IfSome, Option}
 use Rattle.device.specs.Device.{DeviceState}
-use Rattle.server_answers.specs.Plan.{ServerPlan}
+use Rattle.server_tsm.specs.server_answers.Plan.{ServerPlan}
 use Rattle.server_tsm.specs.Steps as server
 use Rattle.device.proofs.device.Device.commit.Goals as goal
 

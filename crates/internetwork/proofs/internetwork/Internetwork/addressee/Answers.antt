@@ -1,6 +1,6 @@
 use Rattle.std.proofs.Common.{ap, subst, sym, List}
-use Rattle.directory.specs.Directory.{LeadsToHosts}
-use Rattle.headline_client.proofs.Places.{all_at}
+use Rattle.plans.specs.directory.Directory.{LeadsToHosts}
+use Rattle.chronicle.proofs.headline_client.Places.{all_at}
 use Rattle.plans.specs.hosts.Hosts.{IsHost}
 use Rattle.plans.specs.hosts.Stations.{WorldStation}
 use Rattle.internetwork.specs.World.{WorldState}

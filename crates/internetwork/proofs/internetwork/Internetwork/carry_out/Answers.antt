@@ -1,7 +1,7 @@
 use Rattle.std.proofs.Common.{◌∙◌, sym, ap, subst, arith}
 use Rattle.std.specs.Prelude.{slice_get}
 use Rattle.buses.specs.Buses.{buses_of}
-use Rattle.headline_client.proofs.Places.{all_at}
+use Rattle.chronicle.proofs.headline_client.Places.{all_at}
 use Rattle.plans.specs.hosts.Hosts.{IsHost}
 use Rattle.internetwork.proofs.ActingLaws.{done_act, leads_act, passing_act, steady_act, unchanged_act}
 use Rattle.internetwork.proofs.EventLaws.{before_end, read_there, the_one}

@@ -1,7 +1,7 @@
 use Rattle.std.proofs.Common.{◌∙◌, sym, subst, List}
 use Rattle.std.specs.List.{AllByRecursion}
 use Rattle.buses.specs.Buses.{buses_of}
-use Rattle.directory.specs.Directory.{Leads}
+use Rattle.plans.specs.directory.Directory.{Leads}
 use Rattle.internetwork.proofs.CopyLaws.{copy_seen, copy_stands}
 use Rattle.internetwork.proofs.internetwork.Internetwork.copy.Goals as goal
 use Rattle.plans.specs.hosts.Hosts.{IsHost}

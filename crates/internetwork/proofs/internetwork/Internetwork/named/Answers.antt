@@ -1,5 +1,5 @@
 use Rattle.std.proofs.Common.{arith, ◌≡◌, ◌+◌, ◌-◌, ap, subst, Some, length}
-use Rattle.headline_client.proofs.Places.{all_at}
+use Rattle.chronicle.proofs.headline_client.Places.{all_at}
 use Rattle.plans.specs.hosts.Hosts.{IsHost, IsOfSite}
 use Rattle.plans.specs.hosts.Opening.{object_site}
 use Rattle.internetwork.proofs.EventLaws.{some_same}

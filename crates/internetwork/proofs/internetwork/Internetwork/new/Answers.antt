@@ -3,13 +3,13 @@ use Rattle.std.specs.List.{AllByRecursion}
 use Rattle.bus_traffic.specs.Bus.{BusState}
 use Rattle.buses.specs.Buses.{buses_of}
 use Rattle.buses.specs.Puts.{BusesState}
-use Rattle.directory.specs.Directory.{Leads}
+use Rattle.plans.specs.directory.Directory.{Leads}
 use Rattle.plans.specs.hosts.Hosts.{IsHost}
 use Rattle.plans.specs.hosts.Stations.{WorldStation}
 use Rattle.internetwork.proofs.FreshLaws.{hosts_new, passing_new, steady_new}
 use Rattle.internetwork.proofs.internetwork.Internetwork.new.Goals as goal
 use Rattle.internetwork.specs.World.{fresh_world}
-use Rattle.relays.specs.Laws.{SiteRelay}
+use Rattle.plans.specs.relays.Laws.{SiteRelay}
 use Rattle.site_parts.specs.declared.parts.Station as site
 
 -- its stations stand as it opens

@@ -1,8 +1,8 @@
 use Rattle.std.proofs.Common.{◌∙◌, sym, ap, subst, arith}
 use Rattle.std.specs.Prelude.{slice_get}
 use Rattle.buses.specs.Buses.{buses_of}
-use Rattle.headline_client.proofs.Places.{all_at}
-use Rattle.relays.specs.Laws.{RelayStands}
+use Rattle.chronicle.proofs.headline_client.Places.{all_at}
+use Rattle.plans.specs.relays.Laws.{RelayStands}
 use Rattle.internetwork.proofs.EventLaws.{before_end, read_there, the_one}
 use Rattle.internetwork.proofs.PassingLaws.{done_pass, steady_pass, unchanged_pass}
 use Rattle.internetwork.specs.Doing.{AtPlace}

@@ -1,6 +1,6 @@
 use Rattle.std.proofs.Common.{ap, subst}
-use Rattle.headline_client.proofs.Places.{all_at}
-use Rattle.relays.specs.Laws.{RelayStands}
+use Rattle.chronicle.proofs.headline_client.Places.{all_at}
+use Rattle.plans.specs.relays.Laws.{RelayStands}
 use Rattle.internetwork.proofs.EventLaws.{none_then}
 use Rattle.internetwork.specs.World.{WorldState}
 use Rattle.internetwork.proofs.internetwork.Internetwork.relay_addressee.Goals as goal

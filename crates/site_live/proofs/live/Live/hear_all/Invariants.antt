@@ -1,5 +1,5 @@
 use Rattle.std.proofs.Common.{[]}
-use Rattle.frame_hearing.specs.Hearing.{left_to_hear}
+use Rattle.runner.specs.Hearing.{left_to_hear}
 use Rattle.site_live.specs.Running.{Lives}
 use Rattle.site_live.proofs.live.Live.hear_all.Given as goal
 

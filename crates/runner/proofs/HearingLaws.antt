@@ -9,8 +9,8 @@ use Rattle.buses.specs.Puts.{BusesState}
 use Rattle.buses.specs.declared.buses.Buses.{Buses}
 use Rattle.simulator.specs.internetwork.World.{WorldState}
 use Rattle.simulator.specs.internetwork.declared.event.Event.{Event}
-use Rattle.frame_hearing.specs.Hearing.{HearsNext, HearsThem, IsNextHear, IsNextTurn, IsOver, MeetsNobody, left_to_hear, station_at, turn_after}
-use Rattle.frame_hearing.specs.declared.hearing.Heard.{Heard}
+use Rattle.runner.specs.Hearing.{HearsNext, HearsThem, IsNextHear, IsNextTurn, IsOver, MeetsNobody, left_to_hear, station_at, turn_after}
+use Rattle.runner.specs.declared.hearing.Heard.{Heard}
 use Rattle.simulator.proofs.FlowLaws.{told_less}
 use Rattle.tags.specs.declared.fault.Fault.{Fault}
 use Rattle.tags.specs.declared.fault.Fault.TheVariants.{Memory}

@@ -1,8 +1,8 @@
 use Rattle.std.proofs.Common.{inr, refl, ap, subst, Option}
 use Rattle.bus_traffic.specs.declared.telling.Telling.{Telling}
-use Rattle.frame_hearing.proofs.HearingLaws.{hears_next, meets_nobody}
-use Rattle.frame_hearing.proofs.hearing.next_hear.Goals as goal
-use Rattle.frame_hearing.specs.Hearing.{HearsThemIfAny}
+use Rattle.runner.proofs.HearingLaws.{hears_next, meets_nobody}
+use Rattle.runner.proofs.hearing.next_hear.Goals as goal
+use Rattle.runner.specs.Hearing.{HearsThemIfAny}
 use Rattle.simulator.specs.internetwork.declared.event.Event.{Event}
 
 pub returns-in-Some-event-clause-next : goal.returns-in-Some-event-clause-next

@@ -10,7 +10,7 @@ use Rattle.simulator.specs.internetwork.World.{WorldState}
 use Rattle.simulator.specs.internetwork.declared.event.Event.{Event}
 use Rattle.simulator.specs.internetwork.declared.event.Event.TheVariants.{Hear}
 use Rattle.npdu.specs.declared.mac.Mac.TheVariants.{One}
-use Rattle.frame_hearing.specs.declared.hearing.Heard.{Heard}
+use Rattle.runner.specs.declared.hearing.Heard.{Heard}
 use Rattle.simulator.specs.Flows.{left_to_tell}
 use Rattle.site_parts.specs.declared.parts.Station.{Station}
 use Rattle.site_views.specs.Views.{at_address}

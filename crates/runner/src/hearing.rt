@@ -2,7 +2,7 @@
 
 ghost use Rattle.std.specs.Prelude.{◌≡◌, ◌<◌, ◌^◌, Some, IfOk, slice_get};
 ghost use Rattle.simulator.specs.internetwork.Step.{IsSoundIfAny};
-ghost use Rattle.frame_hearing.specs.Hearing.{HearsThemIfAny, IsNextHear, begun, turn_after};
+ghost use Rattle.runner.specs.Hearing.{HearsThemIfAny, IsNextHear, begun, turn_after};
 
 use bus_traffic::{NextTold, Telling};
 use npdu::{Mac, Station};
