@@ -3,12 +3,12 @@
 ghost use Rattle.std.specs.Prelude.{◌≡◌, ◌≤◌, ◌<◌, ◌+◌, ◌++◌, ◌∷◌, [], Some, length, slice_get};
 ghost use Rattle.std.specs.Vec.{vec_capacity, vec_len};
 ghost use Rattle.bus_traffic.specs.Sendings as spec;
-ghost use Rattle.bus_traffic.specs.Sendings.{delivered, followed, learned, marked};
+ghost use Rattle.bus_traffic.specs.Sendings.{delivered, learned};
 
 use crate::ear::Ear;
 use crate::hearing::{Hearing, hear};
 use crate::judging::is_frame;
-use crate::sending::{Known, Put, Recent, Sending};
+use crate::sending::{Known, Put, Recent, RecentBox};
 use mstp_frame::Deframer;
 use profile::is_heard_in_time;
 use std::alloc::{AllocError, Allocator};
@@ -23,7 +23,7 @@ pub struct Bus<A: Allocator> {
     /// What was ever put out: each frame once.
     pub known: Vec<Known<A>, A>,
     /// What may still be heard, in the order in which it was put out.
-    pub recent: Vec<Recent<A>, A>,
+    pub recent: Vec<RecentBox<A>, A>,
 }
 
 /// Puts a value behind others, where there is room.
@@ -63,33 +63,23 @@ fn learn<A: Allocator>(known: &mut Vec<Known<A>, A>, new: Known<A>)
 }
 
 /// Forgets what is too old to be heard at the moment `now`, in milliseconds.
-fn keep_young<A: Allocator>(recent: &mut Vec<Recent<A>, A>, now: u64)
+fn keep_young<A: Allocator>(recent: &mut Vec<RecentBox<A>, A>, now: u64)
     ensures young { recent.new.items ≡ spec.young now recent.old.items }
     ensures len { vec_len recent.new ≤ vec_len recent.old }
     ensures room { vec_capacity recent.old ≤ vec_capacity recent.new }
 {
-    recent.retain(|recent| is_heard_in_time(recent.sending.stamp, now));
-}
-
-/// A frame that was put out, delivered nowhere yet.
-fn unheard<A: Allocator>(sending: Sending<A>) -> Recent<A>
-    ensures { result ≡ spec.unheard sending }
-{
-    Recent {
-        sending,
-        heard: [false; 256],
-    }
+    recent.retain(|held| is_heard_in_time(held.recent().sending.stamp, now));
 }
 
 /// Puts a frame behind those that may still be heard, where there is room.
-fn follow<A: Allocator>(recent: &mut Vec<Recent<A>, A>, sending: Sending<A>, now: u64)
+fn follow<A: Allocator>(recent: &mut Vec<RecentBox<A>, A>, new: RecentBox<A>, now: u64)
     requires { vec_len recent.old < vec_capacity recent.old }
-    ensures recent { recent.new.items ≡ followed now sending recent.old.items }
+    ensures recent { recent.new.items ≡ spec.young now recent.old.items ++ new ∷ [] }
     ensures len { vec_len recent.new ≤ vec_len recent.old + 1 }
     ensures room { vec_capacity recent.old ≤ vec_capacity recent.new }
 {
     keep_young(recent, now);
-    push_reserved(recent, unheard(sending));
+    push_reserved(recent, new);
 }
 
 /// The ear at a place.
@@ -118,21 +108,14 @@ fn is_due_at<A: Allocator>(recent: &Recent<A>, address: u8, octets: &[u8], now: 
     is_frame(&recent.sending.octets, octets) && waits_at(recent, address, now)
 }
 
-/// A frame is delivered at an address.
-fn mark<A: Allocator>(recent: &mut Recent<A>, address: u8)
-    ensures { recent.new ≡ marked address recent.old }
-{
-    recent.heard[address as usize] = true;
-}
-
 /// Just these octets are delivered at an address at the moment `now`, in milliseconds.
 #[tactic(auto, using(crate::proofs::Places::place_rules))]
-fn deliver<A: Allocator>(recent: &mut [Recent<A>], address: u8, octets: &[u8], now: u64)
+fn deliver<A: Allocator>(recent: &mut [RecentBox<A>], address: u8, octets: &[u8], now: u64)
     ensures { recent.new ≡ delivered now address octets.now recent.old }
 {
     for place in 0..recent.len() {
-        if is_due_at(&recent[place], address, octets, now) {
-            mark(&mut recent[place], address);
+        if is_due_at(recent[place].recent(), address, octets, now) {
+            recent[place].mark(address);
             return;
         }
     }
@@ -186,9 +169,9 @@ impl<A: Allocator + Copy> Bus<A> {
         ensures put { bus_of self.new ≡ put_out now put (bus_of self.old) }
         ensures room { (n : ℕ) → HasRoom (n + 1) self.old → HasRoom n self.new }
     {
-        let Put { sending, known } = put;
+        let Put { recent, known } = put;
         learn(&mut self.known, known);
-        follow(&mut self.recent, sending, now);
+        follow(&mut self.recent, recent, now);
     }
 
     /// What an ear of the bus makes of octets that come to it at the moment `now`, in milliseconds: the frames that

@@ -5,7 +5,7 @@ ghost use Rattle.bus_traffic.specs.Bus.{bus_of};
 
 use crate::bus::Bus;
 use crate::ear::Ear;
-use crate::sending::{Known, Recent, Sending};
+use crate::sending::{Known, Recent, RecentBox, Sending};
 use std::alloc::{AllocError, Allocator};
 
 /// An equal ear.
@@ -48,31 +48,30 @@ fn known_of<A: Allocator + Copy>(
 }
 
 /// An equal frame that was put out, delivered at the same stations.
-fn recent_one<A: Allocator + Copy>(alloc: A, recent: &Recent<A>) -> Result<Recent<A>, AllocError>
+fn recent_one<A: Allocator + Copy>(alloc: A, recent: &Recent<A>) -> Result<RecentBox<A>, AllocError>
     ensures { IfOk result (λ copy. copy ≡ recent.now) }
 {
     let sending = &recent.sending;
-    Ok(Recent {
-        sending: Sending {
-            sender: sending.sender,
-            octets: sending.octets.copy(alloc)?,
-            stamp: sending.stamp,
-            place: sending.place,
-        },
-        heard: recent.heard,
-    })
+    let sending = Sending {
+        sender: sending.sender,
+        octets: sending.octets.copy(alloc)?,
+        stamp: sending.stamp,
+        place: sending.place,
+    };
+    let heard = recent.heard;
+    RecentBox::new(alloc, Recent { sending, heard })
 }
 
 /// Equal frames that were put out.
 fn recent_of<A: Allocator + Copy>(
     alloc: A,
-    recent: &[Recent<A>],
-) -> Result<Vec<Recent<A>, A>, AllocError>
+    recent: &[RecentBox<A>],
+) -> Result<Vec<RecentBox<A>, A>, AllocError>
     ensures { IfOk result (λ copies. copies.items ≡ recent.now) }
 {
     let mut copies = Vec::new(alloc);
     for one in recent {
-        copies.push(recent_one(alloc, one)?)?;
+        copies.push(recent_one(alloc, one.recent())?)?;
     }
     Ok(copies)
 }

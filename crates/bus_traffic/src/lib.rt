@@ -32,5 +32,5 @@ pub use ear::Ear;
 pub use finding::{FoundEar, ear_at};
 pub use hearing::{Ending, HeardFrame, Hearing};
 pub use laws::{all_is_remembered, each_is_judged, heard_is_given, little_is_kept};
-pub use sending::{Known, Place, Put, Recent, Sending};
+pub use sending::{Known, Place, Put, Recent, RecentBox, Sending};
 pub use telling::{NextTold, Telling, next_hear};

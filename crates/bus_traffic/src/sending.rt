@@ -43,23 +43,91 @@ pub struct Known<A: Allocator> {
     pub stamp: u64,
 }
 
+/// A frame that was put out, and the stations that it was delivered at, in memory of their own: it is moved cheaply.
+#[derive(Drop)]
+pub struct RecentBox<A: Allocator> {
+    held: Box<Recent<A>, A>,
+}
+
+impl<A: Allocator> Model for RecentBox<A> {
+    ghost use Rattle.bus_traffic.specs.declared.sending.Recent.{Recent};
+
+    ghost Value = { Recent A };
+
+    ghost view = { λ b. b.held.value };
+}
+
+impl<A: Allocator> RecentBox<A> {
+    ghost use Rattle.std.specs.Prelude.{◌≡◌, IfOk};
+    ghost use Rattle.bus_traffic.specs.Sendings.{marked, unheard};
+
+    /// A frame that was put out, and where it was delivered.
+    ///
+    /// # Errors
+    /// Want of memory.
+    pub(crate) fn new(alloc: A, recent: Recent<A>) -> Result<Self, AllocError>
+        ensures { IfOk result (λ held. held ≡ recent) }
+    {
+        Ok(RecentBox {
+            held: Box::new(alloc, recent)?,
+        })
+    }
+
+    /// A frame that was put out, delivered nowhere yet.
+    ///
+    /// # Errors
+    /// Want of memory.
+    fn unheard(alloc: A, sending: Sending<A>) -> Result<Self, AllocError>
+        ensures { IfOk result (λ held. held ≡ unheard sending) }
+    {
+        RecentBox::new(
+            alloc,
+            Recent {
+                sending,
+                heard: [false; 256],
+            },
+        )
+    }
+
+    /// The frame, and where it was delivered.
+    pub fn recent(&self) -> &Recent<A>
+        ensures { result.now ≡ self.now }
+    {
+        &self.held
+    }
+
+    /// The same frame, in another place.
+    fn put_behind(&mut self, place: Place)
+        ensures { self.new ≡ record self.old { sending = record self.old.sending { place = place } } }
+    {
+        self.held.sending.place = place;
+    }
+
+    /// It is delivered at an address.
+    pub(crate) fn mark(&mut self, address: u8)
+        ensures { self.new ≡ marked address self.old }
+    {
+        self.held.heard[address as usize] = true;
+    }
+}
+
 /// A frame that is to be put out, with all memory that this takes of the frame's own.
 #[derive(Drop)]
 pub struct Put<A: Allocator> {
-    pub(crate) sending: Sending<A>,
+    pub(crate) recent: RecentBox<A>,
     pub(crate) known: Known<A>,
 }
 
 impl<A: Allocator> Model for Put<A> {
     ghost use Rattle.std.specs.Prelude.{◌≡◌};
-    ghost use Rattle.bus_traffic.specs.Sendings.{known_by};
+    ghost use Rattle.bus_traffic.specs.Sendings.{known_by, unheard};
     ghost use Rattle.bus_traffic.specs.declared.sending.Sending.{Sending};
 
     ghost Value = { Sending A };
 
-    ghost view = { λ p. p.sending };
+    ghost view = { λ p. p.recent.sending };
 
-    ghost invariant = { λ p. p.known ≡ known_by p.sending };
+    ghost invariant = { λ p. (p.recent ≡ unheard p.recent.sending) × (p.known ≡ known_by p.recent.sending) };
 }
 
 impl<A: Allocator + Copy> Put<A> {
@@ -76,15 +144,16 @@ impl<A: Allocator + Copy> Put<A> {
             octets: sending.octets.copy(alloc)?,
             stamp: sending.stamp,
         };
-        Ok(Put { sending, known })
+        let recent = RecentBox::unheard(alloc, sending)?;
+        Ok(Put { recent, known })
     }
 
     /// The same frame, in another place.
     pub fn placed(self, place: Place) -> Self
         ensures { result ≡ record self { place = place } }
     {
-        let Put { sending, known } = self;
-        let sending = Sending { place, ..sending };
-        Put { sending, known }
+        let Put { mut recent, known } = self;
+        recent.put_behind(place);
+        Put { recent, known }
     }
 }

@@ -99,7 +99,8 @@ fn next_on<A: Allocator>(
         IsNext now from before (bus.now ∷ []) next.bus.now next.recent.now next.ear_place next.ear.now) }
     ensures none { IfNone result (NoneWaits now from before (bus.now ∷ [])) }
 {
-    for recent in &bus.recent {
+    for held in &bus.recent {
+        let recent = held.recent();
         if let Some((ear_place, ear)) = due_at(&bus.ears, recent, from, before, now) {
             return Some(NextTold {
                 bus,

@@ -34,10 +34,10 @@ impl<A: Allocator> Model for Client<A> {
 }
 
 impl<A: Allocator + Copy> Client<A> {
-    ghost use Rattle.std.specs.Prelude.{◌≡◌, ◌<◌, ◌≤◌, ◌^◌, IfOk, IfErr, OnOk, OnErr};
+    ghost use Rattle.std.specs.Prelude.{◌≡◌, ◌<◌, ◌≤◌, ◌^◌, [], true, IfOk, IfErr, OnOk, OnErr};
     ghost use Rattle.client_tsm.specs.Client.{committed};
     ghost use Rattle.client_tsm.specs.Steps.{told_of_plan};
-    ghost use Rattle.client_tsm.specs.Waking.{woken};
+    ghost use Rattle.client_tsm.specs.Waking.{is_quiet, woken};
     ghost use Rattle.bindings.specs.Binding as spec;
     ghost use Rattle.client.specs.Client.{new_client};
     ghost use Rattle.client.specs.Plan.{ChangesSomething, IsPlanned, IsPlannedChange, left_by, left_of, told_by};
@@ -131,6 +131,26 @@ impl<A: Allocator + Copy> Client<A> {
     {
         let plan = self.machine.plan_tick(now)?;
         self.said_by(plan, now)
+    }
+
+    /// Whether nothing is due where it wakes at the moment `now`, in milliseconds.
+    pub fn is_quiet(&self, now: u64) -> bool
+        ensures { result ≡ is_quiet now self.now.machine.open_ones }
+    {
+        self.machine.is_quiet(now)
+    }
+
+    /// Wakes at the moment `now`, in milliseconds, where nothing is due: it says and tells nothing, and all that it asked
+    /// goes on. It takes no memory.
+    pub fn wake_quietly(&mut self, now: u64)
+        requires { is_quiet now self.old.machine.open_ones ≡ true }
+        ensures said { (woken now self.old.machine.open_ones).said ≡ [] }
+        ensures told { (woken now self.old.machine.open_ones).told ≡ [] }
+        ensures left { self.new ≡ record self.old {
+          machine = committed now (woken now self.old.machine.open_ones).change self.old.machine;
+        } }
+    {
+        self.machine.wake_quietly(now);
     }
 
     /// What its client of transactions plans at the moment `now`, in milliseconds, with what is said in parcels.

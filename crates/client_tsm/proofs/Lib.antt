@@ -7,3 +7,4 @@ mod Places
 mod Apart
 mod Committing
 mod Joining
+mod Quiet

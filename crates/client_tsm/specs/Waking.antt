@@ -1,7 +1,7 @@
 -- What a client does when it wakes, one transaction after another in order of issue (5.4.4).
 use Rattle.std.specs.Prelude.{ℕ, suc, ◌-◌, ◌&&◌, nat_le, nat_lt, Bool, true, false, List, [], ◌∷◌, length, Option, Some, None}
-use Rattle.std.specs.List.{flat_map}
-use Rattle.segments.specs.Sender.{SenderState, wakes}
+use Rattle.std.specs.List.{flat_map, list_all}
+use Rattle.segments.specs.Sender.{SenderState, waits, wakes}
 use Rattle.profile.specs.Limits.{NUMBER_OF_APDU_RETRIES}
 use Rattle.profile.specs.Times.{APDU_TIMEOUT_MS}
 use Rattle.segments.specs.declared.step.Turn.{Turn}
@@ -88,6 +88,10 @@ left_of now o = left_by (turn_of now o) now o
 -- what is left of all transactions when the client wakes
 abbrev pub all_left : {A : Type 0} → ℕ → List (Open A) → List (Open A)
 all_left now os = flat_map (left_of now) os
+
+-- nothing is due of any transaction: none is said again, and none ends (5.4.4)
+abbrev pub is_quiet : {A : Type 0} → ℕ → List (Open A) → Bool
+is_quiet now os = list_all (λ o. waits (turn_of now o)) os
 
 -- what is said, told and left of all when the client wakes, in order of issue
 abbrev pub woken : {A : Type 0} → ℕ → List (Open A) → ClientTsmPlan A

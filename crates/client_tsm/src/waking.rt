@@ -53,11 +53,11 @@ pub(crate) fn wake_all<A: Allocator>(open_ones: &mut Vec<Transaction<A>, A>, now
 }
 
 impl<A: Allocator + Copy> ClientTsm<A> {
-    ghost use Rattle.std.specs.Prelude.{◌≡◌, ◌≤◌, ◌^◌, IfOk, OnOk, OnErr};
+    ghost use Rattle.std.specs.Prelude.{◌≡◌, ◌≤◌, ◌^◌, [], true, IfOk, OnOk, OnErr};
     ghost use Rattle.client_tsm.specs.Client.{committed};
     ghost use Rattle.client_tsm.specs.Planned.{IsPlanned};
     ghost use Rattle.client_tsm.specs.Steps.{told_of_plan};
-    ghost use Rattle.client_tsm.specs.Waking.{woken};
+    ghost use Rattle.client_tsm.specs.Waking.{is_quiet, woken};
     ghost use Rattle.profile.specs.Times.{MAX_MOMENT_MS};
 
     /// What is said, told and left where the client wakes at the moment `now`, in milliseconds: one sending of a
@@ -95,5 +95,27 @@ impl<A: Allocator + Copy> ClientTsm<A> {
         let ClientTsmPlan { said, told, change } = self.plan_tick(now)?;
         self.commit(change, now)?;
         Ok(ClientTsmTold { said, told })
+    }
+
+    /// Whether nothing is due where the client wakes at the moment `now`, in milliseconds: no transaction is said again,
+    /// and none ends.
+    pub fn is_quiet(&self, now: u64) -> bool
+        ensures { result ≡ is_quiet now self.now.open_ones }
+    {
+        self.open_ones
+            .iter()
+            .all(|transaction| transaction.turn(now).waits())
+    }
+
+    /// Wakes at the moment `now`, in milliseconds, where nothing is due: nothing is said and told, and all transactions go
+    /// on. It takes no memory.
+    #[tactic(auto, using(crate::proofs::Quiet::quiet_rules))]
+    pub fn wake_quietly(&mut self, now: u64)
+        requires { is_quiet now self.old.open_ones ≡ true }
+        ensures said { (woken now self.old.open_ones).said ≡ [] }
+        ensures told { (woken now self.old.open_ones).told ≡ [] }
+        ensures left { self.new ≡ committed now (woken now self.old.open_ones).change self.old }
+    {
+        self.moment = now;
     }
 }

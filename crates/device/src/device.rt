@@ -45,11 +45,11 @@ impl<A: Allocator + Copy> Model for Device<A> {
 }
 
 impl<A: Allocator + Copy> Device<A> {
-    ghost use Rattle.std.specs.Prelude.{◌≡◌, ◌⊎◌, ◌≤◌, ◌^◌, IfOk, IfErr, OnOk, OnErr};
+    ghost use Rattle.std.specs.Prelude.{◌≡◌, ◌⊎◌, ◌≤◌, ◌^◌, [], true, IfOk, IfErr, OnOk, OnErr};
     ghost use Rattle.object_model.specs.Site.{IsFaultySite, IsSite};
     ghost use Rattle.server_tsm.specs.Server.{committed};
     ghost use Rattle.server_tsm.specs.Steps.{told_of_plan};
-    ghost use Rattle.server_tsm.specs.Waking.{woken};
+    ghost use Rattle.server_tsm.specs.Waking.{is_quiet, woken};
     ghost use Rattle.device.specs.Device.{i_am_of, new_device, restarts};
     ghost use Rattle.device.specs.Plan.{ChangesSomething, IsPlanned, left_by, told_by};
     ghost use Rattle.device.specs.Saying.{told_of};
@@ -171,6 +171,27 @@ impl<A: Allocator + Copy> Device<A> {
             said,
             server: Some(plan),
         })
+    }
+
+    /// Whether nothing is due where it wakes at the moment `now`, in milliseconds.
+    pub fn is_quiet(&self, now: u64) -> bool
+        ensures { result ≡ is_quiet now self.now.server.records }
+    {
+        self.server.is_quiet(now)
+    }
+
+    /// Wakes at the moment `now`, in milliseconds, where nothing is due: it says nothing, and forgets what is too old. It
+    /// takes no memory.
+    #[tactic(auto, using(crate::proofs::ServerLaws::size_rules))]
+    pub fn wake_quietly(&mut self, now: u64)
+        requires order { self.old.server.moment ≤ now }
+        requires quiet { is_quiet now self.old.server.records ≡ true }
+        ensures said { (woken now self.old.server.records).said ≡ [] }
+        ensures left { self.new ≡ record self.old {
+          server = committed now (woken now self.old.server.records).change self.old.server;
+        } }
+    {
+        self.server.wake_quietly(now);
     }
 
     /// Does what was planned at the moment `now`, in milliseconds, with no other input between, and answers what is said

@@ -14,7 +14,7 @@ use Rattle.std.specs.Ordering.{is_eq, nat_cmp}
 use Rattle.std.specs.declared.cmp.Ordering.{Ordering}
 use Rattle.std.specs.declared.cmp.Ordering.TheVariants.{Less, Equal, Greater}
 use Rattle.directory.specs.Directory.{Leads, directory_of}
-use Rattle.directory.specs.Places.{AreFirst}
+use Rattle.directory.specs.Places.{AreFirst, AreFirstAt}
 use Rattle.hosts.specs.Finding.{has_port_at, is_at}
 use Rattle.hosts.specs.Hosts.{IsHost}
 use Rattle.hosts.specs.Stations.{WorldStation}
@@ -25,7 +25,8 @@ use Rattle.npdu.specs.contracts.mac.StationOrd.TheImpl as impl
 use Rattle.npdu.specs.declared.mac.Mac.{Mac}
 use Rattle.npdu.specs.declared.mac.Mac.TheVariants.{One, Six}
 use Rattle.npdu.specs.declared.mac.Station.{Station}
-use Rattle.hosts.specs.the_relays.Finding.{place_from, place_of}
+use Rattle.hosts.specs.the_relays.Finding.{is_there, place_from, place_of}
+use Rattle.hosts.specs.the_relays.Laws.{SiteRelay}
 use Rattle.site_parts.specs.declared.parts.Station as site
 use Rattle.hosts.specs.site_station.Entity.{station_of}
 
@@ -73,7 +74,7 @@ name_put {A} old new v name octets e is copied = ap (λ vs. map (λ (n : Vec ℕ
     ∙ ap (λ o. map (λ (n : Vec ℕ A). n.items) old ++ o ∷ []) (is ∙ copied)
 
 -- the derived order of stations is the one of the definitions
-macs : (n m : ℕ) (a b : Mac) → impl.cmp-value.it (record { net = n; mac = a }) (record { net = m; mac = b })
+pub macs : (n m : ℕ) (a b : Mac) → impl.cmp-value.it (record { net = n; mac = a }) (record { net = m; mac = b })
     ≡ station_cmp (record { net = n; mac = a }) (record { net = m; mac = b })
 macs n m (One a) (One b) = refl
 macs n m (One a) (Six b) = refl
@@ -89,7 +90,7 @@ is_equal Equal is = refl
 is_equal Less is = absurd (cc is)
 is_equal Greater is = absurd (cc is)
 
-same_address : (x y : Station) → is_eq (station_cmp x y) ≡ same_station y x
+pub same_address : (x y : Station) → is_eq (station_cmp x y) ≡ same_station y x
 same_address x y = both_ways (is_eq (station_cmp x y)) (same_station y x)
     (λ e. (one_station y x).one (sym (station_order.apart x y (is_equal (station_cmp x y) e))))
     (λ e. ap (λ z. is_eq (station_cmp x z)) ((one_station y x).same e)
@@ -114,13 +115,15 @@ by_octets name [] = refl
 by_octets name (e ∷ es) =
     ap (λ r. cond (is_eq (slice_cmp nat_cmp name (e.0.items))) (Some (e.1)) r) (by_octets name es)
 
--- the first places of their addresses lead to these stations, and those of their names to these parts
-pub leads : {A : Type 0} (now : ℕ) (a : BTreeMap Station ℕ) (n : BTreeMap (Vec ℕ A) ℕ) (parts : List (site.Station A))
-    (stations : List (WorldStation A)) (names : List (Vec ℕ A)) → AllByRecursion (IsHost now) stations →
-    AreFirst station_cmp a (map (λ s. station_of s.entity) stations) →
+-- the first places of their addresses lead to these stations and relays, and those of their names to these parts
+pub leads : {A : Type 0} (now : ℕ) (a r : BTreeMap Station ℕ) (n : BTreeMap (Vec ℕ A) ℕ) (parts : List (site.Station A))
+    (relays : List (SiteRelay A)) (stations : List (WorldStation A)) (names : List (Vec ℕ A)) →
+    AllByRecursion (IsHost now) stations → AreFirst station_cmp a (map (λ s. station_of s.entity) stations) →
+    AreFirstAt (λ x r. is_there port.station_of x r) r relays →
     AreFirst (λ n m. slice_cmp nat_cmp n.items m.items) n names →
-    map (λ n. n.items) names ≡ map (λ p. p.name) parts → Leads (directory_of a n) parts stations
-leads {A} now a n parts stations names hosts addresses named are = record {
+    map (λ n. n.items) names ≡ map (λ p. p.name) parts → Leads (directory_of a r n) parts relays stations
+leads {A} now a r n parts relays stations names hosts addresses there named are = record {
+  relays_are = there;
   hosts_are = λ x. addresses (λ y. station_cmp x y) (λ y z e. station_order.total.congr x y z e)
       ∙ alike (λ s. station_of s.entity) (λ y. is_eq (station_cmp x y)) (has_port_at x) (IsHost now)
       (λ s host. port_there now x s host) 0 stations hosts;

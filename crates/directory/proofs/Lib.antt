@@ -1,5 +1,6 @@
 pub mod PlaceLaws
 pub mod DirectoryLaws
+pub mod RelayPlaceLaws
 pub mod StayLaws
 -- What the proofs above cite of those below.
 pub use Rattle.hosts.proofs as hosts

@@ -1,14 +1,14 @@
 -- How the first places of keys come about, from the last key on.
 use Rattle.std.proofs.Common.{◌≡◌, ◌∙◌, refl, sym, ap, subst, arith, ℕ, ◌+◌, Bool, true, false, List, [], ◌∷◌, ◌++◌, Option, Some, None, length}
 use Rattle.std.proofs.lemmas.List.{append_assoc}
-use Rattle.std.specs.Prelude.{cond}
+use Rattle.std.specs.Prelude.{if◌then◌else◌, cond}
 use Rattle.std.specs.BTreeMap.{BTreeMap, IsEmpty, get_by, insert_entry}
 use Rattle.std.specs.Cmp.{IsTotalOrder}
 use Rattle.std.specs.Map.{lookup}
 use Rattle.std.specs.Ordering.{is_eq, match_ordering, ordering_reverse}
 use Rattle.std.specs.declared.cmp.Ordering.{Ordering}
 use Rattle.std.specs.declared.cmp.Ordering.TheVariants.{Less, Equal, Greater}
-use Rattle.directory.specs.Places.{AreFirst, AreFirstFrom, IsQuery}
+use Rattle.directory.specs.Places.{AreFirst, AreFirstFrom, IsPut, IsQuery}
 
 same_answer : (a b : Ordering) → (a ≡ Equal → b ≡ Equal) → (b ≡ Equal → a ≡ Equal) → is_eq a ≡ is_eq b
 same_answer Equal b to from = ap is_eq (sym (to refl))
@@ -100,3 +100,15 @@ pub all_in : {K : Type 0} (cmp : K → K → Ordering) (m : BTreeMap K ℕ) (lef
 all_in cmp m left keys none h =
     subst (λ n. AreFirstFrom n cmp m keys) none
     (subst (λ ks. AreFirstFrom (length left) cmp m ks) (sym (h.all ∙ none_left left h.behind none)) h.first)
+
+chosen : {X : Type 0} (b : Bool) (x y : X) → cond b x y ≡ (if b then x else y)
+chosen true x y = refl
+chosen false x y = refl
+
+-- one key was put in
+pub put_one : {K : Type 0} (cmp : K → K → Ordering) → IsTotalOrder cmp → (m n : BTreeMap K ℕ) (key : K) (place : ℕ) →
+    n.entries ≡ insert_entry cmp m.entries key place → IsPut cmp key place m n
+put_one cmp total m n key place puts = λ compare query. ap (λ es. lookup (λ q. is_eq (compare q)) es) puts
+    ∙ looked_up cmp total compare query m.entries key place ∙ chosen (is_eq (compare key)) (Some place) (get_by compare m)
+
+pub ruleset put_rules = (put_one)

@@ -1,26 +1,29 @@
-//! The addresses of stations, and the names of parts.
+//! The addresses of stations and relays, and the names of parts.
 
 ghost use Rattle.std.specs.Prelude.{◌≡◌, IfNone, IfOk, IfSome, map};
 ghost use Rattle.std.specs.List.{AllByRecursion};
-ghost use Rattle.directory.specs.Directory.{Leads, LeadsToHosts, part_in, place_in};
+ghost use Rattle.directory.specs.Directory.{Leads, LeadsToHosts, LeadsToRelays, part_in, place_in, relay_place_in};
 ghost use Rattle.hosts.specs.Finding as spec;
 ghost use Rattle.hosts.specs.Finding.{IsHostAt, IsNoHostAt};
 ghost use Rattle.hosts.specs.Hosts.{IsHost};
-ghost use Rattle.hosts.specs.the_relays.Finding.{place_of};
+ghost use Rattle.hosts.specs.the_relays.Finding.{IsNoRelayAt, IsRelayAt, place_of};
 ghost use Rattle.hosts.specs.site_station.Entity.{station_of};
+ghost use Rattle.link_site.specs.Port as ports;
 
 use crate::places::{FirstPlaces, first_places};
-use hosts::{WorldStation, station_at};
+use crate::relay_places::first_relays;
+use hosts::{WorldRelay, WorldStation, place_at, relay_in, station_at};
 use link::Link;
 use link_site::SitePort;
 use npdu::Station;
 use std::alloc::{AllocError, Allocator};
 use std::marker::Model;
 
-/// At which address each device or client of a world is, and which name each part of its site has.
+/// At which addresses each device, client and relay of a world is, and which name each part of its site has.
 #[derive(Drop)]
 pub struct Directory<A: Allocator> {
     addresses: FirstPlaces<Station, A>,
+    relay_addresses: FirstPlaces<Station, A>,
     names: FirstPlaces<Vec<u8, A>, A>,
 }
 
@@ -29,7 +32,7 @@ impl<A: Allocator> Model for Directory<A> {
 
     ghost Value = { DirectoryState };
 
-    ghost view = { λ d. directory_of d.addresses d.names };
+    ghost view = { λ d. directory_of d.addresses d.relay_addresses d.names };
 }
 
 /// Where a station is: where its one port is (6.1).
@@ -105,23 +108,38 @@ pub struct HostFound<'s, A: Allocator + Copy> {
     pub station: &'s WorldStation<A>,
 }
 
+/// A relay at an address: its place among others, and which of its places is there.
+#[derive(Drop)]
+pub struct RelayFound<'r, A: Allocator + Copy> {
+    pub place: usize,
+    pub port: usize,
+    pub relay: &'r WorldRelay<A>,
+}
+
 impl<A: Allocator + Copy> Directory<A> {
-    /// The directory of these stations as they stand at the moment `now`, in milliseconds, and of the parts of a site.
+    /// The directory of these relays and stations as they stand at the moment `now`, in milliseconds, and of the parts of
+    /// a site.
     ///
     /// # Errors
     /// Want of memory.
     pub fn new(
         alloc: A,
         parts: &[site_parts::Station<A>],
+        relays: &[WorldRelay<A>],
         stations: &[WorldStation<A>],
         now: u64,
     ) -> Result<Self, AllocError>
         requires hosts { AllByRecursion (IsHost now) stations.now }
-        ensures { IfOk result (λ directory. Leads directory parts.now stations.now) }
+        ensures { IfOk result (λ directory. Leads directory parts.now relays.now stations.now) }
     {
         let addresses = first_places(alloc, addresses_of(alloc, stations, now)?)?;
+        let relay_addresses = first_relays(alloc, relays)?;
         let names = first_places(alloc, names_of(alloc, parts)?)?;
-        Ok(Directory { addresses, names })
+        Ok(Directory {
+            addresses,
+            relay_addresses,
+            names,
+        })
     }
 
     /// The place of the first part of the site that has this name.
@@ -133,7 +151,7 @@ impl<A: Allocator + Copy> Directory<A> {
     }
 
     /// The place of the first station at this address.
-    fn place_at(&self, address: Station) -> Option<usize>
+    fn host_place(&self, address: Station) -> Option<usize>
         ensures { result ≡ place_in self.now address }
     {
         self.addresses.get(&address).copied()
@@ -150,7 +168,7 @@ impl<A: Allocator + Copy> Directory<A> {
             IsHostAt address stations.now found.place found.port found.station.now) }
         ensures none { IfNone result (IsNoHostAt address stations.now) }
     {
-        let Some(place) = self.place_at(address) else {
+        let Some(place) = self.host_place(address) else {
             return None;
         };
         let Some(station) = station_at(stations, place) else {
@@ -164,5 +182,35 @@ impl<A: Allocator + Copy> Directory<A> {
             port,
             station,
         })
+    }
+
+    /// The place of the first relay at this address.
+    fn relay_place(&self, address: Station) -> Option<usize>
+        ensures { result ≡ relay_place_in self.now address }
+    {
+        self.relay_addresses.get(&address).copied()
+    }
+
+    /// The relay at an address, if one is (6.1).
+    pub fn relay_at<'r>(
+        &self,
+        relays: &'r [WorldRelay<A>],
+        address: Station,
+    ) -> Option<RelayFound<'r, A>>
+        requires leads { LeadsToRelays self.now relays.now }
+        ensures there { IfSome result (λ found.
+            IsRelayAt ports.station_of address relays.now found.place found.port found.relay.now) }
+        ensures none { IfNone result (IsNoRelayAt ports.station_of address relays.now) }
+    {
+        let Some(place) = self.relay_place(address) else {
+            return None;
+        };
+        let Some(relay) = relay_in(relays, place) else {
+            return None;
+        };
+        let Some(port) = place_at(relay, address) else {
+            return None;
+        };
+        Some(RelayFound { place, port, relay })
     }
 }

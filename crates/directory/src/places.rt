@@ -1,7 +1,7 @@
 //! At which place of a list each key stands first.
 
-ghost use Rattle.std.specs.Prelude.{IfOk};
-ghost use Rattle.directory.specs.Places.{AreFirst};
+ghost use Rattle.std.specs.Prelude.{IfOk, OnOk};
+ghost use Rattle.directory.specs.Places.{AreFirst, IsPut};
 
 use std::alloc::{AllocError, Allocator};
 use std::collections::BTreeMap;
@@ -26,4 +26,20 @@ pub(crate) fn first_places<K: Ord + Drop, A: Allocator + Copy>(
         places.insert(key, left.len())?;
     }
     Ok(places)
+}
+
+/// A key has this place then, and any other the place that it had.
+///
+/// # Errors
+/// Want of memory.
+#[tactic(auto, using(crate::proofs::PlaceLaws::put_rules))]
+pub(crate) fn put_place<K: Ord + Drop, A: Allocator + Copy>(
+    places: &mut FirstPlaces<K, A>,
+    key: K,
+    place: usize,
+) -> Result<(), AllocError>
+    ensures { OnOk result (IsPut K.cmp key place places.old places.new) }
+{
+    places.insert(key, place)?;
+    Ok(())
 }

@@ -177,20 +177,21 @@ module _ {A R E : Type 0} (r : Result R E) (site : Parts A) (moment : ℕ) (rs :
 
   -- .. and no station has moved
   pub leads_act : (d : DirectoryState) (parts : List (site_part.Station A)) → OnOk r (x ≡ left_by moment plan s) →
-      OnErr r (x ≡ s) → AreSteady site moment ss → MayBeDone moment plan s → Leads d parts ss →
-      Leads d parts (slice_set ss place x)
+      OnErr r (x ≡ s) → AreSteady site moment ss → MayBeDone moment plan s → Leads d parts rs ss →
+      Leads d parts rs (slice_set ss place x)
   leads_act d parts left same steady may leads = by_result r left same
     where
       by_result : (q : Result R E) → OnOk q (x ≡ left_by moment plan s) → OnErr q (x ≡ s) →
-          Leads d parts (slice_set ss place x)
+          Leads d parts rs (slice_set ss place x)
       by_result (Ok u) left same = record {
         parts_are = leads.parts_are;
+        relays_are = leads.relays_are;
         hosts_are = leads_set moment d ss place s x there (all_at (λ t. IsHost moment t) ss place s steady.hosts there)
             (subst (λ (y : WorldStation A). IsHost moment y) (sym left) may.stands)
             (ap (λ (y : WorldStation A). entity.station_of y.entity) left ∙ stays moment plan.entity s.entity)
             leads.hosts_are;
       }
-      by_result (Err e) left same = subst (λ (xs : List (WorldStation A)). Leads d parts xs)
+      by_result (Err e) left same = subst (λ (xs : List (WorldStation A)). Leads d parts rs xs)
           (sym (ap (λ (y : WorldStation A). slice_set ss place y) same ∙ set_same ss place s there)) leads
 
   -- .. and all pass on

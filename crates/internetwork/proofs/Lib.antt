@@ -2,6 +2,7 @@ pub mod Standing
 pub mod ActingLaws
 pub mod QuietLaws
 pub mod EventLaws
+pub mod RestLaws
 pub mod StrayLaws
 pub mod FreshLaws
 pub mod PassingLaws

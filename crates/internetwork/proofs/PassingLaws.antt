@@ -9,13 +9,16 @@ use Rattle.npdu.specs.declared.mac.Station.{Station}
 use Rattle.primitives.specs.declared.plain_data.Reply.{Reply}
 use Rattle.primitives.specs.declared.plain_data.Request.{Request}
 use Rattle.plans.proofs.RelayPlans.{seen_before}
+use Rattle.plans.proofs.directory.StayLaws.{leads_set_relay}
 use Rattle.plans.specs.Plans.{MayPass}
+use Rattle.plans.specs.directory.Directory.{DirectoryState, Leads}
 use Rattle.plans.specs.relays.Laws.{RelayStands, SiteRelay, site_places}
 use Rattle.plans.specs.relays.Relay.{left_by, out_of, without_out}
 use Rattle.plans.specs.relays.declared.plan.RelayPlan.{RelayPlan}
 use Rattle.plans.specs.relays.declared.plan.RelayPlan.TheVariants as plan
 use Rattle.plans.specs.relays.declared.relay.Relay.TheVariants.{Router, Manager}
 use Rattle.site_parts.specs.declared.parts.Parts.{Parts}
+use Rattle.site_parts.specs.declared.parts.Station as site_part
 use Rattle.traffic.specs.declared.item.Item.{Item}
 use Rattle.chronicle.specs.Chronicle.{IsGrown, IsSame}
 use Rattle.chronicle.specs.Growing.{AreFromMacs, frames_at, items_at}
@@ -72,7 +75,7 @@ module _ {A R E : Type 0} (r : Result R E) (site : Parts A) (moment : ℕ) (rs :
           ArePassing moment (slice_set rs place x) c1.items.items
       by_result (Ok u) left same passes kept = record {
         relays = all_set (RelayStands moment) rs place x steady.relays
-            (subst (λ (y : SiteRelay A). RelayStands moment y) (sym left) may.stands);
+            (subst (λ (y : SiteRelay A). RelayStands moment y) (sym left) may.stays.stands);
         from = subst (λ (is : List (Item A)). AreFromMacs is) (sym passes.items)
             (from_both c0.items.items (items_at moment (site_places s) (out_of p)) steady.from passes.from);
       }
@@ -81,6 +84,22 @@ module _ {A R E : Type 0} (r : Result R E) (site : Parts A) (moment : ℕ) (rs :
             (sym (ap (λ (y : SiteRelay A). slice_set rs place y) same ∙ set_same rs place s there)) steady.relays;
         from = subst (λ (is : List (Item A)). AreFromMacs is) (sym kept.items) steady.from;
       }
+
+  -- .. and no relay has moved
+  pub leads_pass : (d : DirectoryState) (parts : List (site_part.Station A)) → OnOk r (x ≡ left_by moment p s) →
+      OnErr r (x ≡ s) → MayPass moment p s → Leads d parts rs ss → Leads d parts (slice_set rs place x) ss
+  leads_pass d parts left same may leads = by_result r left same
+    where
+      by_result : (q : Result R E) → OnOk q (x ≡ left_by moment p s) → OnErr q (x ≡ s) →
+          Leads d parts (slice_set rs place x) ss
+      by_result (Ok u) left same = record {
+        parts_are = leads.parts_are;
+        relays_are = leads_set_relay d rs place s x there
+            (ap (λ (y : SiteRelay A). site_places y) left ∙ may.stays.same) leads.relays_are;
+        hosts_are = leads.hosts_are;
+      }
+      by_result (Err e) left same = subst (λ (ys : List (SiteRelay A)). Leads d parts ys ss)
+          (sym (ap (λ (y : SiteRelay A). slice_set rs place y) same ∙ set_same rs place s there)) leads
 
   -- what it puts out
   abbrev fresh : List (Item A)

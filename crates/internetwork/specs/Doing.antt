@@ -1,14 +1,15 @@
 -- A plan of a station of a world, and that it was done.
-use Rattle.std.specs.Prelude.{◌≡◌, ℕ, List, ◌++◌, Option, Some, option_to_list, slice_get}
+use Rattle.std.specs.Prelude.{◌≡◌, ℕ, List, ◌++◌, Option, Some, option_to_list, slice_get, slice_set}
 use Rattle.chronicle.specs.carry_said.Said.{HasInsides}
 use Rattle.history.specs.declared.Entry.{Entry}
 use Rattle.npdu.specs.declared.mac.Station.{Station}
 use Rattle.primitives.specs.declared.plain_data.Reply.{Reply}
 use Rattle.primitives.specs.declared.plain_data.Request.{Request}
 use Rattle.link_site.specs.Port.{station_of}
+use Rattle.link_site.specs.Steps as site
 use Rattle.link_site.specs.declared.port.SitePort.{SitePort}
 use Rattle.chronicle.specs.site_station.Entity as entity
-use Rattle.chronicle.specs.site_station.Station.{IsPlanned, left_by, told_by}
+use Rattle.chronicle.specs.site_station.Station.{IsPlanned, StationWakes, left_by, nothing_told, told_by}
 use Rattle.chronicle.specs.site_station.declared.station.StationPlan.{StationPlan}
 use Rattle.plans.specs.hosts.Hosts.{IsHost}
 use Rattle.inside.specs.Inside.{AreInside, Said}
@@ -34,7 +35,13 @@ pub record IsDone {A : Type 0} (w v : WorldState A) (place : ℕ) (plan : Statio
   pub history : v.history ≡ told_in (entity.station_of s.entity) w.moment v.keys (told_by plan).told
       (w.history ++ option_to_list entry)
 
--- .. and this is how a chronicle of all that happened grew by it
+-- the station woke where nothing was due: nothing was told or put out, and nothing else has changed
+pub record HasRested {A : Type 0} (w v : WorldState A) (place : ℕ) (s : WorldStation A) : Type 0 where
+  pub next : WorldStation A
+  pub wakes : StationWakes site.is_due site.Wakes site.Downs w.moment s nothing_told next
+  pub is : v ≡ record w { stations = slice_set w.stations place next }
+
+-- this is how a chronicle of all that happened grew by a plan that was done
 pub record Tells {A : Type 0} (now : ℕ) (plan : StationPlan (SitePort A) A) (key : Option kept.Key)
     (entry : Option (Entry Station (Request A) (Reply A))) (s : WorldStation A) (old new : Chronicle A) : Type 0 where
   pub fresh : List Said

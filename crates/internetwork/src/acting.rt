@@ -7,14 +7,16 @@ ghost use Rattle.profile.specs.Times.{MAX_MOMENT_MS};
 ghost use Rattle.chronicle.specs.Chronicle.{IsSame};
 ghost use Rattle.chronicle.specs.Growing.{frames_at, frames_of};
 ghost use Rattle.link_site.specs.Port as ports;
+ghost use Rattle.link_site.specs.Steps as site;
 ghost use Rattle.plans.specs.relays.Laws.{RelayStands, site_places};
 ghost use Rattle.plans.specs.relays.Relay as passing;
-ghost use Rattle.internetwork.specs.Doing.{AtPlace, IsDone, Tells};
+ghost use Rattle.plans.specs.relays.Steps as relay;
+ghost use Rattle.internetwork.specs.Doing.{AtPlace, HasRested, IsDone, Tells};
 ghost use Rattle.plans.specs.Plans.{MayBeDone, MayPass};
-ghost use Rattle.internetwork.specs.Passing.{HasPassed, Passes};
+ghost use Rattle.internetwork.specs.Passing.{HasPassed, Passes, RelayHasRested};
 ghost use Rattle.plans.specs.hosts.Hosts.{IsHost};
 ghost use Rattle.chronicle.specs.site_station.Entity as entity;
-ghost use Rattle.chronicle.specs.site_station.Station.{left_by, told_by};
+ghost use Rattle.chronicle.specs.site_station.Station.{IsQuiet, left_by, told_by};
 
 use crate::internetwork::Internetwork;
 use buses::Buses;
@@ -127,6 +129,15 @@ fn act<A: Allocator + Copy>(
 }
 
 impl<A: Allocator + Copy> Internetwork<A> {
+    /// The station at a place wakes, where nothing is due of it. It takes no memory.
+    pub(crate) fn rest(&mut self, place: usize)
+        requires quiet { AtPlace place self.old.stations (IsQuiet site.is_due self.old.moment) }
+        ensures rested { AtPlace place self.old.stations (HasRested self.old self.new place) }
+    {
+        let now = self.moment;
+        self.stations[place].wake_quietly(now);
+    }
+
     /// The station at a place does what it planned.
     ///
     /// # Errors
@@ -194,6 +205,15 @@ fn pass<A: Allocator + Copy>(
 }
 
 impl<A: Allocator + Copy> Internetwork<A> {
+    /// The relay at a place wakes, where nothing is due of it. It takes no memory.
+    pub(crate) fn rest_relay(&mut self, place: usize)
+        requires quiet { AtPlace place self.old.relays (relay.IsQuiet site.is_due self.old.moment) }
+        ensures rested { AtPlace place self.old.relays (RelayHasRested self.old self.new place) }
+    {
+        let now = self.moment;
+        self.relays[place].wake_quietly(now);
+    }
+
     /// The relay at a place does what it planned.
     ///
     /// # Errors

@@ -61,13 +61,14 @@ impl<A: Allocator + Copy> Internetwork<A> {
     {
         let site = site_of(self.alloc, &self.site)?;
         let stations = stations_in(self.alloc, self.stations.as_slice())?;
+        let relays = relays_in(self.alloc, self.relays.as_slice())?;
         let directory = Directory::new(
             self.alloc,
             site.stations(),
+            relays.as_slice(),
             stations.as_slice(),
             self.moment,
         )?;
-        let relays = relays_in(self.alloc, self.relays.as_slice())?;
         let buses = self.buses.copy(self.alloc)?;
         let chronicle = self.chronicle.copy(self.alloc)?;
         Ok(Internetwork {

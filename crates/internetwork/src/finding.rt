@@ -13,10 +13,9 @@ ghost use Rattle.traffic.specs.Seeking.{is_young};
 
 use crate::internetwork::Internetwork;
 use chronicle::Entity;
-use link_site::SitePort;
 use npdu::Station;
 use objects::Table;
-use plans::{HostFound, RelayFound, WorldRelay, WorldStation, relay_at, relay_in, station_at};
+use plans::{HostFound, RelayFound, WorldRelay, WorldStation, relay_in, station_at};
 use std::alloc::Allocator;
 use tags::Fault;
 use traffic::{Item, in_time, item_at};
@@ -138,7 +137,7 @@ impl<A: Allocator + Copy> Internetwork<A> {
     }
 
     /// The relay at an address, if one is, and no device and no client.
-    pub(crate) fn relay_addressee(&self, address: Station) -> Option<RelayFound<'_, SitePort<A>, A>>
+    pub(crate) fn relay_addressee(&self, address: Station) -> Option<RelayFound<'_, A>>
         ensures addressee { IfSome result (λ p. IsRelayAddressee address self.now p.place p.port p.relay.now) }
         ensures stands { IfSome result (λ p. RelayStands self.now.moment p.relay.now) }
         ensures none { IfNone result (HasNoRelay address self.now) }
@@ -146,7 +145,7 @@ impl<A: Allocator + Copy> Internetwork<A> {
         if self.addressee(address).is_some() {
             return None;
         }
-        match relay_at(self.relays.as_slice(), address) {
+        match self.directory.relay_at(self.relays.as_slice(), address) {
             Some(found) => Some(found),
             None => None,
         }

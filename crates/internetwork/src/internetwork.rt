@@ -45,7 +45,7 @@ impl<A: Allocator + Copy> Model for Internetwork<A> {
 
     ghost invariant = { λ w. AreSteady w.site w.moment w.stations.items
         × ArePassing w.moment w.relays.items w.chronicle.items.items
-        × Leads w.directory w.site.stations w.stations.items };
+        × Leads w.directory w.site.stations w.relays.items w.stations.items };
 }
 
 impl<A: Allocator + Copy> Internetwork<A> {
@@ -73,7 +73,13 @@ impl<A: Allocator + Copy> Internetwork<A> {
     {
         let stations = stations_of(alloc, &site)?;
         let relays = relays_of(alloc, &site)?;
-        let directory = Directory::new(alloc, site.stations(), stations.as_slice(), 0)?;
+        let directory = Directory::new(
+            alloc,
+            site.stations(),
+            relays.as_slice(),
+            stations.as_slice(),
+            0,
+        )?;
         let buses = Buses::new(buses_of(alloc, &site)?);
         Ok(Internetwork::open(alloc, site, relays, stations, directory, buses))
     }
@@ -89,7 +95,7 @@ impl<A: Allocator + Copy> Internetwork<A> {
     ) -> Self
         requires steady { AreSteady site 0 stations.items }
         requires passing { ArePassing {A = A} 0 relays.items [] }
-        requires leads { Leads directory site.stations stations.items }
+        requires leads { Leads directory site.stations relays.items stations.items }
         ensures { result ≡ record {
           site = site;
           moment = 0;

@@ -87,7 +87,7 @@ impl<A: Allocator + Copy> Internetwork<A> {
         Ok(())
     }
 
-    /// A relay wakes, or else a device or a client (5.4.1, 6.6.2, J.5.2.3).
+    /// A relay wakes, or else a device or a client (5.4.1, 6.6.2, J.5.2.3). Where nothing is due, nothing is planned.
     pub(crate) fn wake(&mut self, name: &[u8]) -> Result<(), Fault>
         ensures wakes { OnOk result (Wakes name.now self.old self.new ⊎ RelayWakesUp name.now self.old self.new) }
         ensures cause { IfErr result (λ fault. IsRefused (event.Wake name.now) self.old fault) }
@@ -97,6 +97,10 @@ impl<A: Allocator + Copy> Internetwork<A> {
         let Some(FoundRelay { place, relay }) = self.relay_named(name) else {
             return self.wake_host(name);
         };
+        if relay.is_quiet(now) {
+            self.rest_relay(place);
+            return Ok(());
+        }
         let plan = plan_relay_wakes(relay, now)?;
         self.pass_on(place, plan)
     }
@@ -110,6 +114,10 @@ impl<A: Allocator + Copy> Internetwork<A> {
     {
         let now = self.now();
         let Found { place, station } = self.named(name)?;
+        if station.is_quiet(now) {
+            self.rest(place);
+            return Ok(());
+        }
         let plan = plan_wakes(station, now)?;
         self.carry_out(place, plan, None, None)
     }

@@ -21,29 +21,29 @@ module _ {A : Type 0} (now : ℕ) (r : SiteRelay A) (stands : RelayStands now r)
       by_kind (Router s) h = (h.stands.before, h.before)
       by_kind (Manager s) h = h
 
-  -- what it plans leaves it so
+  -- what it plans leaves it so, where it was
   pub may_pass_heard : (p : RelayPlan (SitePort A) A) (port : ℕ) (from : Mac) (octets : List ℕ) (stamp : ℕ) →
       RelayHears Hears Downs now port from octets stamp r (out_of p) (left_by now p r) → MayPass now p r
   may_pass_heard p port from octets stamp h = record {
-    stands = (relay_stays_at_hearing A now port from octets stamp r (left_by now p r) (out_of p) stands h).stands;
+    stays = relay_stays_at_hearing A now port from octets stamp r (left_by now p r) (out_of p) stands h;
   }
 
   pub may_pass_woken : (p : RelayPlan (SitePort A) A) →
       RelayWakes is_due Wakes Downs now r (out_of p) (left_by now p r) → MayPass now p r
   may_pass_woken p h = record {
-    stands = (relay_stays_at_wake A now r (left_by now p r) (out_of p) stands h).stands;
+    stays = relay_stays_at_wake A now r (left_by now p r) (out_of p) stands h;
   }
 
   pub may_pass_taken : (p : RelayPlan (SitePort A) A) (port count : ℕ) (from : Mac) (octets : List ℕ) (stamp : ℕ) →
       RelayHearsFrame Counts Hears Downs now port count from octets stamp r (out_of p) (left_by now p r) → MayPass now p r
   may_pass_taken p port count from octets stamp h = record {
-    stands = (relay_stays_at_frame A now port count from octets stamp r (left_by now p r) (out_of p) stands h).stands;
+    stays = relay_stays_at_frame A now port count from octets stamp r (left_by now p r) (out_of p) stands h;
   }
 
   pub may_pass_told : (p : RelayPlan (SitePort A) A) (port count : ℕ) →
       RelayCounts Counts now port count r (out_of p) (left_by now p r) → MayPass now p r
   may_pass_told p port count h = record {
-    stands = (relay_stays_at_counting A now port count r (left_by now p r) (out_of p) stands h).stands;
+    stays = relay_stays_at_counting A now port count r (left_by now p r) (out_of p) stands h;
   }
 
 pub ruleset plan_rules = (seen_before, may_pass_heard, may_pass_woken, may_pass_taken, may_pass_told)

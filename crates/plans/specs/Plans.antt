@@ -7,7 +7,7 @@ use Rattle.link_ports.specs.Ports.{IsTooLong}
 use Rattle.link_site.specs.Port as port
 use Rattle.link_site.specs.declared.port.SitePort.{SitePort}
 use Rattle.npdu.specs.declared.mac.Station.{Station}
-use Rattle.directory.specs.relays.Laws.{RelayStands, SiteRelay}
+use Rattle.directory.specs.relays.Laws.{SiteRelay, Stays}
 use Rattle.directory.specs.relays.Relay as passing
 use Rattle.directory.specs.relays.declared.plan.RelayPlan.{RelayPlan}
 use Rattle.directory.specs.site_station.Entity as entity
@@ -23,9 +23,9 @@ pub record MayBeDone {A : Type 0} (now : ℕ) (plan : StationPlan (SitePort A) A
   pub insides : HasInsides (entity.station_of s.entity).net (told_by plan).told.said
   pub stands : IsHost now (left_by now plan s)
 
--- a relay stands once this plan is done
+-- a relay stands once this plan is done, and is where it was
 pub record MayPass {A : Type 0} (now : ℕ) (plan : RelayPlan (SitePort A) A) (r : SiteRelay A) : Type 0 where
-  pub stands : RelayStands now (passing.left_by now plan r)
+  pub stays : Stays now r (passing.left_by now plan r)
 
 -- the places of a station's ports (6.1)
 abbrev pub places_of : {A : Type 0} → WorldStation A → List Station

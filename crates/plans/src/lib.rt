@@ -16,8 +16,8 @@ mod passing;
 mod stations;
 
 pub use directory::{
-    Directory, HostFound, RelayFound, WorldRelay, WorldStation, buses_of, opening_of, relay_at,
-    relay_in, relays_of, station_at, stations_of,
+    Directory, HostFound, RelayFound, WorldRelay, WorldStation, buses_of, opening_of, relay_in,
+    relays_of, station_at, stations_of,
 };
 pub use listening::{EarPort, ear_port, relay_ear_port};
 pub use passing::{

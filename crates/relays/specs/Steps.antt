@@ -7,6 +7,7 @@ use Rattle.npdu.specs.declared.parcel.Parcel.{Parcel}
 use Rattle.site_manager.specs.Station.{ManagerHears, ManagerWakes}
 use Rattle.site_router.specs.Station.{RouterStationCounts, RouterStationHears, RouterStationHearsFrame}
 use Rattle.site_router.specs.Station.{RouterStationWakes}
+use Rattle.site_router.specs.Station as router
 use Rattle.relays.specs.declared.relay.Relay.{Relay}
 use Rattle.relays.specs.declared.relay.Relay.TheVariants.{Router, Manager}
 
@@ -46,3 +47,8 @@ module _ {A L : Type 0} where
   RelayWakes is_due wakes downs now (Router s) out (Router new) = RouterStationWakes is_due wakes downs now s out new
   RelayWakes is_due wakes downs now (Manager s) out (Manager new) = ManagerWakes now s out new
   RelayWakes is_due wakes downs now r out new = ⊥
+
+  -- nothing is due of it where it wakes; of a manager nothing ever is
+  abbrev pub IsQuiet : (is_due : ℕ → L → Bool) → ℕ → Relay L A → Type 0
+  IsQuiet is_due now (Router s) = router.IsQuiet is_due now s
+  IsQuiet is_due now (Manager s) = Unit {0}

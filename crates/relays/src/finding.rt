@@ -1,8 +1,7 @@
-//! Which of some relays is at an address.
+//! Which of some relays is at a place, and which of a relay's places is at an address.
 
 ghost use Rattle.std.specs.Prelude.{◌≡◌, None, Some, IfNone, IfSome, slice_get};
 ghost use Rattle.relays.specs.Finding as spec;
-ghost use Rattle.relays.specs.Finding.{IsNoRelayAt, IsRelayAt, place_of};
 
 use crate::relay::Relay;
 use link::Link;
@@ -19,8 +18,8 @@ fn is_place_at(place: Option<Station>, address: Station) -> bool
     }
 }
 
-/// Which of its places is at an address.
-fn place_at<L: Link<A> + Drop, A: Allocator + Copy>(
+/// Which of a relay's places is at an address, if one is (6.1).
+pub fn place_at<L: Link<A> + Drop, A: Allocator + Copy>(
     relay: &Relay<L, A>,
     address: Station,
 ) -> Option<usize>
@@ -30,31 +29,6 @@ fn place_at<L: Link<A> + Drop, A: Allocator + Copy>(
         if is_place_at(relay.place(port), address) {
             return Some(port);
         }
-    }
-    None
-}
-
-/// Whether a relay is at an address.
-#[tactic(auto, unfolding(crate::specs::Finding::is_there))]
-fn is_there<L: Link<A> + Drop, A: Allocator + Copy>(relay: &Relay<L, A>, address: Station) -> bool
-    ensures { result ≡ spec.is_there L.station address relay.now }
-{
-    place_at(relay, address).is_some()
-}
-
-/// The place of the first relay at an address.
-fn first_at<L: Link<A> + Drop, A: Allocator + Copy>(
-    relays: &[Relay<L, A>],
-    address: Station,
-) -> Option<usize>
-    ensures { result ≡ place_of (spec.is_there L.station address) relays.now }
-{
-    let mut place = 0;
-    for relay in relays {
-        if is_there(relay, address) {
-            return Some(place);
-        }
-        place += 1;
     }
     None
 }
@@ -71,33 +45,4 @@ pub fn relay_in<L: Link<A> + Drop, A: Allocator + Copy>(
         Some(relay) => Some(relay),
         None => None,
     }
-}
-
-/// A relay at an address: its place among others, and which of its places that is.
-#[derive(Drop)]
-pub struct RelayFound<'r, L: Link<A> + Drop, A: Allocator + Copy> {
-    pub place: usize,
-    pub port: usize,
-    pub relay: &'r Relay<L, A>,
-}
-
-/// The relay at an address, if one is (6.1).
-pub fn relay_at<L: Link<A> + Drop, A: Allocator + Copy>(
-    relays: &[Relay<L, A>],
-    address: Station,
-) -> Option<RelayFound<'_, L, A>>
-    ensures there { IfSome result (λ found.
-        IsRelayAt L.station address relays.now found.place found.port found.relay.now) }
-    ensures none { IfNone result (IsNoRelayAt L.station address relays.now) }
-{
-    let Some(place) = first_at(relays, address) else {
-        return None;
-    };
-    let Some(relay) = relay_in(relays, place) else {
-        return None;
-    };
-    let Some(port) = place_at(relay, address) else {
-        return None;
-    };
-    Some(RelayFound { place, port, relay })
 }

@@ -7,7 +7,7 @@
 //!
 //! - `plan`: what a relay would do.
 //! - `relay`: the relay, its inputs and their commit.
-//! - `finding`: which relay is at an address.
+//! - `finding`: which relay is at a place, and which of its places is at an address.
 //! - `laws`: what holds of each relay of a site, for the proofs of the layers above.
 #![tactic(auto)]
 
@@ -16,7 +16,7 @@ mod laws;
 mod plan;
 mod relay;
 
-pub use finding::{RelayFound, relay_at, relay_in};
+pub use finding::{place_at, relay_in};
 pub use laws::{relays_pass_on, relays_stay};
 pub use plan::RelayPlan;
 pub use relay::Relay;

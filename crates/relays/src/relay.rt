@@ -1,10 +1,10 @@
 //! A relay, whatever its kind.
 
-ghost use Rattle.std.specs.Prelude.{◌≡◌, ◌≤◌, ◌⊎◌, IfOk, IfErr, length, map, slice_get};
+ghost use Rattle.std.specs.Prelude.{◌≡◌, ◌≤◌, ◌⊎◌, ◌↔◌, [], true, IfOk, IfErr, length, map, slice_get};
 ghost use Rattle.profile.specs.Times.{MAX_MOMENT_MS};
 ghost use Rattle.relays.specs.Relay.{IsBefore, left_by, out_of, places_of};
 ghost use Rattle.relays.specs.Refusals.{FrameIsRefused, HearingIsRefused, WakeIsRefused};
-ghost use Rattle.relays.specs.Steps.{RelayCounts, RelayHears, RelayHearsFrame, RelayWakes};
+ghost use Rattle.relays.specs.Steps.{IsQuiet, RelayCounts, RelayHears, RelayHearsFrame, RelayWakes};
 
 use crate::plan::RelayPlan;
 use link::Link;
@@ -185,6 +185,33 @@ impl<L: Link<A> + Drop, A: Allocator + Copy> Relay<L, A> {
                 Ok(RelayPlan::Router(plan))
             }
             Relay::Manager(station) => Ok(RelayPlan::Manager(station.plan_wakes(now))),
+        }
+    }
+
+    /// Whether nothing is due where it wakes at the moment `now`, in milliseconds. Of a manager nothing ever is.
+    pub fn is_quiet(&self, now: u64) -> bool
+        ensures { (result ≡ true) ↔ IsQuiet L.is_due now self.now }
+    {
+        match self {
+            Relay::Router(station) => station.is_quiet(now),
+            Relay::Manager(_) => true,
+        }
+    }
+
+    /// Wakes at the moment `now`, in milliseconds, where nothing is due: nothing is put out, and a manager forgets the
+    /// registrations that have ended (J.5.2.3). It takes no memory.
+    pub fn wake_quietly(&mut self, now: u64)
+        requires greatest { now ≤ MAX_MOMENT_MS }
+        requires before { IsBefore L.moment now self.old }
+        requires quiet { IsQuiet L.is_due now self.old }
+        ensures { RelayWakes L.is_due L.wakes L.downs now self.old [] self.new }
+    {
+        match self {
+            Relay::Router(station) => station.wake_quietly(now),
+            Relay::Manager(station) => {
+                let plan = station.plan_wakes(now);
+                station.commit(plan, now);
+            }
         }
     }
 

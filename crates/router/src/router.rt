@@ -48,11 +48,11 @@ pub fn are_numbered(ports: &[Station]) -> bool
 }
 
 impl<A: Allocator + Copy> Router<A> {
-    ghost use Rattle.std.specs.Prelude.{◌≡◌, ◌≤◌, IfOk, IfSome, length, slice_get};
+    ghost use Rattle.std.specs.Prelude.{◌≡◌, ◌≤◌, true, IfOk, IfSome, length, slice_get};
     ghost use Rattle.profile.specs.Limits.{MAX_LEARNED_ROUTES};
     ghost use Rattle.profile.specs.Times.{MAX_MOMENT_MS};
     ghost use Rattle.router.specs.Plan.{left_by};
-    ghost use Rattle.router.specs.Router.{AreNumbered, IsNumbered, new_router};
+    ghost use Rattle.router.specs.Router.{AreNumbered, IsNumbered, new_router, woken};
 
     /// A router with these ports, whose memory will be that of `alloc`: of each the number of its network, 1..=65534,
     /// and the router's address there. It knows no route but those to its own networks, and has not woken.
@@ -117,6 +117,23 @@ impl<A: Allocator + Copy> Router<A> {
         ensures numbered { IfSome result IsNumbered }
     {
         self.ports.as_slice().get(number).copied()
+    }
+
+    /// Whether it has woken: it then says nothing where it wakes again (6.6.2).
+    pub fn has_woken(&self) -> bool
+        ensures { result ≡ self.now.woken }
+    {
+        self.woken
+    }
+
+    /// Wakes again at the moment `now`, in milliseconds: it says nothing, and takes no memory.
+    pub fn wake_again(&mut self, now: u64)
+        requires greatest { now ≤ MAX_MOMENT_MS }
+        requires order { self.old.moment ≤ now }
+        requires woken { self.old.woken ≡ true }
+        ensures { self.new ≡ woken now self.old }
+    {
+        self.moment = now;
     }
 
     /// Does what was planned at the moment `now`, in milliseconds, with no other input between, and answers what goes

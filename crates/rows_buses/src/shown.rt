@@ -86,8 +86,8 @@ pub(crate) fn push_bus<A: Allocator>(bus: &Bus<A>, out: &mut String) -> Result<(
     for known in bus.known.as_slice() {
         push_known(known, out)?;
     }
-    for recent in bus.recent.as_slice() {
-        push_recent(recent, out)?;
+    for held in bus.recent.as_slice() {
+        push_recent(held.recent(), out)?;
     }
     Ok(())
 }

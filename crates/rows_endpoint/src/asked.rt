@@ -13,8 +13,8 @@ use npdu::{Mac, Parcel, Station, Target};
 use primitives::Request;
 use profile::{LinkKind, MAX_MOMENT_MS};
 use sheets::{
-    Counts, Given, Part, Stop, number, push_mark, push_octets, refusal, request_in, run_number,
-    run_text, run_word, two_words,
+    Counts, Given, Part, Stop, differs, number, push_mark, push_octets, refusal, request_in,
+    run_number, run_text, run_word, two_words,
 };
 use std::alloc::{AllocError, Allocator, Global};
 use tags::{Fault, Octets};
@@ -81,6 +81,23 @@ fn in_words<A: Allocator>(
     told_or_nothing(out)
 }
 
+/// What a client says where it wakes, in words. It wakes once more at the same moment, when nothing is due any more.
+fn wake<A: Allocator + Copy>(
+    client: &mut Client<A>,
+    alloc: Global,
+    now: u64,
+) -> Result<String, Stop> {
+    if now > MAX_MOMENT_MS || now < client.moment() {
+        return Err(Stop::Unread(Part::Number));
+    }
+    let words = in_words(alloc, OWN, now, client.on_tick(now))?;
+    if !client.is_quiet(now) {
+        return Err(differs(alloc, "something is still due"));
+    }
+    client.wake_quietly(now);
+    Ok(words)
+}
+
 /// What a client says of an issue, in words, or why it is refused.
 fn issue<A: Allocator + Copy>(
     client: &mut Client<A>,
@@ -115,7 +132,7 @@ impl<A: Allocator + Copy> TakesInputs<A> for Client<A> {
             return Err(Stop::Unread(Part::Number));
         }
         match input {
-            Input::Wakes => in_words(alloc, OWN, now, self.on_tick(now)),
+            Input::Wakes => wake(self, alloc, now),
             Input::Hears(parcel) => in_words(alloc, OWN, now, self.on_parcel(parcel, now)),
             Input::Issues(instance, request) => issue(self, alloc, now, *instance, request),
             Input::AsksWho(limits) => ask_who(alloc, now, &self.who_is(*limits, now)?),

@@ -9,13 +9,26 @@ use npdu::Mac;
 use primitives::Request;
 use profile::MAX_MOMENT_MS;
 use sheets::{
-    Counts, Given, Part, Stop, number, push_mark, request_in, run_number, run_text, run_word,
-    two_words,
+    Counts, Given, Part, Stop, differs, number, push_mark, request_in, run_number, run_text,
+    run_word, two_words,
 };
 use std::alloc::{AllocError, Allocator, Global};
 
 /// The address of the device on BACnet/IP, to which what is for it alone is sent.
 const OWN: Mac = Mac::Six([127, 0, 0, 1, 0xBA, 0xC3]);
+
+/// Wakes once more at the moment of a wake, when nothing is due any more.
+fn wake_again<A: Allocator + Copy>(
+    alloc: Global,
+    device: &mut Device<A>,
+    now: u64,
+) -> Result<(), Stop> {
+    if now < device.moment() || !device.is_quiet(now) {
+        return Err(differs(alloc, "something is still due"));
+    }
+    device.wake_quietly(now);
+    Ok(())
+}
 
 /// What a device says and executes of an input.
 fn told<A: Allocator + Copy>(
@@ -63,6 +76,9 @@ impl<A: Allocator + Copy> TakesInputs<A> for Device<A> {
     fn take(&mut self, alloc: Global, now: u64, input: &Input<A>) -> Result<String, Stop> {
         let from = self.mac();
         let told = told(self, now, input)?;
+        if matches!(input, Input::Wakes) {
+            wake_again(alloc, self, now)?;
+        }
         in_words(alloc, from, now, &told)
     }
 

@@ -78,8 +78,8 @@ fn frames_on(
     let now = world.moment();
     let mut frames = Vec::new(alloc);
     for bus in &world.buses().buses {
-        for recent in &bus.recent {
-            let sending = &recent.sending;
+        for held in &bus.recent {
+            let sending = &held.recent().sending;
             let is_before = bus.net == network && sending.place.frames < before;
             if is_before && is_in_time(sending.stamp, now) {
                 frames.push(sending.octets.as_slice())?;

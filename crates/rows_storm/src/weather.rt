@@ -144,8 +144,8 @@ fn push_frames<'w>(
     before: u64,
     sent: &mut Vec<Sent<'w>>,
 ) -> Result<(), AllocError> {
-    for recent in &bus.recent {
-        let sending = &recent.sending;
+    for held in &bus.recent {
+        let sending = &held.recent().sending;
         if sending.place.frames >= before {
             sent.push(Sent::Frame {
                 network: bus.net,

@@ -3,7 +3,7 @@
 ghost use Rattle.std.specs.Prelude.{IfOk};
 ghost use Rattle.simulator.specs.internetwork.Step.{IsSoundIfAny};
 
-use bus_traffic::Recent;
+use bus_traffic::{Recent, RecentBox};
 use npdu::{Mac, Station};
 use profile::LinkKind;
 use simulator::{Event, World};
@@ -27,8 +27,9 @@ pub(crate) enum Choice {
 }
 
 /// The frame before which so many were put out on all buses, if it may still be heard.
-fn frame_of<A: Allocator>(recent: &[Recent<A>], frame: u64) -> Option<&Recent<A>> {
-    for one in recent {
+fn frame_of<A: Allocator>(recent: &[RecentBox<A>], frame: u64) -> Option<&Recent<A>> {
+    for held in recent {
+        let one = held.recent();
         if one.sending.place.frames == frame {
             return Some(one);
         }

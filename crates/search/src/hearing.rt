@@ -1,16 +1,16 @@
 //! Which frames are heard next, at which station of their bus.
 
 use crate::choice::Choice;
-use bus_traffic::{Bus, Recent};
+use bus_traffic::{Bus, RecentBox};
 use profile::is_heard_in_time;
 use std::alloc::{AllocError, Allocator};
 
 /// How many of these frames come before the last that was heard at an address, that one included: those that weren't
 /// are lost there, since a bus overtakes none.
-fn count_over<A: Allocator>(recent: &[Recent<A>], address: u8) -> usize {
+fn count_over<A: Allocator>(recent: &[RecentBox<A>], address: u8) -> usize {
     let mut count = 0;
     for place in 0..recent.len() {
-        if recent[place].heard[address as usize] {
+        if recent[place].recent().heard[address as usize] {
             count = place + 1;
         }
     }
@@ -27,8 +27,8 @@ fn put_ear<A: Allocator>(
     out: &mut Vec<Choice, A>,
 ) -> Result<(), AllocError> {
     let over = count_over(&bus.recent, address);
-    for recent in bus.recent.get(over..).unwrap_or(&[]) {
-        let sending = &recent.sending;
+    for held in bus.recent.get(over..).unwrap_or(&[]) {
+        let sending = &held.recent().sending;
         if sending.sender != address && is_heard_in_time(sending.stamp, now) {
             out.push(Choice::Hear {
                 bus: place,

@@ -22,6 +22,12 @@ pub record Turned : Type 0 where
   pub state : SenderState
   pub turn : Turn
 
+-- nothing is done at a turn
+abbrev pub waits : Turn → Bool
+waits Waits = true
+waits Sends = false
+waits Ends = false
+
 -- nothing has gone; the first piece goes alone
 abbrev pub nothing_sent : ℕ → ℕ → SenderState
 nothing_sent length chunk =

@@ -24,3 +24,15 @@ pub enum Turn {
     /// It has ended: each segment is acknowledged, or its last repeat was not.
     Ends,
 }
+
+impl Turn {
+    ghost use Rattle.std.specs.Prelude.{◌≡◌};
+    ghost use Rattle.segments.specs.Sender.{waits};
+
+    /// Whether nothing is done.
+    pub fn waits(self) -> bool
+        ensures { result ≡ waits self }
+    {
+        matches!(self, Turn::Waits)
+    }
+}

@@ -9,5 +9,6 @@ pub mod Planned
 pub mod Busy
 pub mod Silent
 pub mod Fitted
+pub mod Quiet
 -- What the proofs above cite of those below.
 pub use Rattle.server_answers.proofs.remembered as remembered

@@ -54,6 +54,11 @@ module _ {X : Type 0} where
   drop_none (y ∷ xs) zero e = absurd (cc e)
   drop_none (y ∷ xs) (suc i) e = drop_none xs i e
 
+  pub drop_more : (xs : List X) (i : ℕ) → slice_get xs i ≡ None → drop (suc i) xs ≡ []
+  drop_more [] i e = refl
+  drop_more (y ∷ xs) zero e = absurd (cc e)
+  drop_more (y ∷ xs) (suc i) e = drop_more xs i e
+
 module _ {X Y : Type 0} where
   -- what the next one gives, and those behind it
   pub flat_step : (f : X → List Y) (before : List Y) (xs : List X) (i : ℕ) (x : X) → slice_get xs i ≡ Some x →
@@ -73,11 +78,6 @@ module _ {X Y : Type 0} where
   flat_none f before xs i e =
       let next : suc i ≡ i + 1 = omega arith in
       rw (← next) (ap (λ (zs : List X). before ++ flat_map f zs) (drop_more xs i e ∙ sym (drop_none xs i e)))
-    where
-      drop_more : (xs : List X) (i : ℕ) → slice_get xs i ≡ None → drop (suc i) xs ≡ []
-      drop_more [] i e = refl
-      drop_more (y ∷ xs) zero e = absurd (cc e)
-      drop_more (y ∷ xs) (suc i) e = drop_more xs i e
 
 module _ {X : Type 0} where
   at_place : (xs : List X) (i : ℕ) (x : X) → i < length xs → x ≡ slice_index_or xs i x → slice_get xs i ≡ Some x

@@ -1,9 +1,9 @@
 -- What a server does when it wakes, one remembered answer after another in order of execution (5.4.5).
 use Rattle.std.specs.Prelude.{ℕ, Bool, true, false, List, [], ◌∷◌, Option, Some, None}
-use Rattle.std.specs.List.{flat_map}
+use Rattle.std.specs.List.{flat_map, list_all}
 use Rattle.server_answers.specs.remembered.Records.{lives, said_again}
 use Rattle.server_answers.specs.remembered.declared.record.Record.{Record}
-use Rattle.segments.specs.Sender.{SenderState, wakes}
+use Rattle.segments.specs.Sender.{SenderState, waits, wakes}
 use Rattle.segments.specs.declared.step.Turn.{Turn}
 use Rattle.segments.specs.declared.step.Turn.TheVariants.{Waits, Sends, Ends}
 use Rattle.server_answers.specs.Answering.{answered_by}
@@ -53,6 +53,10 @@ said_on_wake now r = said_at_turn (turn_of now r) now r
 -- what goes on sending a remembered answer once the server woke, where that changes
 abbrev pub saying_on_wake : {A : Type 0} → ℕ → Record A → List Saying
 saying_on_wake now r = saying_at_turn (turn_of now r) now r
+
+-- nothing is due of any remembered answer: no window is said again, and no sending ends (5.4.5.4)
+abbrev pub is_quiet : {A : Type 0} → ℕ → List (Record A) → Bool
+is_quiet now rs = list_all (λ r. waits (turn_of now r)) rs
 
 -- what is said of all and changed when the server wakes, in order of execution
 abbrev pub woken : {A : Type 0} → ℕ → List (Record A) → ServerPlan A

@@ -291,7 +291,7 @@ impl<E: Executor<A> + Drop, A: Allocator + Copy> ServerTsm<E, A> {
     }
 
     /// What is too old is forgotten, and answers are said so. It takes no memory.
-    fn wake(&mut self, sayings: &[Saying], now: u64)
+    pub(crate) fn wake(&mut self, sayings: &[Saying], now: u64)
         requires { self.old.moment ≤ now }
         ensures { self.new ≡ committed now (Wakes sayings.now) self.old }
     {

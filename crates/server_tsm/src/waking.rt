@@ -1,8 +1,8 @@
 //! What a server does when it wakes (5.4.5).
 
-ghost use Rattle.std.specs.Prelude.{◌≡◌, ◌++◌, ◌+◌, OnOk, drop};
+ghost use Rattle.std.specs.Prelude.{◌≡◌, ◌++◌, ◌+◌, ◌&&◌, OnOk, drop};
 ghost use Rattle.std.specs.List.{flat_map};
-ghost use Rattle.server_tsm.specs.Waking.{again, said_on_wake, saying_on_wake, turn_of};
+ghost use Rattle.server_tsm.specs.Waking.{again, is_quiet, said_on_wake, saying_on_wake, turn_of};
 
 use crate::server::ServerTsm;
 use profile::lives;
@@ -89,11 +89,21 @@ fn wake_at<A: Allocator + Copy>(
     }
 }
 
+/// Whether nothing is due of the record at this place.
+fn waits_at<A: Allocator + Copy>(records: &SlabRecords<A>, place: usize, now: u64) -> bool
+    ensures { (result && is_quiet now (drop (place + 1) records.now)) ≡ is_quiet now (drop place records.now) }
+{
+    match records.at(place) {
+        None => true,
+        Some(entry) => turn_of(entry, now).waits(),
+    }
+}
+
 impl<E: Executor<A> + Drop, A: Allocator + Copy> ServerTsm<E, A> {
-    ghost use Rattle.std.specs.Prelude.{◌≡◌, ◌≤◌, ◌^◌, IfOk, OnOk, OnErr};
+    ghost use Rattle.std.specs.Prelude.{◌≡◌, ◌≤◌, ◌^◌, [], true, IfOk, OnOk, OnErr};
     ghost use Rattle.server_tsm.specs.Server.{committed};
     ghost use Rattle.server_tsm.specs.Steps.{IsPlanned, told_of_plan};
-    ghost use Rattle.server_tsm.specs.Waking.{woken};
+    ghost use Rattle.server_tsm.specs.Waking.{is_quiet, woken};
     ghost use Rattle.profile.specs.Times.{MAX_MOMENT_MS};
 
     /// What is said and left where the server wakes at the moment `now`, in milliseconds: windows of answers, in
@@ -133,5 +143,30 @@ impl<E: Executor<A> + Drop, A: Allocator + Copy> ServerTsm<E, A> {
     {
         let plan = self.plan_tick(now)?;
         self.take(plan, now)
+    }
+
+    /// Whether nothing is due where the server wakes at the moment `now`, in milliseconds: no window is said again, and no
+    /// answer's sending ends.
+    pub fn is_quiet(&self, now: u64) -> bool
+        ensures { result ≡ is_quiet now self.now.records }
+    {
+        for place in 0..self.records.len() {
+            if !waits_at(&self.records, place, now) {
+                return false;
+            }
+        }
+        true
+    }
+
+    /// Wakes at the moment `now`, in milliseconds, where nothing is due: nothing is said, and what is too old is
+    /// forgotten. It takes no memory.
+    #[tactic(auto, using(crate::proofs::Quiet::quiet_rules))]
+    pub fn wake_quietly(&mut self, now: u64)
+        requires order { self.old.moment ≤ now }
+        requires quiet { is_quiet now self.old.records ≡ true }
+        ensures said { (woken now self.old.records).said ≡ [] }
+        ensures left { self.new ≡ committed now (woken now self.old.records).change self.old }
+    {
+        self.wake(&[], now);
     }
 }

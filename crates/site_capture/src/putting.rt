@@ -132,8 +132,8 @@ fn put_bus<A: Allocator, B: Allocator>(
     moment: u64,
     file: &mut Vec<u8, B>,
 ) -> Result<(), Fault> {
-    for recent in &bus.recent {
-        put_frame(place, recent, before, moment, file)?;
+    for held in &bus.recent {
+        put_frame(place, held.recent(), before, moment, file)?;
     }
     Ok(())
 }

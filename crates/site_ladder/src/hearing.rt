@@ -2,7 +2,7 @@
 
 use crate::gathering::PutFrame;
 use crate::lanes::mac_on;
-use bus_traffic::{Bus, HeardFrame, Recent};
+use bus_traffic::{Bus, HeardFrame, RecentBox};
 use mstp_frame::{Frame, FrameType};
 use site_steps::{Event, World};
 use std::alloc::{AllocError, Allocator};
@@ -135,8 +135,9 @@ fn number_of<A: Allocator>(buses: &[Bus<A>], network: u16, mac: u8, octets: &[u8
 }
 
 /// The same among frames of a bus.
-fn number_on<A: Allocator>(recent: &[Recent<A>], mac: u8, octets: &[u8]) -> Option<u64> {
-    for frame in recent {
+fn number_on<A: Allocator>(recent: &[RecentBox<A>], mac: u8, octets: &[u8]) -> Option<u64> {
+    for held in recent {
+        let frame = held.recent();
         let sending = &frame.sending;
         let is_waiting = sending.sender != mac && !frame.heard[mac as usize];
         if is_waiting && sending.octets.as_slice() == octets {

@@ -45,7 +45,8 @@ impl<A: Allocator + Copy> Gathering<A> {
 
     /// Puts down the frames that are put out on a bus behind so many.
     fn put_bus(&mut self, world: &World<A>, bus: &Bus<A>, before: u64) -> Result<(), AllocError> {
-        for recent in &bus.recent {
+        for held in &bus.recent {
+            let recent = held.recent();
             if recent.sending.place.frames >= before {
                 self.put_sending(world, bus.net, recent)?;
             }

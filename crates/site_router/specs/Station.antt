@@ -1,5 +1,5 @@
 -- What a router with its ports does on each input: the router, and what is put out over its ports (6.5, 6.6).
-use Rattle.std.specs.Prelude.{◌≡◌, ◌⊎◌, ℕ, Bool, List, [], map, Option, Some, None}
+use Rattle.std.specs.Prelude.{◌≡◌, ◌⊎◌, ℕ, Bool, true, List, [], map, Option, Some, None}
 use Rattle.link.specs.declared.step.LinkStep.{LinkStep}
 use Rattle.link_ports.specs.Ports.{CountsAt, HearsAt, NothingIsDue, WakesAll}
 use Rattle.link_ports.specs.declared.ports.PortSent.{PortSent}
@@ -98,6 +98,11 @@ module _ {A L : Type 0} where
     pub router : new.router ≡ woken now old.router
     pub ports : PortsWake wakes downs now (announced now old.router) old.ports out new.ports
         ⊎ PortsRest is_due now (announced {A = A} now old.router) old.ports out new.ports
+
+-- nothing is due of a router with its ports where it wakes: it has woken before, and nothing is due at a port
+pub record IsQuiet {L : Type 0} (is_due : ℕ → L → Bool) (now : ℕ) (s : RouterStationState L) : Type 0 where
+  pub woken : s.router.woken ≡ true
+  pub ports : NothingIsDue is_due now s.ports
 
 -- its ports as a plan leaves them, where it changes them
 abbrev pub ports_by : {L V : Type 0} → (V → List L) → Option V → List L → List L

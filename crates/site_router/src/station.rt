@@ -1,12 +1,12 @@
 //! A router with its ports: each input is planned, and then done.
 
-ghost use Rattle.std.specs.Prelude.{◌≡◌, ◌≤◌, ◌⊎◌, IfOk, IfErr, map};
+ghost use Rattle.std.specs.Prelude.{◌≡◌, ◌≤◌, ◌⊎◌, ◌↔◌, [], true, IfOk, IfErr, map};
 ghost use Rattle.link_ports.specs.Ports.{AreBefore};
 ghost use Rattle.profile.specs.Times.{MAX_MOMENT_MS};
 ghost use Rattle.router.specs.Router.{AreNumbered};
 ghost use Rattle.site_router.specs.Refusals.{AnnouncesTooLong, FrameIsRefused, FrameIsTaught, HearingIsRefused};
 ghost use Rattle.site_router.specs.Refusals.{IsTaught, IsTaughtOn};
-ghost use Rattle.site_router.specs.Station.{HasRoutes, HearsOn, RouterStationCounts, RouterStationHears};
+ghost use Rattle.site_router.specs.Station.{HasRoutes, HearsOn, IsQuiet, RouterStationCounts, RouterStationHears};
 ghost use Rattle.site_router.specs.Station.{RouterStationHearsFrame, RouterStationWakes, left_by, new_station};
 
 use crate::downs::{down_each, places_of};
@@ -247,6 +247,25 @@ impl<L: Link<A> + Drop, A: Allocator + Copy> RouterStation<L, A> {
             router: Some(plan),
             ports: Some(ports),
         })
+    }
+
+    /// Whether nothing is due where it wakes at the moment `now`, in milliseconds: it has woken before, and nothing is due
+    /// at a port.
+    pub fn is_quiet(&self, now: u64) -> bool
+        ensures { (result ≡ true) ↔ IsQuiet L.is_due now self.now }
+    {
+        self.router.has_woken() && !is_any_due(self.ports.as_slice(), now)
+    }
+
+    /// Wakes at the moment `now`, in milliseconds, where nothing is due: nothing is put out, and its ports stay as they are.
+    /// It takes no memory.
+    pub fn wake_quietly(&mut self, now: u64)
+        requires greatest { now ≤ MAX_MOMENT_MS }
+        requires order { self.old.router.moment ≤ now }
+        requires quiet { IsQuiet L.is_due now self.old }
+        ensures { RouterStationWakes L.is_due L.wakes L.downs now self.old [] self.new }
+    {
+        self.router.wake_again(now);
     }
 
     /// Does what was planned at the moment `now`, in milliseconds, with no other input between. It takes no memory, and

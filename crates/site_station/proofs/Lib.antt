@@ -1,2 +1,3 @@
+mod Quiet
 pub mod StationKeeping
 pub mod Planning

@@ -1,5 +1,5 @@
 -- What the application entity of a station does, by its kind: what it says, executes and tells (5.4, 6.1).
-use Rattle.std.specs.Prelude.{◌≡◌, ℕ, List, [], ◌∷◌, Option, Some, None}
+use Rattle.std.specs.Prelude.{◌≡◌, ℕ, Bool, List, [], ◌∷◌, Option, Some, None}
 use Rattle.apdu.specs.declared.unconfirmed.Limits.{Limits}
 use Rattle.client.specs.Client.{ClientState}
 use Rattle.client.specs.Hearing.{BringsTooMany, ClientHears}
@@ -123,6 +123,11 @@ awake now (Device d) = Device (record d {
 awake now (Client c) = Client (record c {
   machine = client_tsm.committed now (client_waking.woken now c.machine.open_ones).change c.machine;
 })
+
+-- nothing is due of an entity where it wakes
+abbrev pub is_quiet : {A : Type 0} → ℕ → Entity A → Bool
+is_quiet now (Device d) = server_waking.is_quiet now d.server.records
+is_quiet now (Client c) = client_waking.is_quiet now c.machine.open_ones
 
 -- a client issues a request to the device of an instance, under an invoke ID (5.4.4.1)
 pub record IssuesIt {A : Type 0} (now instance : ℕ) (request : Request A) (c : ClientState A) (id : ℕ)

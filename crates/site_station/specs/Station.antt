@@ -1,5 +1,5 @@
 -- What a station does on each input: its entity, and what is put out over its ports (6.1).
-use Rattle.std.specs.Prelude.{◌≡◌, ◌≢◌, ◌⊎◌, ℕ, Bool, List, [], map, Option, Some, None}
+use Rattle.std.specs.Prelude.{◌≡◌, ◌≢◌, ◌⊎◌, ℕ, Bool, true, List, [], map, Option, Some, None}
 use Rattle.apdu.specs.declared.unconfirmed.Limits.{Limits}
 use Rattle.link.specs.declared.step.LinkStep.{LinkStep}
 use Rattle.npdu.specs.declared.mac.Mac.{Mac}
@@ -7,7 +7,7 @@ use Rattle.npdu.specs.declared.mac.Station.{Station}
 use Rattle.npdu.specs.declared.parcel.Parcel.{Parcel}
 use Rattle.object_model.specs.Objects.{PlainTable}
 use Rattle.primitives.specs.declared.plain_data.Request.{Request}
-use Rattle.site_station.specs.Entity.{EntityAsks, EntityHears, EntityIssues, EntityRestarts, IsDevice, RefusesParcel, awake, issue_refusal, silence, told_awake}
+use Rattle.site_station.specs.Entity.{EntityAsks, EntityHears, EntityIssues, EntityRestarts, IsDevice, RefusesParcel, awake, is_quiet, issue_refusal, silence, told_awake}
 use Rattle.site_station.specs.Entity as entity
 use Rattle.link_ports.specs.Ports.{CountsAt, DownsAll, HearsAt, IsTooLong, NothingIsDue, RegistersAt, WakesAll}
 use Rattle.site_station.specs.declared.entity.Entity.{Entity}
@@ -26,6 +26,10 @@ pub record StationState (A L : Type 0) : Type 0 where
 pub record StationTold (A : Type 0) : Type 0 where
   pub told : EntityTold A
   pub out : List (PortSent A)
+
+-- nothing is told, and nothing put out
+abbrev pub nothing_told : {A : Type 0} → StationTold A
+nothing_told = record { told = silence; out = [] }
 
 -- the port over which a device or a client says what it says
 abbrev pub ITS_PORT : ℕ
@@ -106,6 +110,11 @@ module _ {A L : Type 0} where
     pub entity : new.entity ≡ awake now old.entity
     pub ports : PortsWake wakes downs now t.told.said old.ports t.out new.ports
         ⊎ PortsRest is_due now t.told.said old.ports t.out new.ports
+
+  -- nothing is due of a station where it wakes: not of its entity, and not at a port
+  pub record IsQuiet (is_due : ℕ → L → Bool) (now : ℕ) (s : StationState A L) : Type 0 where
+    pub entity : is_quiet now s.entity ≡ true
+    pub ports : NothingIsDue is_due now s.ports
 
   -- a client issues a request, under an invoke ID (5.4.4.1)
   pub record StationIssues (downs : ℕ → Parcel A → L → LinkStep A → L → Type 0) (now instance : ℕ)

@@ -1,11 +1,12 @@
 //! The kinds of application entities.
 
-ghost use Rattle.std.specs.Prelude.{◌≡◌, ◌≤◌, ◌⊎◌, Some, IfOk, IfErr, OnOk, OnErr};
+ghost use Rattle.std.specs.Prelude.{◌≡◌, ◌≤◌, ◌⊎◌, true, Some, IfOk, IfErr, OnOk, OnErr};
 ghost use Rattle.primitives.specs.Sound.{IsSoundRequest};
 ghost use Rattle.profile.specs.Times.{MAX_MOMENT_MS};
 ghost use Rattle.site_station.specs.Entity as spec;
 ghost use Rattle.site_station.specs.Entity.{EntityAsks, EntityHears, EntityIssues, EntityRestarts, IsPlanned};
-ghost use Rattle.site_station.specs.Entity.{IsClient, IsDevice, RefusesParcel, awake, issue_refusal, left_by, told_awake, told_by};
+ghost use Rattle.site_station.specs.Entity.{IsClient, IsDevice, RefusesParcel, awake, issue_refusal, left_by, silence};
+ghost use Rattle.site_station.specs.Entity.{told_awake, told_by};
 
 use apdu::Limits;
 use client::{Client, ClientPlan, ClientTold, TransactionOutcome};
@@ -147,6 +148,31 @@ impl<A: Allocator + Copy> Entity<A> {
         match self {
             Entity::Device(device) => Ok(EntityPlan::Device(device.plan_tick(now)?)),
             Entity::Client(client) => Ok(EntityPlan::Client(client.plan_tick(now)?)),
+        }
+    }
+
+    /// Whether nothing is due where it wakes at the moment `now`, in milliseconds.
+    pub fn is_quiet(&self, now: u64) -> bool
+        ensures { result ≡ spec.is_quiet now self.now }
+    {
+        match self {
+            Entity::Device(device) => device.is_quiet(now),
+            Entity::Client(client) => client.is_quiet(now),
+        }
+    }
+
+    /// Wakes at the moment `now`, in milliseconds, where nothing is due: it says, executes and tells nothing. It takes no
+    /// memory.
+    #[tactic(auto, using(crate::proofs::Quiet::quiet_rules))]
+    pub fn wake_quietly(&mut self, now: u64)
+        requires order { spec.moment_of self.old ≤ now }
+        requires quiet { spec.is_quiet now self.old ≡ true }
+        ensures told { told_awake now self.old ≡ silence }
+        ensures left { self.new ≡ awake now self.old }
+    {
+        match self {
+            Entity::Device(device) => device.wake_quietly(now),
+            Entity::Client(client) => client.wake_quietly(now),
         }
     }
 

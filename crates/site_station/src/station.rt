@@ -1,6 +1,6 @@
 //! A station with its ports: each input is planned, and then done.
 
-ghost use Rattle.std.specs.Prelude.{◌≡◌, ◌≤◌, ◌⊎◌, IfOk, IfErr, OnOk, OnErr, map};
+ghost use Rattle.std.specs.Prelude.{◌≡◌, ◌≤◌, ◌⊎◌, ◌↔◌, true, IfOk, IfErr, OnOk, OnErr, map};
 ghost use Rattle.primitives.specs.Sound.{IsSoundRequest};
 ghost use Rattle.profile.specs.Times.{MAX_MOMENT_MS};
 ghost use Rattle.site_station.specs.Entity as spec;
@@ -8,9 +8,9 @@ ghost use Rattle.site_station.specs.Entity.{told_awake};
 ghost use Rattle.link_ports.specs.Ports.{AreBefore, DownsAll, IsTooLong};
 ghost use Rattle.site_station.specs.Station as words;
 ghost use Rattle.site_station.specs.Station.{AskingIsRefused, FrameIsRefused, HearingIsRefused, HearsOn, IsNotForeign};
-ghost use Rattle.site_station.specs.Station.{IsPlanned, IssueIsRefused, StationAsks, StationCounts, StationHears};
+ghost use Rattle.site_station.specs.Station.{IsPlanned, IsQuiet, IssueIsRefused, StationAsks, StationCounts, StationHears};
 ghost use Rattle.site_station.specs.Station.{StationHearsFrame, StationIssues, StationRegisters, StationRestarts};
-ghost use Rattle.site_station.specs.Station.{StationWakes, left_by, told_by};
+ghost use Rattle.site_station.specs.Station.{StationWakes, left_by, nothing_told, told_by};
 
 use crate::entity::{Entity, EntityPlan, EntityTold};
 use apdu::Limits;
@@ -267,6 +267,24 @@ impl<L: Link<A> + Drop, A: Allocator + Copy> SiteStation<L, A> {
             entity,
             ports: Some(ports),
         })
+    }
+
+    /// Whether nothing is due where it wakes at the moment `now`, in milliseconds: not of its entity, and not at a port.
+    pub fn is_quiet(&self, now: u64) -> bool
+        ensures { (result ≡ true) ↔ IsQuiet L.is_due now self.now }
+    {
+        self.entity.is_quiet(now) && !is_any_due(self.ports.as_slice(), now)
+    }
+
+    /// Wakes at the moment `now`, in milliseconds, where nothing is due: nothing is said, told or put out, and its ports
+    /// stay as they are. It takes no memory.
+    pub fn wake_quietly(&mut self, now: u64)
+        requires order { spec.moment_of self.old.entity ≤ now }
+        requires quiet { IsQuiet L.is_due now self.old }
+        ensures wakes { StationWakes L.is_due L.wakes L.downs now self.old nothing_told self.new }
+        ensures ports { self.new.ports ≡ self.old.ports }
+    {
+        self.entity.wake_quietly(now);
     }
 
     /// What an issue of a request to the device of this instance comes to at the moment `now`, in milliseconds, and the

@@ -92,8 +92,8 @@ fn print_bus<A: Allocator, W: Write>(
     ensures { OnOk result (Appends (W.contents out.old) (W.contents out.new)
         (bus_text stations.now before moment (bus_of bus.now))) }
 {
-    for recent in &bus.recent {
-        print_behind(stations, before, bus.net, recent, moment, out)?;
+    for held in &bus.recent {
+        print_behind(stations, before, bus.net, held.recent(), moment, out)?;
     }
     Ok(())
 }

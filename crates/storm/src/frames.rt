@@ -100,13 +100,13 @@ fn any_frame<A: Allocator + Copy>(
     let Some(bus) = storm.dice.one(world.buses().buses.as_slice()) else {
         return Ok(None);
     };
-    let Some(recent) = storm.dice.one(bus.recent.as_slice()) else {
+    let Some(held) = storm.dice.one(bus.recent.as_slice()) else {
         return Ok(None);
     };
     let Some(ear) = storm.dice.one(bus.ears.as_slice()) else {
         return Ok(None);
     };
-    let sending = &recent.sending;
+    let sending = &held.recent().sending;
     if ear.address == sending.sender || fate_of(storm, sending, ear.address) != Fate::Heard {
         return Ok(None);
     }

@@ -4,7 +4,7 @@
 //! - `issue REQUEST`: the device is asked; `as 0` is the invoke ID. `issues 256 REQUEST`: as often, told of the last.
 //! - `hear APDU`, `other APDU`: the device, or another station, says this to the client. `parts 0..63`: the device
 //!   says segments of these numbers, each without octets, of an answer to service 14; told of the last.
-//! - `wake`: the client wakes.
+//! - `wake`: the client wakes, and once more at the same moment, at which nothing may be due.
 //!
 //! Before each step a copy takes the client's place. Each allocation of the client is refused in turn: the call is then
 //! made again, and the row goes on as without.
@@ -16,8 +16,8 @@ use npdu::Station;
 use primitives::Request;
 use profile::{MAX_MOMENT_MS, WINDOW_SIZE};
 use sheets::{
-    Counts, Given, Part, Stop, Trial, compare, number, octets, push_mark, refusal, request_in,
-    small, try_row, two_words,
+    Counts, Given, Part, Stop, Trial, compare, differs, number, octets, push_mark, refusal,
+    request_in, small, try_row, two_words,
 };
 use std::alloc::{AllocError, Allocator, Global};
 use tags::Fault;
@@ -163,6 +163,19 @@ impl<A: Allocator + Copy> Scene<A> {
         Ok(())
     }
 
+    /// Wakes, and once more at the same moment, when nothing is due any more.
+    fn wake(&mut self) -> Result<ClientTsmTold<A>, Stop> {
+        if self.now < self.client.moment() || self.now > MAX_MOMENT_MS {
+            return Err(Stop::Unread(Part::Asked));
+        }
+        let told = self.client.on_tick(self.now)?;
+        if !self.client.is_quiet(self.now) {
+            return Err(differs(self.alloc, "something is still due"));
+        }
+        self.client.wake_quietly(self.now);
+        Ok(told)
+    }
+
     /// Takes an input.
     fn take_once(&mut self, input: Input<'_>) -> Result<ClientTsmTold<A>, Stop> {
         if self.now < self.client.moment() || self.now > MAX_MOMENT_MS {
@@ -170,7 +183,7 @@ impl<A: Allocator + Copy> Scene<A> {
         }
         match input {
             Input::Hears(from, apdu) => Ok(self.client.on_apdu(from, apdu, self.now)?),
-            Input::Wakes => Ok(self.client.on_tick(self.now)?),
+            Input::Wakes => self.wake(),
         }
     }
 

@@ -2,7 +2,8 @@
 //! that another link address hands on; `MOMENT broadcast ..` came by a broadcast; `MOMENT wake`; `MOMENT restart`;
 //! `MOMENT each PLACE FIRST..LAST from ..` are APDUs with these numbers at that place of their octets, of which it is
 //! told how many were executed, and what came of the last. Besides `read REQUEST`, `moment`, `copy`, which goes on
-//! with the copy. Each allocation of an input is refused in turn: the same input then comes again.
+//! with the copy. Each allocation of an input is refused in turn: the same input then comes again. Behind each wake there
+//! is one more at the same moment, at which nothing may be due.
 
 use crate::server::opened::{Served, executor};
 use crate::server::told::push_told;
@@ -106,6 +107,19 @@ fn take<A: Allocator + Copy>(
     Ok(server.on_apdu(&saying.origin, &apdu, now)?)
 }
 
+/// Wakes once more at the moment of a wake, when nothing is due any more.
+fn wake_again<A: Allocator + Copy>(
+    alloc: Global,
+    server: &mut Served<A>,
+    now: u64,
+) -> Result<(), Stop> {
+    if now < server.moment() || !server.is_quiet(now) {
+        return Err(differs(alloc, "something is still due"));
+    }
+    server.wake_quietly(now);
+    Ok(())
+}
+
 /// Appends what comes of an APDU, or of it that the server wakes, and answers whether a request was executed.
 fn push_taken<A: Allocator + Copy>(
     server: &mut Served<A>,
@@ -114,6 +128,9 @@ fn push_taken<A: Allocator + Copy>(
     out: &mut String,
 ) -> Result<bool, Stop> {
     let told = take(server, now, said)?;
+    if said.is_none() {
+        wake_again(*out.allocator(), server, now)?;
+    }
     push_told(&told, out)?;
     Ok(told.executed.is_some())
 }

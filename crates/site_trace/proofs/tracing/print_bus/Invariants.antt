@@ -5,10 +5,10 @@ use Rattle.site_trace.specs.Lines.{text_behind}
 use Rattle.site_trace.proofs.tracing.print_bus.Given as goal
 
 -- what the rest leads to, all lead to
-abbrev pub invariant-loop-recent : goal.invariant-loop-recent
-invariant-loop-recent g l =
+abbrev pub invariant-loop-held : goal.invariant-loop-held
+invariant-loop-held g l =
     (new : Option (List ℕ)) →
     Appends (g.W.Write.contents l.out) new
-    (flat_map (text_behind l.stations l.before l.bus.net l.moment) (drop l.recent-index l.bus.recent.items)) →
+    (flat_map (text_behind l.stations l.before l.bus.net l.moment) (drop l.held-index l.bus.recent.items)) →
     Appends (g.W.Write.contents l.fn.out) new
     (flat_map (text_behind l.stations l.before l.bus.net l.moment) l.bus.recent.items)

@@ -3,19 +3,18 @@ use Rattle.std.specs.List.{AllByRecursion}
 use Rattle.bus_traffic.specs.Bus.{BusState}
 use Rattle.buses.specs.Buses.{buses_of}
 use Rattle.buses.specs.Puts.{BusesState}
-use Rattle.plans.specs.directory.Directory.{Leads}
+use Rattle.plans.proofs.directory.StayLaws.{leads_same}
 use Rattle.plans.specs.hosts.Hosts.{IsHost}
 use Rattle.plans.specs.hosts.Stations.{WorldStation}
 use Rattle.internetwork.proofs.FreshLaws.{hosts_new, passing_new, steady_new}
 use Rattle.internetwork.proofs.internetwork.Internetwork.new.Goals as goal
 use Rattle.internetwork.specs.World.{fresh_world}
 use Rattle.plans.specs.relays.Laws.{SiteRelay}
-use Rattle.site_parts.specs.declared.parts.Station as site
 
 -- its stations stand as it opens
 pub new-requires : goal.new-requires
 new-requires g c = record {
-  hosts = subst (λ (ss : List (WorldStation _)). AllByRecursion (IsHost 0) ss) (sym c.as_slice.ensures.value)
+  hosts = subst (λ (ss : List (WorldStation _)). AllByRecursion (IsHost 0) ss) (sym c.as_slice-2.ensures.value)
       (hosts_new c.args.site c.in_ok-stations.stations.items c.in_ok-stations.ensures.stations);
 }
 
@@ -26,9 +25,8 @@ open-requires g c = record {
       c.in_ok-stations.ensures.stations;
   passing = passing_new c.args.site c.in_ok-relays.relays.items c.in_ok-stations.ensures.sound
       c.in_ok-relays.ensures.relays;
-  leads = subst (λ (ps : List (site.Station _)). Leads c.in_ok-directory.directory ps c.in_ok-stations.stations.items)
-      c.stations.ensures.stations (subst (λ (ss : List (WorldStation _)).
-      Leads c.in_ok-directory.directory c.stations.result.now ss) c.as_slice.ensures.value c.in_ok-directory.ensures);
+  leads = leads_same c.in_ok-directory.directory _ _ _ _ _ _ c.stations.ensures.stations c.as_slice.ensures.value
+      c.as_slice-2.ensures.value c.in_ok-directory.ensures;
 }
 
 -- it is fresh

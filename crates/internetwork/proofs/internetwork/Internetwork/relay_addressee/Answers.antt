@@ -1,9 +1,17 @@
-use Rattle.std.proofs.Common.{ap, subst}
+use Rattle.std.proofs.Common.{ap, subst, sym, List}
+use Rattle.plans.specs.directory.Directory.{LeadsToRelays}
 use Rattle.chronicle.proofs.headline_client.Places.{all_at}
-use Rattle.plans.specs.relays.Laws.{RelayStands}
+use Rattle.plans.specs.relays.Laws.{RelayStands, SiteRelay}
 use Rattle.internetwork.proofs.EventLaws.{none_then}
 use Rattle.internetwork.specs.World.{WorldState}
 use Rattle.internetwork.proofs.internetwork.Internetwork.relay_addressee.Goals as goal
+
+-- the directory leads to the relays
+pub relay_at-requires : goal.relay_at-requires
+relay_at-requires g c = record {
+  leads = subst (λ (rs : List (SiteRelay _)). LeadsToRelays c.self.inside.directory rs) (sym c.as_slice.ensures.value)
+      c.self.invariant.2.relays_are;
+}
 
 -- no station is there, and this place of this relay is
 pub returns-in-Some-clause-addressee : goal.returns-in-Some-clause-addressee
