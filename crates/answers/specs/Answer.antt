@@ -21,8 +21,8 @@ SpellsFailure e (ErrorAt class code object property index) = (e.class ≡ class)
     (e.first_failed ≡ failed_at object property index)
 SpellsFailure e reply = ⊥
 
--- the PDU in which a reply goes: a SimpleACK for what was written, a ComplexACK for what was read, an Error for what was
--- not done (20.1.4, 20.1.5, 20.1.7)
+-- the PDU in which a reply goes: a SimpleACK for what was written, a ComplexACK for what was read, an Error for what
+-- was not done (20.1.4, 20.1.5, 20.1.7)
 abbrev pub GoesInPdu : {A : Type 0} → Reply A → ReplyPdu → Type 0
 GoesInPdu Done pdu.SimpleAck = Unit {0}
 GoesInPdu (Values values) pdu.ComplexAck = Unit {0}

@@ -1,5 +1,6 @@
 -- Laws of the spelling of APDUs, Who-Is and I-Am.
-use Rattle.std.specs.Prelude.{◌≡◌, ℕ, ◌<◌, ◌≤◌, ◌^◌, List, [], ◌∷◌, length, ◌++◌, Option, Some, None, IfSome, true, false, refl}
+use Rattle.std.specs.Prelude.{◌≡◌, ℕ, ◌<◌, ◌≤◌, ◌^◌, List, [], ◌∷◌, length, ◌++◌, Option, Some, None, IfSome, true}
+use Rattle.std.specs.Prelude.{false, refl}
 use Rattle.tags.specs.declared.fault.Fault.{Fault}
 use Rattle.apdu.specs.Apdu.{PlainApdu, confirmed, simple_ack, complex_ack, segment_ack, abort_pdu, Spells, NoApdu}
 use Rattle.apdu.specs.ApduRefusal.{Refuses}

@@ -5,7 +5,8 @@ use Rattle.tags.specs.Canonical.{tagged}
 use Rattle.tags.specs.Number.{bit, unsigned_octets, IsSoundObject}
 use Rattle.apdu.specs.Numbers.{service_number}
 use Rattle.apdu.specs.declared.numbers.ConfirmedService.TheVariants.{WritePropertyMultiple}
-use Rattle.apdu.specs.Apdu.{PlainApdu, confirmed, complex_ack, segment_ack, error_pdu, abort_pdu, type_of, octets_behind}
+use Rattle.apdu.specs.Apdu.{PlainApdu, confirmed, complex_ack, segment_ack, error_pdu, abort_pdu, type_of}
+use Rattle.apdu.specs.Apdu.{octets_behind}
 use Rattle.apdu.specs.ParameterWriting.{object_field, number_field, option_field, opening_octets, closing_octets}
 use Rattle.apdu.specs.PduType.{type_number}
 use Rattle.apdu.specs.Sizes.{segments_code}

@@ -1,9 +1,11 @@
 -- The codes of what a requester can take (20.1.2.4, 20.1.2.5).
 use Rattle.std.specs.Prelude.{◌≡◌, ℕ, ◌<◌}
 use Rattle.apdu.specs.declared.sizes.MaxSegments.{MaxSegments}
-use Rattle.apdu.specs.declared.sizes.MaxSegments.TheVariants.{Unspecified, Two, Four, Eight, Sixteen, ThirtyTwo, SixtyFour, More}
+use Rattle.apdu.specs.declared.sizes.MaxSegments.TheVariants.{Unspecified, Two, Four, Eight, Sixteen, ThirtyTwo}
+use Rattle.apdu.specs.declared.sizes.MaxSegments.TheVariants.{SixtyFour, More}
 use Rattle.apdu.specs.declared.sizes.MaxApdu.{MaxApdu}
-use Rattle.apdu.specs.declared.sizes.MaxApdu.TheVariants.{UpTo50, UpTo128, UpTo206, UpTo480, UpTo1024, UpTo1476, Reserved}
+use Rattle.apdu.specs.declared.sizes.MaxApdu.TheVariants.{UpTo50, UpTo128, UpTo206, UpTo480, UpTo1024, UpTo1476}
+use Rattle.apdu.specs.declared.sizes.MaxApdu.TheVariants.{Reserved}
 
 -- bits 6 to 4 of a request's second octet (20.1.2.4)
 abbrev pub segments_code : MaxSegments → ℕ

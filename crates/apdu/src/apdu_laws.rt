@@ -1,7 +1,8 @@
 //! What holds of the spelling of every APDU, Who-Is and I-Am, and of the standard's numbers, for the proofs of the
 //! layers above.
 
-ghost use Rattle.apdu.specs.ApduLaws.{CanonicalIsShortest, CanonicalSpells, IAmIsShortest, IAmSpellOne, IAmSpells, RefusedOnce, ShortIsBegun, SpellOne, WhoIsIsShortest, WhoIsSpellOne, WhoIsSpells};
+ghost use Rattle.apdu.specs.ApduLaws.{CanonicalIsShortest, CanonicalSpells, IAmIsShortest, IAmSpellOne, IAmSpells};
+ghost use Rattle.apdu.specs.ApduLaws.{RefusedOnce, ShortIsBegun, SpellOne, WhoIsIsShortest, WhoIsSpellOne, WhoIsSpells};
 ghost use Rattle.apdu.specs.Numbers.{OneAbort, OneReject, OneService};
 ghost use Rattle.apdu.specs.Sizes.{OneCount, OneSize};
 

@@ -2,7 +2,9 @@
 
 ghost use Rattle.std.specs.Prelude.{◌≡◌, ◌<◌, ◌^◌, Some, ◌↔◌, ◌++◌, IsTrue, IfSome, IfNone, IfErr, OnOk, OnErr};
 ghost use Rattle.primitives.specs.Errors.{class_number, code_number};
-ghost use Rattle.apdu.specs.ServiceError.{TakesReference, OnlyReference, NoReference, EndsReference, OnlyEnd, NoEnd, SpellsFailedWrite, OnlyFailedWrite, NoFailedWrite, SpellsError, OnlyError, NoError, HasNames};
+ghost use Rattle.apdu.specs.ServiceError.{TakesReference, OnlyReference, NoReference, EndsReference, OnlyEnd, NoEnd};
+ghost use Rattle.apdu.specs.ServiceError.{SpellsFailedWrite, OnlyFailedWrite, NoFailedWrite, SpellsError, OnlyError};
+ghost use Rattle.apdu.specs.ServiceError.{NoError, HasNames};
 ghost use Rattle.apdu.specs.ApduWriting.{class_and_code_octets, error_octets, CanBeNamed, FitsError, NamesWriteOf};
 ghost use Rattle.tags.specs.Canonical.{Extends};
 

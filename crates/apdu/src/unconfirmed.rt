@@ -1,7 +1,10 @@
 //! Who-Is and I-Am, by which devices are found (16.10).
 
-ghost use Rattle.std.specs.Prelude.{◌≡◌, ◌<◌, ◌≤◌, ◌^◌, ◌++◌, ◌↔◌, [], Some, IsTrue, IfSome, IfNone, IfErr, OnOk, OnErr, MatchResult};
-ghost use Rattle.apdu.specs.Unconfirmed.{service_number, NoService, segmentation_number, limits_octets, Covers, SpellsWhoIs, OnlyWhoIs, NoWhoIs, SpellsLimits, OnlyLimits, NoLimits, i_am_octets, SpellsIAm, OnlyIAm, NoIAm, SaysSegmentation};
+ghost use Rattle.std.specs.Prelude.{◌≡◌, ◌<◌, ◌≤◌, ◌^◌, ◌++◌, ◌↔◌, [], Some, IsTrue, IfSome, IfNone, IfErr, OnOk};
+ghost use Rattle.std.specs.Prelude.{OnErr, MatchResult};
+ghost use Rattle.apdu.specs.Unconfirmed.{service_number, NoService, segmentation_number, limits_octets, Covers};
+ghost use Rattle.apdu.specs.Unconfirmed.{SpellsWhoIs, OnlyWhoIs, NoWhoIs, SpellsLimits, OnlyLimits, NoLimits};
+ghost use Rattle.apdu.specs.Unconfirmed.{i_am_octets, SpellsIAm, OnlyIAm, NoIAm, SaysSegmentation};
 ghost use Rattle.apdu.specs.Parameter.{Takes, Only, Lacks};
 ghost use Rattle.tags.specs.Canonical.{Extends};
 ghost use Rattle.tags.specs.declared.fault.Fault.TheVariants.{NoSuch};

@@ -4,7 +4,8 @@
 ghost use Rattle.std.specs.Prelude.{◌≡◌, IfSome, IfNone};
 ghost use Rattle.tags.specs.Number.{SpellsUnsigned};
 ghost use Rattle.tags.specs.Tag.{plain_tag, TakesTag, OnlyTag};
-ghost use Rattle.apdu_fields.specs.Parameter.{carrying, opening_tag, closing_tag, IsObject, Takes, Only, Lacks, CarriesOther, NoContents, NoBracket};
+ghost use Rattle.apdu_fields.specs.Parameter.{carrying, opening_tag, closing_tag, IsObject, Takes, Only, Lacks};
+ghost use Rattle.apdu_fields.specs.Parameter.{CarriesOther, NoContents, NoBracket};
 
 use tags::{Class, Content, ObjectId, Reader, Tag, unsigned_from_contents};
 

@@ -1,5 +1,6 @@
 -- Who hears a broadcast that goes through the managers of a network (J.4.5).
-use Rattle.std.specs.Prelude.{◌≡◌, ◌≤◌, ◌⊎◌, ℕ, ◌+◌, true, not, cond, List, [], ◌∷◌, ◌++◌, map, filter, flat_map, option_to_list, Option, Some, None, is_some, length}
+use Rattle.std.specs.Prelude.{◌≡◌, ◌≤◌, ◌⊎◌, ℕ, ◌+◌, true, not, cond, List, [], ◌∷◌, ◌++◌, map, filter, flat_map}
+use Rattle.std.specs.Prelude.{option_to_list, Option, Some, None, is_some, length}
 use Rattle.std.specs.List.{AllByRecursion}
 use Rattle.bvll.specs.declared.address.Address.{Address}
 use Rattle.bvll.specs.Datagram.{Datagram}

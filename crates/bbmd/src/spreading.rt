@@ -3,7 +3,8 @@
 ghost use Rattle.std.specs.Prelude.{◌≡◌, ◌++◌, [], ◌∷◌, true, map, flat_map, IfOk, OnOk};
 ghost use Rattle.bvll.specs.Datagram.{datagram_of};
 ghost use Rattle.bbmd_tables.specs.Tables.{is_among};
-ghost use Rattle.bbmd.specs.Reach.{AreFull, IsReached, Reaches, asked_of, begun, begun_in, broadcast_of, everyone, going_to, hearers, managers_of, owns, passed, passed_by, stations};
+ghost use Rattle.bbmd.specs.Reach.{AreFull, IsReached, Reaches, asked_of, begun, begun_in, broadcast_of, everyone};
+ghost use Rattle.bbmd.specs.Reach.{going_to, hearers, managers_of, owns, passed, passed_by, stations};
 ghost use Rattle.bbmd.specs.Passing.{going_of, onward};
 ghost use Rattle.bbmd.specs.Worked.{at_port, two_subnets};
 

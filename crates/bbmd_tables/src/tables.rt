@@ -2,7 +2,8 @@
 
 ghost use Rattle.std.specs.Prelude.{◌≡◌, ◌≤◌, ◌+◌, ◌⊎◌, true, false, length, IfOk, IfErr, OnOk, OnErr};
 ghost use Rattle.profile.specs.Limits as limit;
-ghost use Rattle.bbmd_tables.specs.Tables.{TablesState, has_few_peers, has_room, is_among, living, new_tables, registered, served, without};
+ghost use Rattle.bbmd_tables.specs.Tables.{TablesState, has_few_peers, has_room, is_among, living, new_tables};
+ghost use Rattle.bbmd_tables.specs.Tables.{registered, served, without};
 
 use crate::addresses::{append_others, is_among};
 use crate::registration::{Registration, has_room, keep_living, keep_others, served};

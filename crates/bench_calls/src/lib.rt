@@ -37,7 +37,8 @@ pub extern "C" fn bench_calls_read(alloc: Global, objects: u16, times: u64) -> u
     reading.go(times).unwrap_or(0)
 }
 
-/// A device hears the first `segments` of a request, each with these octets and more to follow: how many parcels it says.
+/// A device hears the first `segments` of a request, each with these octets and more to follow: how many parcels it
+/// says.
 #[unsafe(no_mangle)]
 pub extern "C" fn bench_calls_gather(alloc: Global, octets: &[u8], segments: u8) -> u64 {
     gather(alloc, segments, octets).unwrap_or(0)

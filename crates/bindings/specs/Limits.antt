@@ -1,5 +1,6 @@
 -- How long a request may be, and how it is cut (5.2.1, 5.4.4.1).
-use Rattle.std.specs.Prelude.{ℕ, ◌-◌, ◌+◌, ◌&&◌, ◌||◌, nat_le, nat_lt, min, max, not, Bool, true, false, Option, Some, None}
+use Rattle.std.specs.Prelude.{ℕ, ◌-◌, ◌+◌, ◌&&◌, ◌||◌, nat_le, nat_lt, min, max, not, Bool, true, false, Option, Some}
+use Rattle.std.specs.Prelude.{None}
 use Rattle.apdu.specs.Sizes.{apdu_taken}
 use Rattle.segments.specs.Sender.{SenderState, nothing_sent, wakes}
 use Rattle.profile.specs.Limits.{MAX_SEGMENTS_ACCEPTED, MAX_SERVICE_DATA_OCTETS}

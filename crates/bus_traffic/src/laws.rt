@@ -1,7 +1,8 @@
 //! What holds of all that was ever put out, beside what the calls promise. A function without a body is a law: its
 //! contract.
 
-ghost use Rattle.bus_traffic.specs.Laws.{EachIsJudged, EqualIsKnown, HeardIsGiven, JudgesByAll, OldIsForgotten, OrderIsKept, RemembersMore, RemembersNothing, RemembersStill};
+ghost use Rattle.bus_traffic.specs.Laws.{EachIsJudged, EqualIsKnown, HeardIsGiven, JudgesByAll, OldIsForgotten};
+ghost use Rattle.bus_traffic.specs.Laws.{OrderIsKept, RemembersMore, RemembersNothing, RemembersStill};
 
 use std::alloc::Allocator;
 

@@ -2,7 +2,8 @@
 
 ghost use Rattle.std.specs.Prelude.{◌≡◌, ◌≤◌, ◌∷◌, [], Some, None, true, IfSome, IfNone, length, slice_get};
 ghost use Rattle.bus_traffic.specs.Sendings as spec;
-ghost use Rattle.bus_traffic.specs.Telling.{BeginsAt, HasNoTurn, IsDue, IsDueNowhere, IsEarlier, IsFirstEar, IsNext, NoneBetween, NoneWaits};
+ghost use Rattle.bus_traffic.specs.Telling.{BeginsAt, HasNoTurn, IsDue, IsDueNowhere, IsEarlier, IsFirstEar, IsNext};
+ghost use Rattle.bus_traffic.specs.Telling.{NoneBetween, NoneWaits};
 
 use crate::bus::{Bus, waits_at};
 use crate::ear::Ear;

@@ -4,8 +4,8 @@ use Rattle.bus_traffic.specs.Bus.{BusState, put_out}
 use Rattle.bus_traffic.specs.declared.sending.Sending.{Sending}
 use Rattle.traffic.specs.declared.frame.FramePut.{FramePut}
 
--- What goes over the buses of a site (9). buses: in the order of the site. frames: how many frames were put out on all of
--- them.
+-- What goes over the buses of a site (9). buses: in the order of the site. frames: how many frames were put out on all
+-- of them.
 pub record BusesState (A : Type 0) : Type 0 where
   pub buses : List (BusState A)
   pub frames : ℕ

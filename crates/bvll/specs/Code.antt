@@ -1,7 +1,10 @@
 -- The codes of a result.
 use Rattle.std.specs.Prelude.{ℕ, ◌≢◌}
 use Rattle.bvll.specs.declared.code.ResultCode.{ResultCode}
-use Rattle.bvll.specs.declared.code.ResultCode.TheVariants.{Success, WriteBroadcastDistributionTableNak, ReadBroadcastDistributionTableNak, RegisterForeignDeviceNak, ReadForeignDeviceTableNak, DeleteForeignDeviceTableEntryNak, DistributeBroadcastToNetworkNak, Other}
+use Rattle.bvll.specs.declared.code.ResultCode.TheVariants.{Success, WriteBroadcastDistributionTableNak}
+use Rattle.bvll.specs.declared.code.ResultCode.TheVariants.{ReadBroadcastDistributionTableNak, RegisterForeignDeviceNak}
+use Rattle.bvll.specs.declared.code.ResultCode.TheVariants.{ReadForeignDeviceTableNak, DeleteForeignDeviceTableEntryNak}
+use Rattle.bvll.specs.declared.code.ResultCode.TheVariants.{DistributeBroadcastToNetworkNak, Other}
 
 -- the two octets of a code, as a number (J.2.1)
 abbrev pub code_number : ResultCode → ℕ

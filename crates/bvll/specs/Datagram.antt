@@ -11,7 +11,8 @@ use Rattle.bvll.specs.declared.function.Function.{Function}
 use Rattle.bvll.specs.declared.function.Function.TheVariants as f
 use Rattle.bvll.specs.Address.{address_octets, IsAddress}
 use Rattle.bvll.specs.Code.{code_number, IsNamed}
-use Rattle.bvll.specs.Entry.{distribution_octets, foreign_octets, distribution_at, foreign_at, IsDistributionEntry, IsForeignDevice}
+use Rattle.bvll.specs.Entry.{distribution_octets, foreign_octets, distribution_at, foreign_at, IsDistributionEntry}
+use Rattle.bvll.specs.Entry.{IsForeignDevice}
 use Rattle.bvll.specs.Function.{number_of}
 use Rattle.bvll.specs.Table.{entries_of}
 

@@ -4,7 +4,8 @@ use Rattle.std.proofs.Math.Seq.{take-add}
 use Rattle.std.proofs.lemmas.List.{length-take, length-drop, drop-drop}
 use Rattle.byteorder.specs.Endian.{big_bytes, big_number}
 use Rattle.bvll.specs.Address.{address_octets, address_at, IsAddress}
-use Rattle.bvll.specs.Entry.{distribution_octets, distribution_at, IsDistributionEntry, foreign_octets, foreign_at, IsForeignDevice}
+use Rattle.bvll.specs.Entry.{distribution_octets, distribution_at, IsDistributionEntry, foreign_octets, foreign_at}
+use Rattle.bvll.specs.Entry.{IsForeignDevice}
 use Rattle.bvll.specs.Octets.{two_octets, two_octets-lt}
 use Rattle.tags.specs.Number.{AreOctets}
 use Rattle.tags.proofs.OctetLists.{AreOctets-drop}

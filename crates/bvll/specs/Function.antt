@@ -1,7 +1,13 @@
 -- The numbers of the functions.
 use Rattle.std.specs.Prelude.{ℕ}
 use Rattle.bvll.specs.declared.function.Function.{Function}
-use Rattle.bvll.specs.declared.function.Function.TheVariants.{Result, WriteBroadcastDistributionTable, ReadBroadcastDistributionTable, ReadBroadcastDistributionTableAck, ForwardedNpdu, RegisterForeignDevice, ReadForeignDeviceTable, ReadForeignDeviceTableAck, DeleteForeignDeviceTableEntry, DistributeBroadcastToNetwork, OriginalUnicastNpdu, OriginalBroadcastNpdu}
+use Rattle.bvll.specs.declared.function.Function.TheVariants.{Result, WriteBroadcastDistributionTable}
+use Rattle.bvll.specs.declared.function.Function.TheVariants.{ReadBroadcastDistributionTable}
+use Rattle.bvll.specs.declared.function.Function.TheVariants.{ReadBroadcastDistributionTableAck, ForwardedNpdu}
+use Rattle.bvll.specs.declared.function.Function.TheVariants.{RegisterForeignDevice, ReadForeignDeviceTable}
+use Rattle.bvll.specs.declared.function.Function.TheVariants.{ReadForeignDeviceTableAck, DeleteForeignDeviceTableEntry}
+use Rattle.bvll.specs.declared.function.Function.TheVariants.{DistributeBroadcastToNetwork, OriginalUnicastNpdu}
+use Rattle.bvll.specs.declared.function.Function.TheVariants.{OriginalBroadcastNpdu}
 
 -- the second octet of a datagram (J.2)
 abbrev pub number_of : Function → ℕ

@@ -45,10 +45,12 @@ pub enum Bvll<'a> {
 }
 
 impl<'a> Bvll<'a> {
-    ghost use Rattle.std.specs.Prelude.{◌≡◌, ◌≢◌, ◌<◌, ◌≤◌, ◌^◌, ◌++◌, ◌∷◌, [], length, IfOk, IfErr, OnOk, OnErr, MatchOption};
+    ghost use Rattle.std.specs.Prelude.{◌≡◌, ◌≢◌, ◌<◌, ◌≤◌, ◌^◌, ◌++◌, ◌∷◌, [], length, IfOk, IfErr, OnOk, OnErr};
+    ghost use Rattle.std.specs.Prelude.{MatchOption};
     ghost use Rattle.byteorder.specs.Endian.{big_bytes};
     ghost use Rattle.bvll.specs.Address.{TakesAddress};
-    ghost use Rattle.bvll.specs.Datagram.{canonical, contents, datagram_of, function, header, whole_length, HasFields, HasNamedCode, Spells, OnlyDatagram, NoDatagram};
+    ghost use Rattle.bvll.specs.Datagram.{canonical, contents, datagram_of, function, header, whole_length, HasFields};
+    ghost use Rattle.bvll.specs.Datagram.{HasNamedCode, Spells, OnlyDatagram, NoDatagram};
     ghost use Rattle.tags.specs.Canonical.{Extends};
     ghost use Rattle.bvll.specs.Refusal.{HasContents, IsLength, Refuses};
 

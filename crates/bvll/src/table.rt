@@ -1,6 +1,7 @@
 //! Tables, whose entries lie in a datagram or in a list of the caller's.
 
-ghost use Rattle.std.specs.Prelude.{◌≡◌, ◌≢◌, ◌↔◌, ◌%◌, [], length, IfOk, IfErr, IsTrue, OnOk, OnErr, ◌++◌, flat_map, slice_get};
+ghost use Rattle.std.specs.Prelude.{◌≡◌, ◌≢◌, ◌↔◌, ◌%◌, [], length, IfOk, IfErr, IsTrue, OnOk, OnErr, ◌++◌, flat_map};
+ghost use Rattle.std.specs.Prelude.{slice_get};
 
 use crate::entry::{ENTRY_OCTETS, TableEntry};
 use std::alloc::{AllocError, Allocator};

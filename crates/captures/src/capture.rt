@@ -64,8 +64,8 @@ impl<'a, A: Allocator> Model for Capture<'a, A> {
 impl<'a, A: Allocator> Capture<'a, A> {
     ghost use Rattle.std.specs.Prelude.{◌≡◌, ◌≤◌, ◌<◌, [], IfOk, OnErr, IfSome, IfNone, length};
 
-    /// The packets of a file of pcap, with stamps in micro- or nanoseconds, or pcapng, in either order of octets; `None`
-    /// where the octets begin none. Takes no memory.
+    /// The packets of a file of pcap, with stamps in micro- or nanoseconds, or pcapng, in either order of octets;
+    /// `None` where the octets begin none. Takes no memory.
     pub fn of_file(alloc: A, octets: &'a [u8]) -> Option<Capture<'a, A>> {
         match start_of(octets)? {
             Start::Pcap(order, number, records) => Some(Capture {
@@ -85,8 +85,8 @@ impl<'a, A: Allocator> Capture<'a, A> {
         }
     }
 
-    /// The next packet, and `None` at the end of the file. Each shortens what is still to come, so the end is reached. A
-    /// file that is cut, or says a length that can't be, ends with a packet for that cause.
+    /// The next packet, and `None` at the end of the file. Each shortens what is still to come, so the end is reached.
+    /// A file that is cut, or says a length that can't be, ends with a packet for that cause.
     ///
     /// # Errors
     /// Want of memory, for the list of interfaces. The same call may be made again then.

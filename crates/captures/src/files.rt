@@ -20,8 +20,8 @@ pub(crate) enum Start<'a> {
     Pcapng,
 }
 
-/// How a file begins, and `None` where it is no such file. The upper half of a link type's number in pcap tells of check
-/// octets, and isn't looked at.
+/// How a file begins, and `None` where it is no such file. The upper half of a link type's number in pcap tells of
+/// check octets, and isn't looked at.
 pub(crate) fn start_of(octets: &[u8]) -> Option<Start<'_>> {
     if section_order(octets).is_some() {
         return Some(Start::Pcapng);
@@ -32,8 +32,8 @@ pub(crate) fn start_of(octets: &[u8]) -> Option<Start<'_>> {
     Some(Start::Pcap(order, (number & 0xFFFF) as u16, records))
 }
 
-/// The order of octets of a pcap file, with stamps in microseconds or in nanoseconds, by its magic number, and what stands
-/// behind that.
+/// The order of octets of a pcap file, with stamps in microseconds or in nanoseconds, by its magic number, and what
+/// stands behind that.
 fn pcap_order(octets: &[u8]) -> Option<(OctetOrder, &[u8])> {
     let (number, rest) = OctetOrder::Big.take_u32(octets)?;
     match number {
@@ -107,9 +107,9 @@ pub(crate) fn section_order(octets: &[u8]) -> Option<OctetOrder> {
     }
 }
 
-/// The block at the front in a section of this order, or that of the section which it begins, and what stands behind it;
-/// `None` where it is cut, or has a length that is none of a block: less than what stands beside its contents, or no multiple
-/// of four.
+/// The block at the front in a section of this order, or that of the section which it begins, and what stands behind
+/// it; `None` where it is cut, or has a length that is none of a block: less than what stands beside its contents, or
+/// no multiple of four.
 pub(crate) fn take_block(order: OctetOrder, octets: &[u8]) -> Option<(Block<'_>, &[u8])>
     ensures { IfSome result (λ x. length x.1.now < length octets.now) }
 {

@@ -59,8 +59,8 @@ pub(crate) fn datagram_in(packet: &[u8]) -> Result<Datagram<'_>, Cause> {
     }
 }
 
-/// The header at the front of a packet. That more fragments follow, and where this one begins, are the lower six bits of
-/// the seventh octet and the eighth.
+/// The header at the front of a packet. That more fragments follow, and where this one begins, are the lower six bits
+/// of the seventh octet and the eighth.
 fn header_of(packet: &[u8]) -> Option<Header> {
     if packet.len() < IP_HEADER_OCTETS {
         return None;

@@ -1,6 +1,6 @@
-//! A pcapng file that is written: its section and its interfaces, and packet behind packet. The first interface is IP, on
-//! which each datagram stands in a packet of IP and UDP; then comes one for each bus. Stamps are milliseconds, so that
-//! datagrams and frames have one time.
+//! A pcapng file that is written: its section and its interfaces, and packet behind packet. The first interface is IP,
+//! on which each datagram stands in a packet of IP and UDP; then comes one for each bus. Stamps are milliseconds, so
+//! that datagrams and frames have one time.
 
 ghost use Rattle.std.specs.Prelude.{◌≡◌, ◌≤◌, ◌+◌, ◌⊎◌, IfErr, OnOk, OnErr, length};
 ghost use Rattle.tags.specs.Canonical.{Extends};
@@ -20,12 +20,12 @@ const FRONT_OCTETS: usize = IP_HEADER_OCTETS + UDP_HEADER_OCTETS;
 /// The option `if_name` of an interface.
 const NAME: u16 = 2;
 
-/// The option `if_tsresol` with its length, its value 3 for thousandths of a second, and what fills it up; and the end of
-/// the options.
+/// The option `if_tsresol` with its length, its value 3 for thousandths of a second, and what fills it up; and the end
+/// of the options.
 const MILLISECONDS: [u8; 12] = [0, 9, 0, 1, 3, 0, 0, 0, 0, 0, 0, 0];
 
-/// Appends what a file begins with: its section's header, the interface of BACnet/IP, and one for each bus, by the numbers
-/// of their networks, in order. After an `Err` the buffer is as it was.
+/// Appends what a file begins with: its section's header, the interface of BACnet/IP, and one for each bus, by the
+/// numbers of their networks, in order. After an `Err` the buffer is as it was.
 ///
 /// # Errors
 /// `Memory` alone.
@@ -59,8 +59,8 @@ pub fn write_datagram<B: Allocator>(
     all_or_none(put, start, out)
 }
 
-/// Appends what is put out on a bus at a moment, in milliseconds. The bus is named by its place among those that the file
-/// begins with, from 0. After an `Err` the buffer is as it was.
+/// Appends what is put out on a bus at a moment, in milliseconds. The bus is named by its place among those that the
+/// file begins with, from 0. After an `Err` the buffer is as it was.
 ///
 /// # Errors
 /// `TooLong` for over 65507 octets, `Memory`.
@@ -146,7 +146,8 @@ fn last_digit(number: u16) -> u8 {
     b'0' + (number % 10) as u8
 }
 
-/// Appends the description of an interface, with its name and stamps in milliseconds, and no limit of a packet's length.
+/// Appends the description of an interface, with its name and stamps in milliseconds, and no limit of a packet's
+/// length.
 #[tactic(auto, using(crate::proofs::Extending::extending))]
 fn put_interface<B: Allocator>(
     link_type: LinkType,

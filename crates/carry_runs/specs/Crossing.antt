@@ -1,5 +1,5 @@
--- A client on network 2, a device on network 1, and a router between them: what is said, and what the router makes of the
--- request.
+-- A client on network 2, a device on network 1, and a router between them: what is said, and what the router makes of
+-- the request.
 use Rattle.std.specs.Prelude.{◌≡◌, ℕ, List, [], ◌∷◌, true, Some, None}
 use Rattle.apdu.specs.Apdu.{PlainApdu, complex_ack, confirmed, unconfirmed}
 use Rattle.apdu.specs.ApduWriting.{canonical}

@@ -11,7 +11,8 @@
 
 ghost use Rattle.carry_said.specs.Laws.{ClientAsksSaid, ClientHearingHasInsides, ClientHearsSaid, ClientIssuesSaid};
 ghost use Rattle.carry_said.specs.Laws.{ClientSaysSaid, ClientSaysSomething, DeviceHearingHasInsides, DeviceHearsSaid};
-ghost use Rattle.carry_said.specs.Laws.{DeviceSaysSaid, DeviceSaysSomething, HeardWasSaid, SaidStill, WhoIsSaysSomething};
+ghost use Rattle.carry_said.specs.Laws.{DeviceSaysSaid, DeviceSaysSomething, HeardWasSaid, SaidStill};
+ghost use Rattle.carry_said.specs.Laws.{WhoIsSaysSomething};
 
 use std::alloc::Allocator;
 

@@ -18,6 +18,7 @@ pub record IsIpAddress (mac : Mac) : Type 0 where
   pub is : mac ≡ mac_at address
 
 -- each datagram that goes out over ports at these places passes on what is inside these things
-pub record OutPassesOn {A : Type 0} (ts : List (Thing A)) (places : List Station) (out : List (PortSent A)) : Type 0 where
+pub record OutPassesOn {A : Type 0} (ts : List (Thing A)) (places : List Station) (out : List (PortSent A)) :
+    Type 0 where
   pub each : (o : PortSent A) (place : Station) → Has out o → slice_get places o.port ≡ Some place →
       PassesOn ts (thing_of place o.sent)

@@ -23,7 +23,10 @@ use Rattle.carry_said.specs.headline_site.headline_bacnet.Refined.{ObjectSite}
 use Rattle.primitives.specs.declared.plain_data.Request.{Request}
 use Rattle.carry_said.specs.server_tsm.Waking as server_waking
 use Rattle.carry_said.specs.headline_site.Fair.{IsFair}
-use Rattle.carry_said.specs.headline_site.AllStations.{Announces, Asks_who, Client_hears, Client_learns, Client_marks, Client_wakes, Device_hears, Device_wakes, Event, Issues, Passes, Restarts, AllStations, deed_by, device_does, now, step, with_client}
+use Rattle.carry_said.specs.headline_site.AllStations.{Announces, Asks_who, Client_hears, Client_learns, Client_marks}
+use Rattle.carry_said.specs.headline_site.AllStations.{Client_wakes, Device_hears, Device_wakes, Event, Issues, Passes}
+use Rattle.carry_said.specs.headline_site.AllStations.{Restarts, AllStations, deed_by, device_does, now, step}
+use Rattle.carry_said.specs.headline_site.AllStations.{with_client}
 use Rattle.carry_said.specs.headline_site.headline_client.Heard.{said_in}
 use Rattle.carry_said.specs.headline_site.headline_client.Safe.{safe_client, station_of}
 use Rattle.carry_said.specs.headline_site.headline_client.Told.{acts}

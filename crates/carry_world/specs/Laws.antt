@@ -20,7 +20,8 @@ use Rattle.carry_said.specs.headline_site.headline_device.Devices as device_side
 use Rattle.carry_said.specs.headline_site.headline_device.Devices.{HasNumbers}
 use Rattle.carry_said.specs.headline_site.Fair.{IsNewClient, IsNewDevice}
 use Rattle.carry_said.specs.headline_site.Laws.{ComesWhole}
-use Rattle.history.specs.Legal.{AnswersWereExecuted, AreClosedOnce, AreExecutedOnce, AreNumbered, IsWhatExecutionsLeave, StandAfterIssue}
+use Rattle.history.specs.Legal.{AnswersWereExecuted, AreClosedOnce, AreExecutedOnce, AreNumbered, IsWhatExecutionsLeave}
+use Rattle.history.specs.Legal.{StandAfterIssue}
 use Rattle.history.specs.Lists.{Has}
 use Rattle.history.specs.declared.Entry.{Entry}
 use Rattle.history.specs.declared.Entry.TheVariants as history
@@ -109,7 +110,8 @@ pub record IsWholeIssue {A : Type 0} (w : PlainWorld A) (d : DeviceState A) (x :
 -- so is each that comes whole by what is delivered to it, be it executed, rejected or aborted (5.4.5)
 abbrev pub WholeIsIssued : {A : Type 0} → PlainWorld A → Type 0
 WholeIsIssued {A} w = (place : ℕ) (d : DeviceState A) (p : Parcel A) (x : Whole A) →
-    slice_get w.devices place ≡ Some d → Delivers w d.net d.mac p → ComesWhole w.moment p.from p.to p.npdu d x → IsWholeIssue w d x
+    slice_get w.devices place ≡ Some d → Delivers w d.net d.mac p → ComesWhole w.moment p.from p.to p.npdu d x →
+    IsWholeIssue w d x
 
 -- the reply of an outcome is that of an execution of the issue
 abbrev pub IsExecuted : {A : Type 0} → PlainWorld A → ℕ → Outcome (Reply A) → Type 0

@@ -1,5 +1,6 @@
 -- A world as it is kept: its moment, its stations, what was sent and said, and the history; no book.
-use Rattle.std.specs.Prelude.{◌≡◌, ◌⊎◌, ℕ, suc, ◌+◌, ◌≤◌, ◌==◌, ◌&&◌, cond, List, [], ◌∷◌, ◌++◌, map, Option, Some, None}
+use Rattle.std.specs.Prelude.{◌≡◌, ◌⊎◌, ℕ, suc, ◌+◌, ◌≤◌, ◌==◌, ◌&&◌, cond, List, [], ◌∷◌, ◌++◌, map, Option, Some}
+use Rattle.std.specs.Prelude.{None}
 use Rattle.carry.specs.Passing.{PutsOut}
 use Rattle.carry.specs.Things.{Bears, Thing, net_of}
 use Rattle.carry_said.specs.client.Client.{ClientState}

@@ -2,9 +2,9 @@
 //! (ANSI/ASHRAE 135, clauses 5.4, 6, 9.3, J.2).
 //!
 //! To the layers above it promises: whatever comes of a world in steps from a fresh one, its history is legal, whatever
-//! is inside of what was sent was said, whatever a station hears was said to it, and what it executes and tells is of an
-//! issue. A step is said by the contracts of clients and devices and by what is put out and passed on, so that a world's
-//! call has only to make such steps. It has no code. In `specs/`, from below:
+//! is inside of what was sent was said, whatever a station hears was said to it, and what it executes and tells is of
+//! an issue. A step is said by the contracts of clients and devices and by what is put out and passed on, so that a
+//! world's call has only to make such steps. It has no code. In `specs/`, from below:
 //!
 //! - `Internetwork`, `InternetworkSteps`: all stations over one book, with what was sent and said. They are a witness
 //!   of the proofs.

@@ -71,7 +71,8 @@ impl<A: Allocator> Chronicle<A> {
         Ok(())
     }
 
-    /// Takes room for what is executed and so many outcomes, where it grows by nothing else. What it has stays as it is.
+    /// Takes room for what is executed and so many outcomes, where it grows by nothing else. What it has stays as it
+    /// is.
     ///
     /// # Errors
     /// Want of memory.

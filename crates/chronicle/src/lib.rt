@@ -1,9 +1,10 @@
-//! What a world keeps of all that happened, and how it grows (ANSI/ASHRAE 135, clauses 5.4, 6.2 and J.2): items that were
-//! put out, who issued under which invoke ID, the history, and what is inside each message that was said.
+//! What a world keeps of all that happened, and how it grows (ANSI/ASHRAE 135, clauses 5.4, 6.2 and J.2): items that
+//! were put out, who issued under which invoke ID, the history, and what is inside each message that was said.
 //!
-//! To the layer above it promises: what is put out over a station's ports becomes items and frames, each in order; of each message that
-//! is said the inside is kept, exactly; what a station executed and what came of requests becomes entries of the history,
-//! each of the last issue under its invoke ID. Room for all of it is taken first, and then it grows without refusal.
+//! To the layer above it promises: what is put out over a station's ports becomes items and frames, each in order; of
+//! each message that is said the inside is kept, exactly; what a station executed and what came of requests becomes
+//! entries of the history, each of the last issue under its invoke ID. Room for all of it is taken first, and then it
+//! grows without refusal.
 //!
 //! - `key`: who issued, and under which invoke ID.
 //! - `chronicle`: what is kept, room for more, and how it grows.

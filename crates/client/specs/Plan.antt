@@ -35,8 +35,8 @@ abbrev pub ChangesSomething : {A : Type 0} → ClientChange A → Type 0
 ChangesSomething Stays = ⊥
 ChangesSomething change = Unit {0}
 
--- a change was planned at this moment in this state: a binding has a place, and what its client of transactions does was
--- planned by that
+-- a change was planned at this moment in this state: a binding has a place, and what its client of transactions does
+-- was planned by that
 abbrev pub IsPlannedChange : {A : Type 0} → ℕ → ClientState A → ClientChange A → Type 0
 IsPlannedChange now c (Binds b) = has_place b.instance c.bindings ≡ true
 IsPlannedChange now c (Transacts change) = tsm.IsPlanned now c.machine change

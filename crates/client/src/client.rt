@@ -45,9 +45,9 @@ impl<A: Allocator + Copy> Client<A> {
     ghost use Rattle.client.specs.Saying.{told_of};
     ghost use Rattle.profile.specs.Times.{MAX_MOMENT_MS};
 
-    /// A client at this address on this kind of link, that is bound to no device and has asked nothing, whose memory will
-    /// be that of `alloc`. It takes answers in segments or not, in APDUs of at most what the link carries (20.1.2.5). It
-    /// takes no memory.
+    /// A client at this address on this kind of link, that is bound to no device and has asked nothing, whose memory
+    /// will be that of `alloc`. It takes answers in segments or not, in APDUs of at most what the link carries
+    /// (20.1.2.5). It takes no memory.
     pub fn new(alloc: A, address: Station, segmented: bool, link: LinkKind) -> Self
         ensures { result ≡ new_client address segmented (longest_apdu link) }
     {
@@ -140,8 +140,8 @@ impl<A: Allocator + Copy> Client<A> {
         self.machine.is_quiet(now)
     }
 
-    /// Wakes at the moment `now`, in milliseconds, where nothing is due: it says and tells nothing, and all that it asked
-    /// goes on. It takes no memory.
+    /// Wakes at the moment `now`, in milliseconds, where nothing is due: it says and tells nothing, and all that it
+    /// asked goes on. It takes no memory.
     pub fn wake_quietly(&mut self, now: u64)
         requires { is_quiet now self.old.machine.open_ones ≡ true }
         ensures said { (woken now self.old.machine.open_ones).said ≡ [] }
@@ -168,8 +168,8 @@ impl<A: Allocator + Copy> Client<A> {
         })
     }
 
-    /// Does what was planned at the moment `now`, in milliseconds, with no other input between, and answers what is said
-    /// and told. It takes what memory it must first, and none once anything has changed.
+    /// Does what was planned at the moment `now`, in milliseconds, with no other input between, and answers what is
+    /// said and told. It takes what memory it must first, and none once anything has changed.
     ///
     /// # Errors
     /// `Memory` alone, and only where something is to change. The client is then as it was.

@@ -64,8 +64,8 @@ impl<A: Allocator + Copy> Client<A> {
         Ok(told)
     }
 
-    /// What it does where it hears a parcel at the moment `now`, in milliseconds: `commit` does it. A parcel that brings
-    /// nothing to the client is dropped without memory.
+    /// What it does where it hears a parcel at the moment `now`, in milliseconds: `commit` does it. A parcel that
+    /// brings nothing to the client is dropped without memory.
     ///
     /// # Errors
     /// `TableFull` for an I-Am for whose device there is no place, or `Memory`.
@@ -133,7 +133,8 @@ impl<A: Allocator + Copy> Client<A> {
         ensures learnt { IfOk result (λ plan. Learnt station way service octets.now self.now (told_by plan)
             (left_by now plan self.now)) }
         ensures planned { IfOk result (IsPlanned now self.now) }
-        ensures cause { IfErr result (λ fault. (fault ≡ Fault.TableFull) × Overflows service octets.now self.now.bindings) }
+        ensures cause { IfErr result (λ fault. (fault ≡ Fault.TableFull) ×
+            Overflows service octets.now self.now.bindings) }
     {
         let Some(i_am) = i_am_in(service, octets) else {
             return Ok(quiet(self.alloc, ClientChange::Stays));

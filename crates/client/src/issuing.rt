@@ -61,8 +61,8 @@ impl<A: Allocator + Copy> Client<A> {
         })
     }
 
-    /// What an issue of a request to the device of this instance comes to at the moment `now`, in milliseconds: `commit`
-    /// does it (5.4.4.1).
+    /// What an issue of a request to the device of this instance comes to at the moment `now`, in milliseconds:
+    /// `commit` does it (5.4.4.1).
     ///
     /// # Errors
     /// Those of `issue`.

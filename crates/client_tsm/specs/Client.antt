@@ -1,5 +1,6 @@
 -- The client of transactions: what it knows, and what changes of it (5.4.1, 5.4.4).
-use Rattle.std.specs.Prelude.{◌≡◌, ℕ, ◌+◌, ◌%◌, ◌==◌, ◌&&◌, not, option_map, Bool, false, List, [], ◌∷◌, ◌++◌, remove, replicate, Option, Some, None, slice_get, slice_index, slice_set}
+use Rattle.std.specs.Prelude.{◌≡◌, ℕ, ◌+◌, ◌%◌, ◌==◌, ◌&&◌, not, option_map, Bool, false, List, [], ◌∷◌, ◌++◌, remove}
+use Rattle.std.specs.Prelude.{replicate, Option, Some, None, slice_get, slice_index, slice_set}
 use Rattle.std.specs.List.{list_any}
 use Rattle.segments.specs.Receiver.{Joined, ReceiverState, granted_window, joins, nothing_joined}
 use Rattle.segments.specs.Sender.{SenderState}
@@ -11,7 +12,8 @@ use Rattle.client_tsm.specs.Open.{Open}
 use Rattle.client_tsm.specs.Waking.{all_left}
 use Rattle.client_tsm.specs.declared.gathering.Gathering.{Gathering}
 use Rattle.client_tsm.specs.declared.plan.ClientTsmChange.{ClientTsmChange}
-use Rattle.client_tsm.specs.declared.plan.ClientTsmChange.TheVariants.{Stays, Opens, Sends, Gathers, Renews, Ends, Wakes}
+use Rattle.client_tsm.specs.declared.plan.ClientTsmChange.TheVariants.{Stays, Opens, Sends, Gathers, Renews, Ends}
+use Rattle.client_tsm.specs.declared.plan.ClientTsmChange.TheVariants.{Wakes}
 
 -- accepts: what it takes of an answer; next: the next invoke ID; free_from: for each invoke ID the moment from which it
 -- may be given again; open_ones: the transactions that have no end, in order of issue; moment: that of the last change

@@ -7,7 +7,8 @@ use Rattle.segments.specs.declared.step.Step.TheVariants.{Full, Taken}
 use Rattle.services.specs.Asked.{service_asked}
 use Rattle.services.specs.Contents.{complex, MeansReply}
 use Rattle.client_tsm.specs.Client.{AreApart, ClientTsmState, committed, gathered_at}
-use Rattle.client_tsm.specs.Hearing.{Message, answers, answers_in_part, acknowledges, closes, nothing, Heard, quiet, whole_with}
+use Rattle.client_tsm.specs.Hearing.{Message, answers, answers_in_part, acknowledges, closes, nothing, Heard, quiet}
+use Rattle.client_tsm.specs.Hearing.{whole_with}
 use Rattle.client_tsm.specs.Open.{Open, goes_on}
 use Rattle.client_tsm.specs.Planned.{IsPlanned}
 use Rattle.client_tsm.specs.Steps.{IsPlan}
@@ -50,8 +51,8 @@ IsOutcome now (closes said) o outcome = outcome ≡ said
 IsOutcome now message o outcome = ⊥
 
 -- what is told is one outcome, that was heard of a transaction for which it counts, and which ends
-pub record IsTold {A : Type 0} (now : ℕ) (from : Station) (h : Heard A) (st : ClientTsmState A) (plan : ClientTsmPlan A) :
-    Type 0 where
+pub record IsTold {A : Type 0} (now : ℕ) (from : Station) (h : Heard A) (st : ClientTsmState A)
+    (plan : ClientTsmPlan A) : Type 0 where
   pub place : ℕ
   pub transaction : Open A
   pub counted : IsCounted now from h st place transaction

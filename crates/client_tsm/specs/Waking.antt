@@ -1,5 +1,6 @@
 -- What a client does when it wakes, one transaction after another in order of issue (5.4.4).
-use Rattle.std.specs.Prelude.{ℕ, suc, ◌-◌, ◌&&◌, nat_le, nat_lt, Bool, true, false, List, [], ◌∷◌, length, Option, Some, None}
+use Rattle.std.specs.Prelude.{ℕ, suc, ◌-◌, ◌&&◌, nat_le, nat_lt, Bool, true, false, List, [], ◌∷◌, length, Option, Some}
+use Rattle.std.specs.Prelude.{None}
 use Rattle.std.specs.List.{flat_map, list_all}
 use Rattle.segments.specs.Sender.{SenderState, waits, wakes}
 use Rattle.profile.specs.Limits.{NUMBER_OF_APDU_RETRIES}

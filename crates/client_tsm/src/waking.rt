@@ -97,8 +97,8 @@ impl<A: Allocator + Copy> ClientTsm<A> {
         Ok(ClientTsmTold { said, told })
     }
 
-    /// Whether nothing is due where the client wakes at the moment `now`, in milliseconds: no transaction is said again,
-    /// and none ends.
+    /// Whether nothing is due where the client wakes at the moment `now`, in milliseconds: no transaction is said
+    /// again, and none ends.
     pub fn is_quiet(&self, now: u64) -> bool
         ensures { result ≡ is_quiet now self.now.open_ones }
     {
@@ -107,8 +107,8 @@ impl<A: Allocator + Copy> ClientTsm<A> {
             .all(|transaction| transaction.turn(now).waits())
     }
 
-    /// Wakes at the moment `now`, in milliseconds, where nothing is due: nothing is said and told, and all transactions go
-    /// on. It takes no memory.
+    /// Wakes at the moment `now`, in milliseconds, where nothing is due: nothing is said and told, and all transactions
+    /// go on. It takes no memory.
     #[tactic(auto, using(crate::proofs::Quiet::quiet_rules))]
     pub fn wake_quietly(&mut self, now: u64)
         requires { is_quiet now self.old.open_ones ≡ true }

@@ -1,5 +1,6 @@
 -- What is done for the command line of a storm.
-use Rattle.std.specs.Prelude.{◌≡◌, ◌⊎◌, ℕ, List, [], ◌∷◌, ◌++◌, Option, Some, None, Bool, true, false, option_map, string_bytes}
+use Rattle.std.specs.Prelude.{◌≡◌, ◌⊎◌, ℕ, List, [], ◌∷◌, ◌++◌, Option, Some, None, Bool, true, false, option_map}
+use Rattle.std.specs.Prelude.{string_bytes}
 use Rattle.std.specs.Global.{Global}
 use Rattle.command_order.specs.declared.storming.Storming.{Storming}
 use Rattle.site_search.specs.site_storm.Lines.{Known}

@@ -15,8 +15,8 @@ with_files app =
     with_rule (with_rule (with_rule app capture_rule) (option_rule (codes "ladder")))
     (option_rule (codes "report"))
 
--- the subcommand that runs a script at a site: sim SITE SCRIPT, with a trace, as JSON, with files of a capture, a ladder
--- and a report, and the part of the run that the last two show
+-- the subcommand that runs a script at a site: sim SITE SCRIPT, with a trace, as JSON, with files of a capture, a
+-- ladder and a report, and the part of the run that the last two show
 abbrev pub sim : App
 sim = with_rule (with_rule (with_files printed) (option_rule (codes "from"))) (option_rule (codes "to"))
 

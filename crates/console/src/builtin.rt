@@ -36,7 +36,8 @@ impl<A: Allocator + Copy> Model for Builtin<A> {
 
     ghost view = { λ s. s.device };
 
-    ghost invariant = { λ s. (s.device.server.moment ≡ 0) × (s.device.mac ≡ builtin_address.mac) × (s.port ≡ builtin_port) };
+    ghost invariant = { λ s. (s.device.server.moment ≡ 0) × (s.device.mac ≡ builtin_address.mac) ×
+        (s.port ≡ builtin_port) };
 }
 
 /// The address of the built-in device, on network 1.

@@ -180,8 +180,8 @@ impl<A: Allocator + Copy> Device<A> {
         self.server.is_quiet(now)
     }
 
-    /// Wakes at the moment `now`, in milliseconds, where nothing is due: it says nothing, and forgets what is too old. It
-    /// takes no memory.
+    /// Wakes at the moment `now`, in milliseconds, where nothing is due: it says nothing, and forgets what is too old.
+    /// It takes no memory.
     #[tactic(auto, using(crate::proofs::ServerLaws::size_rules))]
     pub fn wake_quietly(&mut self, now: u64)
         requires order { self.old.server.moment ≤ now }
@@ -194,8 +194,8 @@ impl<A: Allocator + Copy> Device<A> {
         self.server.wake_quietly(now);
     }
 
-    /// Does what was planned at the moment `now`, in milliseconds, with no other input between, and answers what is said
-    /// and executed. It takes what memory it must first, and none once anything has changed.
+    /// Does what was planned at the moment `now`, in milliseconds, with no other input between, and answers what is
+    /// said and executed. It takes what memory it must first, and none once anything has changed.
     ///
     /// # Errors
     /// `Memory` alone, and only where something is to change. The device is then as it was.

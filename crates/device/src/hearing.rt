@@ -63,8 +63,8 @@ impl<A: Allocator + Copy> Device<A> {
         Ok(told)
     }
 
-    /// What it does where it hears a parcel at the moment `now`, in milliseconds: `commit` does it. A parcel that brings
-    /// nothing to the device, for its header or its destination, is never refused.
+    /// What it does where it hears a parcel at the moment `now`, in milliseconds: `commit` does it. A parcel that
+    /// brings nothing to the device, for its header or its destination, is never refused.
     ///
     /// # Errors
     /// `Memory` alone.

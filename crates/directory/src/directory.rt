@@ -117,8 +117,8 @@ pub struct RelayFound<'r, A: Allocator + Copy> {
 }
 
 impl<A: Allocator + Copy> Directory<A> {
-    /// The directory of these relays and stations as they stand at the moment `now`, in milliseconds, and of the parts of
-    /// a site.
+    /// The directory of these relays and stations as they stand at the moment `now`, in milliseconds, and of the parts
+    /// of a site.
     ///
     /// # Errors
     /// Want of memory.

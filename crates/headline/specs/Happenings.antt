@@ -4,7 +4,9 @@ use Rattle.history.specs.declared.End.{End}
 use Rattle.history.specs.declared.Entry.{Entry}
 use Rattle.history.specs.declared.Entry.TheVariants.{Issue, Executed, Answered, Ended, Restarted}
 use Rattle.history.specs.Pieces.{piece, has_more}
-use Rattle.history.specs.Book.{Issued, Head, Answer, Simple, Complex, Failed, Body, Asks, Asks_piece, Tells, Tells_piece, Refuses, I_am, Other, Destination, Unicast, Broadcast, Message, Book, last_issue}
+use Rattle.history.specs.Book.{Issued, Head, Answer, Simple, Complex, Failed, Body, Asks, Asks_piece, Tells}
+use Rattle.history.specs.Book.{Tells_piece, Refuses, I_am, Other, Destination, Unicast, Broadcast, Message, Book}
+use Rattle.history.specs.Book.{last_issue}
 use Rattle.headline.specs.Protocol.{Protocol, Site}
 use Rattle.headline.specs.Stations.{Transaction, Client, Record, Device, new_client, new_device, issued, restarted}
 

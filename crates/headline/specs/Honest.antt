@@ -1,11 +1,15 @@
 -- Which happenings are honest: what is asked of the network, of clients and of devices.
-use Rattle.std.specs.Prelude.{◌≡◌, ◌⊎◌, ℕ, suc, ◌+◌, ◌≤◌, ◌<◌, Bool, false, List, [], ◌∷◌, ◌++◌, Option, Some, None, slice_index}
+use Rattle.std.specs.Prelude.{◌≡◌, ◌⊎◌, ℕ, suc, ◌+◌, ◌≤◌, ◌<◌, Bool, false, List, [], ◌∷◌, ◌++◌, Option, Some, None}
+use Rattle.std.specs.Prelude.{slice_index}
 use Rattle.profile.specs.Times.{GATHERING_TIMEOUT_MS, DEADLINE_MS, KEEP_MS, LIFE_MS}
 use Rattle.history.specs.Lists.{Has}
-use Rattle.history.specs.Book.{Head, Answer, Complex, Asks, Asks_piece, Tells, Tells_piece, I_am, Destination, Unicast, Broadcast, Message, Book}
+use Rattle.history.specs.Book.{Head, Answer, Complex, Asks, Asks_piece, Tells, Tells_piece, I_am, Destination, Unicast}
+use Rattle.history.specs.Book.{Broadcast, Message, Book}
 use Rattle.headline.specs.Protocol.{Protocol, Site}
 use Rattle.headline.specs.Stations.{Transaction, Binding, Client, Record, Gathering, Device}
-use Rattle.headline.specs.Happenings.{Core, Outcome, Gives, Fails, Happening, Ticks, Issues, Client_asks, Client_becomes, Closes, Device_tells, Device_becomes, Executes, Announces, Restarts, Says_no, Says_other, happens, start}
+use Rattle.headline.specs.Happenings.{Core, Outcome, Gives, Fails, Happening, Ticks, Issues, Client_asks}
+use Rattle.headline.specs.Happenings.{Client_becomes, Closes, Device_tells, Device_becomes, Executes, Announces}
+use Rattle.headline.specs.Happenings.{Restarts, Says_no, Says_other, happens, start}
 
 -- a destination covers the station that it names; a broadcast may reach any
 abbrev pub Covers : {S : Type 0} → Destination S → S → Type 0

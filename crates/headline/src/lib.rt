@@ -11,8 +11,11 @@
 //! - `Promised`: what the theorems say, beside the words for histories; `Records`: words for the newest record.
 #![tactic(auto)]
 
-ghost use Rattle.history.specs.Legal.{AreNumbered, StandAfterIssue, AreExecutedOnce, AnswersWereExecuted, AreClosedOnce};
-ghost use Rattle.headline.specs.Promised.{Always, AreWhatExecutionsLeave, ExecutesWhatIsIssued, TransactionsAreOfIssues, OutcomesAreOfIssues, RequestsAreWhole, AnswersAreWhole, SaidStaysSaid, RunsCompose, HonestRunsCompose};
+ghost use Rattle.history.specs.Legal.{AreNumbered, StandAfterIssue, AreExecutedOnce, AnswersWereExecuted};
+ghost use Rattle.history.specs.Legal.{AreClosedOnce};
+ghost use Rattle.headline.specs.Promised.{Always, AreWhatExecutionsLeave, ExecutesWhatIsIssued};
+ghost use Rattle.headline.specs.Promised.{TransactionsAreOfIssues, OutcomesAreOfIssues, RequestsAreWhole};
+ghost use Rattle.headline.specs.Promised.{AnswersAreWhole, SaidStaysSaid, RunsCompose, HonestRunsCompose};
 
 /// What the promise knows of stations S, requests Q, replies R and tables T, with its laws.
 pub trait HasProtocol<S, Q, R, T> {

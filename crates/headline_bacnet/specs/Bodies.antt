@@ -1,17 +1,20 @@
 -- What an APDU says, for the book of all that was said (20.1).
 use Rattle.std.specs.Prelude.{◌≡◌, ℕ, ◌==◌, Bool, cond, List, Option, Some, None}
-use Rattle.apdu.specs.Apdu.{PlainApdu, confirmed, unconfirmed, simple_ack, complex_ack, segment_ack, error_pdu, reject_pdu, abort_pdu}
+use Rattle.apdu.specs.Apdu.{PlainApdu, confirmed, unconfirmed, simple_ack, complex_ack, segment_ack, error_pdu}
+use Rattle.apdu.specs.Apdu.{reject_pdu, abort_pdu}
 use Rattle.apdu.specs.ApduWriting.{error_octets}
 use Rattle.apdu.specs.ServiceError.{SpellsError}
 use Rattle.apdu.specs.Unconfirmed.{SpellsIAm, service_number}
 use Rattle.apdu.specs.declared.apdu.Segment.{Segment}
 use Rattle.apdu.specs.declared.service_error.ObjectPropertyReference.{ObjectPropertyReference}
 use Rattle.apdu.specs.declared.sizes.MaxApdu.{MaxApdu}
-use Rattle.apdu.specs.declared.sizes.MaxApdu.TheVariants.{UpTo50, UpTo128, UpTo206, UpTo480, UpTo1024, UpTo1476, Reserved}
+use Rattle.apdu.specs.declared.sizes.MaxApdu.TheVariants.{UpTo50, UpTo128, UpTo206, UpTo480, UpTo1024, UpTo1476}
+use Rattle.apdu.specs.declared.sizes.MaxApdu.TheVariants.{Reserved}
 use Rattle.apdu.specs.declared.sizes.MaxSegments.{MaxSegments}
 use Rattle.apdu.specs.declared.unconfirmed.IAm.{IAm}
 use Rattle.apdu.specs.declared.unconfirmed.UnconfirmedService.TheVariants as kind
-use Rattle.history.specs.Book.{Answer, Simple, Complex, Failed, Head, Body, Asks, Asks_piece, Tells, Tells_piece, Refuses, I_am, Other}
+use Rattle.history.specs.Book.{Answer, Simple, Complex, Failed, Head, Body, Asks, Asks_piece, Tells, Tells_piece}
+use Rattle.history.specs.Book.{Refuses, I_am, Other}
 use Rattle.history.specs.declared.End.TheVariants.{Aborted, Rejected}
 use Rattle.npdu.specs.declared.mac.Station.{Station}
 use Rattle.npdu.specs.declared.mac.Way.{Way}

@@ -1,7 +1,8 @@
 -- What a client says of what it hears.
 use Rattle.std.proofs.Common.{inl, inr}
 use Rattle.std.specs.Prelude.{ℕ, List, []}
-use Rattle.apdu.specs.Apdu.{confirmed, unconfirmed, simple_ack, complex_ack, segment_ack, error_pdu, reject_pdu, abort_pdu}
+use Rattle.apdu.specs.Apdu.{confirmed, unconfirmed, simple_ack, complex_ack, segment_ack, error_pdu, reject_pdu}
+use Rattle.apdu.specs.Apdu.{abort_pdu}
 use Rattle.client.specs.Client.{ClientState}
 use Rattle.client.specs.Hearing.{ClientHears, Does}
 use Rattle.client.specs.declared.plan.ClientTold.{ClientTold}

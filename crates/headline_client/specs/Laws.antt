@@ -123,8 +123,8 @@ StartsWell A = (own : Station → MaxApdu) (address : Station) (segmented : Bool
     (safe_client own (new_client {A = A} address segmented max_apdu) ≡ safe.new_client)
     × IsWellKept (new_client {A = A} address segmented max_apdu)
 
--- what is read of what a client says is what it says, to any station: of a request, as a device sees it whose own greatest
--- APDU is this (20.1)
+-- what is read of what a client says is what it says, to any station: of a request, as a device sees it whose own
+-- greatest APDU is this (20.1)
 abbrev pub SaidIsHeard : Type 0 → Type 0
 SaidIsHeard A = (own : MaxApdu) (x : ClientSaid A) (a : PlainApdu) → CanWrite x → Spells (canonical (said_apdu x)) a →
     Says own a (body_of own (said_apdu x))

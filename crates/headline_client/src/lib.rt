@@ -11,7 +11,8 @@
 //! - `Laws`: what the functions here state.
 #![tactic(auto)]
 
-ghost use Rattle.headline_client.specs.Laws.{HearingIsHonest, IssueIsHonest, SaidIsHeard, StartsWell, WakingIsHonest, WhoIsIsHonest};
+ghost use Rattle.headline_client.specs.Laws.{HearingIsHonest, IssueIsHonest, SaidIsHeard, StartsWell, WakingIsHonest};
+ghost use Rattle.headline_client.specs.Laws.{WhoIsIsHonest};
 
 use std::alloc::Allocator;
 

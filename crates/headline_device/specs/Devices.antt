@@ -1,7 +1,8 @@
 -- What a step of a device is among all stations: a step of its server, an I-Am, or nothing.
 use Rattle.std.proofs.Common.{inl, inr}
 use Rattle.std.specs.Prelude.{◌≡◌, ◌≢◌, ◌<◌, ◌^◌, ℕ, List, [], ◌∷◌, Some}
-use Rattle.apdu.specs.Apdu.{abort_pdu, complex_ack, confirmed, error_pdu, reject_pdu, segment_ack, simple_ack, unconfirmed}
+use Rattle.apdu.specs.Apdu.{abort_pdu, complex_ack, confirmed, error_pdu, reject_pdu, segment_ack, simple_ack}
+use Rattle.apdu.specs.Apdu.{unconfirmed}
 use Rattle.device.specs.Device.{DeviceState, new_device, restarts}
 use Rattle.device.specs.Hearing.{AnswersWho, DeviceHears, Does, origin_of, says_who, silence}
 use Rattle.device.specs.Saying.{told_of}

@@ -6,8 +6,11 @@
 //!   rule (`Histories`); runs that aren't honest, and what of the promise each breaks (`Premises`).
 #![tactic(auto)]
 
-ghost use Rattle.history.specs.Legal.{AreNumbered, StandAfterIssue, AreExecutedOnce, AnswersWereExecuted, AreClosedOnce};
-ghost use Rattle.headline.specs.Promised.{Always, AreWhatExecutionsLeave, ExecutesWhatIsIssued, TransactionsAreOfIssues, OutcomesAreOfIssues, RequestsAreWhole, AnswersAreWhole, SaidStaysSaid, RunsCompose, HonestRunsCompose};
+ghost use Rattle.history.specs.Legal.{AreNumbered, StandAfterIssue, AreExecutedOnce, AnswersWereExecuted};
+ghost use Rattle.history.specs.Legal.{AreClosedOnce};
+ghost use Rattle.headline.specs.Promised.{Always, AreWhatExecutionsLeave, ExecutesWhatIsIssued};
+ghost use Rattle.headline.specs.Promised.{TransactionsAreOfIssues, OutcomesAreOfIssues, RequestsAreWhole};
+ghost use Rattle.headline.specs.Promised.{AnswersAreWhole, SaidStaysSaid, RunsCompose, HonestRunsCompose};
 ghost use Rattle.headline_runs.specs.Small.{small};
 
 use headline::HasProtocol;

@@ -2,7 +2,8 @@
 use Rattle.std.specs.Prelude.{ℕ, map, Option, Some, None}
 use Rattle.apdu.specs.Numbers.{abort_number, reject_number}
 use Rattle.headline.specs.Happenings.{put, tell, with_entry, with_said}
-use Rattle.history.specs.Book.{Body, Book, Complex, Failed, Message, Other, Refuses, Simple, Tells, Tells_piece, Unicast, last_issue}
+use Rattle.history.specs.Book.{Body, Book, Complex, Failed, Message, Other, Refuses, Simple, Tells, Tells_piece}
+use Rattle.history.specs.Book.{Unicast, last_issue}
 use Rattle.history.specs.declared.End.TheVariants.{Aborted, Rejected}
 use Rattle.history.specs.declared.Entry.TheVariants.{Executed, Restarted}
 use Rattle.npdu.specs.declared.mac.Station.{Station}

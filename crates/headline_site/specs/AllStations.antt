@@ -68,8 +68,8 @@ abbrev pub with_device : {A : Type 0} → ℕ → DeviceState A → ObjectCore A
 with_device place d core w = record w { core = core; devices = slice_set w.devices place d }
 
 -- what its client of transactions plans is done (5.4.4). own: the greatest APDU of each station (12.11)
-abbrev pub client_does : {A : Type 0} → (own : Station → MaxApdu) → ℕ → ClientTsmPlan A → ClientState A → AllStations A →
-    AllStations A
+abbrev pub client_does : {A : Type 0} → (own : Station → MaxApdu) → ℕ → ClientTsmPlan A → ClientState A →
+    AllStations A → AllStations A
 client_does own place plan c w =
     let next = record c { machine = client.committed (now w) plan.change c.machine } in
     with_client place next (acts own (station_of c) plan.said plan.told (safe_client own next) w.core) w

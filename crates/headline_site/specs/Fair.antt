@@ -33,7 +33,9 @@ use Rattle.headline_device.specs.server_tsm.Hearing as server_hearing
 use Rattle.headline_device.specs.server_tsm.Steps as server_steps
 use Rattle.headline_client.specs.Laws.{IsClient}
 use Rattle.headline_client.specs.Safe.{station_of}
-use Rattle.headline_site.specs.AllStations.{Event, Passes, Issues, Asks_who, Client_hears, Client_learns, Client_marks, Client_wakes, Device_hears, Announces, Device_wakes, Restarts, AllStations, now, step}
+use Rattle.headline_site.specs.AllStations.{Event, Passes, Issues, Asks_who, Client_hears, Client_learns, Client_marks}
+use Rattle.headline_site.specs.AllStations.{Client_wakes, Device_hears, Announces, Device_wakes, Restarts, AllStations}
+use Rattle.headline_site.specs.AllStations.{now, step}
 
 -- a sound request is issued, which isn't refused (5.4.4.1)
 abbrev pub MayIssue : {A : Type 0} → ℕ → (instance : ℕ) → Request A → ClientState A → Type 0

@@ -42,7 +42,8 @@ use Rattle.headline_client.specs.Safe as client
 use Rattle.headline_client.specs.Safe.{safe_client}
 use Rattle.headline_client.specs.Told.{acts, outcome_of}
 use Rattle.headline_site.specs.Fair.{AreFair, ClientMayHear, DeviceMayHear, IsBegun, IsFair, Stands}
-use Rattle.headline_site.specs.AllStations.{Event, AllStations, asked_plan, device_does, heard_plan, now, step, steps, with_client}
+use Rattle.headline_site.specs.AllStations.{Event, AllStations, asked_plan, device_does, heard_plan, now, step, steps}
+use Rattle.headline_site.specs.AllStations.{with_client}
 
 -- what comes of a fair event is a list of honest happenings, and the core stays what safety sees of each station
 pub record Goes {A : Type 0} (own : Station → MaxApdu) (s : ObjectSite A) (w v : AllStations A) : Type 0 where

@@ -9,12 +9,16 @@
 //! - `Laws`: what the functions state.
 #![tactic(auto)]
 
-ghost use Rattle.headline.specs.Promised.{AnswersAreWhole, ExecutesWhatIsIssued, RequestsAreWhole, TransactionsAreOfIssues};
+ghost use Rattle.headline.specs.Promised.{AnswersAreWhole, ExecutesWhatIsIssued, RequestsAreWhole};
+ghost use Rattle.headline.specs.Promised.{TransactionsAreOfIssues};
 ghost use Rattle.headline.specs.Promised as core;
-ghost use Rattle.history.specs.Legal.{AnswersWereExecuted, AreClosedOnce, AreExecutedOnce, AreNumbered, StandAfterIssue};
+ghost use Rattle.history.specs.Legal.{AnswersWereExecuted, AreClosedOnce, AreExecutedOnce, AreNumbered};
+ghost use Rattle.history.specs.Legal.{StandAfterIssue};
 ghost use Rattle.headline_client.specs.headline_bacnet.Protocol.{bacnet};
-ghost use Rattle.headline_site.specs.Laws.{Always, BeginsWell, ClientHearingGoes, DeviceHearingGoes, ExecutedIsIssued, IsReached, OutcomesAreOfIssues, SaidStays, StepRefines, TablesAreLeft};
-ghost use Rattle.headline_site.specs.Laws.{BeginsReached, GoesThen, HearingExecutesIssued, HearingIsWholeIssue, HearingTellsOfIssues, ReachedThen, Wherever};
+ghost use Rattle.headline_site.specs.Laws.{Always, BeginsWell, ClientHearingGoes, DeviceHearingGoes, ExecutedIsIssued};
+ghost use Rattle.headline_site.specs.Laws.{IsReached, OutcomesAreOfIssues, SaidStays, StepRefines, TablesAreLeft};
+ghost use Rattle.headline_site.specs.Laws.{BeginsReached, GoesThen, HearingExecutesIssued, HearingIsWholeIssue};
+ghost use Rattle.headline_site.specs.Laws.{HearingTellsOfIssues, ReachedThen, Wherever};
 ghost use Rattle.headline_site.specs.Placed.{SiteHasEach, SiteIsSite};
 
 use std::alloc::Allocator;

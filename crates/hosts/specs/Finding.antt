@@ -17,8 +17,8 @@ unfoldable pub has_port_at : {A : Type 0} → Station → WorldStation A → Boo
 has_port_at x s = list_any (is_at x) s.ports
 
 -- this port of this station is at an address
-pub record IsHostAt {A : Type 0} (x : Station) (stations : List (WorldStation A)) (place port : ℕ) (s : WorldStation A) :
-    Type 0 where
+pub record IsHostAt {A : Type 0} (x : Station) (stations : List (WorldStation A)) (place port : ℕ)
+    (s : WorldStation A) : Type 0 where
   pub at_address : place_of (has_port_at x) stations ≡ Some place
   pub there : slice_get stations place ≡ Some s
   pub port_is : place_of (is_at x) s.ports ≡ Some port

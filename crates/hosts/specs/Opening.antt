@@ -44,8 +44,8 @@ placed p = map (λ d. record { station = d.station; objects = d.objects }) (devi
 abbrev pub object_site : {A : Type 0} → Parts A → ObjectSite A
 object_site p = site_of (placed p)
 
--- the port at a link: on a subnet it reaches all members but itself, in their order (J.4.5), and on a bus its node is as
--- it is made at the first moment (9.5.6, Initialize)
+-- the port at a link: on a subnet it reaches all members but itself, in their order (J.4.5), and on a bus its node is
+-- as it is made at the first moment (9.5.6, Initialize)
 abbrev pub port_at : {A : Type 0} → List (Station A) → Link → SitePort A
 port_at all (link.Ip network subnet address) =
     port.Ip (ip.new_port network address (reach.Members (others address (members (subnet_of network subnet) all))))

@@ -96,8 +96,8 @@ fn buses_in<A: Allocator + Copy>(
     Ok(out)
 }
 
-/// The buses of a site as they open, in its order, whose memory will be that of `alloc`: each station on one hears there,
-/// in the order of the site, and nothing was put out (9.3).
+/// The buses of a site as they open, in its order, whose memory will be that of `alloc`: each station on one hears
+/// there, in the order of the site, and nothing was put out (9.3).
 ///
 /// # Errors
 /// Want of memory.

@@ -22,7 +22,8 @@ pub fn stations_stand<A: Allocator>()
     ensures of_site { StationsAreOfSite A }
 {}
 
-/// The relays of a sound site are on networks with numbers, where their ports are, and have seen no moment but the first.
+/// The relays of a sound site are on networks with numbers, where their ports are, and have seen no moment but the
+/// first.
 pub fn relays_stand<A: Allocator>()
     ensures { RelaysStand A }
 {}

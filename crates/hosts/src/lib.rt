@@ -1,10 +1,10 @@
 //! The stations that a site makes: what a world begins with (ANSI/ASHRAE 135, clauses 5.4, 6.1, 6.6, 12 and J).
 //!
-//! To the layer above it promises: a site opens with one relay for each manager and router and one station for each device
-//! and client, in its order, each at its addresses, with ports that reach the other members of the subnet or the manager
-//! of a foreign device, or whose node on a bus is as it is made; on each bus each of its stations hears; the devices are a site of the promise, and these
-//! stations are all that a fresh world asks of its clients and devices; and a device restarts with the objects that it
-//! opened with.
+//! To the layer above it promises: a site opens with one relay for each manager and router and one station for each
+//! device and client, in its order, each at its addresses, with ports that reach the other members of the subnet or the
+//! manager of a foreign device, or whose node on a bus is as it is made; on each bus each of its stations hears; the
+//! devices are a site of the promise, and these stations are all that a fresh world asks of its clients and devices;
+//! and a device restarts with the objects that it opened with.
 //!
 //! - `buses`: buses, as they open.
 //! - `ports`: their ports, as they open.

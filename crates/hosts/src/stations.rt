@@ -22,10 +22,10 @@ use tags::Fault;
 /// A station of a world with an application entity: a device or a client, and its ports.
 pub type WorldStation<A> = SiteStation<SitePort<A>, A>;
 
-/// The devices and clients of a site as they open, in its order, whose memory will be that of `alloc`. Each has one port,
-/// which reaches the other members of its subnet in the order of the site (J.4.5), or all of its network by the manager
-/// at which it registers (J.5), or is on a bus, where its node has not yet heard anything (9.5.6); a device has the objects that the site gives it (12), and a client is bound to no device
-/// and has asked nothing (5.4.4).
+/// The devices and clients of a site as they open, in its order, whose memory will be that of `alloc`. Each has one
+/// port, which reaches the other members of its subnet in the order of the site (J.4.5), or all of its network by the
+/// manager at which it registers (J.5), or is on a bus, where its node has not yet heard anything (9.5.6); a device has
+/// the objects that the site gives it (12), and a client is bound to no device and has asked nothing (5.4.4).
 ///
 /// # Errors
 /// `Memory` alone.

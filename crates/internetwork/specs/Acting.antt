@@ -27,8 +27,8 @@ pub record Acts {A : Type 0} (w v : WorldState A) (place : ℕ) (s next : WorldS
   pub buses_are : v.buses ≡ put_on w.moment (length w.items) (frames_of port.station_of s.ports t.out) buses
   pub said : v.said ≡ w.said ++ fresh
 
--- the relay at a place did this: what it put out stands behind these items, or goes out on these buses, and nothing else
--- has changed
+-- the relay at a place did this: what it put out stands behind these items, or goes out on these buses, and nothing
+-- else has changed
 pub record RelayActs {A : Type 0} (w v : WorldState A) (place : ℕ) (r next : SiteRelay A) (out : List (PortSent A))
     (items : List (Item A)) (buses : BusesState A) : Type 0 where
   pub there : slice_get w.relays place ≡ Some r

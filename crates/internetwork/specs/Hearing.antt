@@ -1,5 +1,5 @@
--- Octets that are heard on a bus: the station that is named hears the frames that they end, one after another, and its ear
--- keeps what is left (9.5.4).
+-- Octets that are heard on a bus: the station that is named hears the frames that they end, one after another, and its
+-- ear keeps what is left (9.5.4).
 use Rattle.std.specs.Prelude.{◌≡◌, ◌⊎◌, ◌<◌, ℕ, zero, suc, List, [], ◌∷◌, length, map, Some, slice_get}
 use Rattle.bus_traffic.specs.Bus.{BusState}
 use Rattle.bus_traffic.specs.declared.ear.Ear.{Ear}
@@ -62,8 +62,8 @@ IsThereAs Relay w l = l.place < length w.relays
 abbrev pub IsThere : {A : Type 0} → WorldState A → Listener → Type 0
 IsThere w l = IsThereAs l.whom w l
 
--- a device or a client, which stands as it must, hears a frame of its bus, once its port was told of the octets that end
--- it (9.5.2)
+-- a device or a client, which stands as it must, hears a frame of its bus, once its port was told of the octets that
+-- end it (9.5.2)
 pub record HostTakes {A : Type 0} (l : Listener) (f : HeardFrame A) (w v : WorldState A) : Type 0 where
   pub s : WorldStation A
   pub host : IsHost w.moment s

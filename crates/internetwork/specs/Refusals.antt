@@ -7,14 +7,16 @@ use Rattle.npdu.specs.declared.mac.Station.{Station}
 use Rattle.plans.specs.Plans.{WakeIsTooLong, places_of}
 use Rattle.profile.specs.Times.{MAX_MOMENT_MS}
 use Rattle.chronicle.specs.site_station.Entity.{IsClient, told_awake}
-use Rattle.chronicle.specs.site_station.Station.{AskingIsRefused, HearingIsRefused, ITS_PORT, IsNotForeign, IssueIsRefused}
+use Rattle.chronicle.specs.site_station.Station.{AskingIsRefused, HearingIsRefused, ITS_PORT, IsNotForeign}
+use Rattle.chronicle.specs.site_station.Station.{IssueIsRefused}
 use Rattle.tags.specs.declared.fault.Fault.{Fault}
 use Rattle.tags.specs.declared.fault.Fault.TheVariants.{Expired, Memory, NoSuch, TooLong}
 use Rattle.traffic.specs.Seeking.{is_young}
 use Rattle.traffic.specs.declared.item.Item.{Item}
 use Rattle.plans.specs.relays.Laws.{SiteRelay}
 use Rattle.plans.specs.relays.Refusals as relay
-use Rattle.internetwork.specs.Finding.{HasNoRelay, IsAddressee, IsNamed, IsNoRelay, IsNobody, IsRelayAddressee, IsRelayNamed, addressee_of}
+use Rattle.internetwork.specs.Finding.{HasNoRelay, IsAddressee, IsNamed, IsNoRelay, IsNobody, IsRelayAddressee}
+use Rattle.internetwork.specs.Finding.{IsRelayNamed, addressee_of}
 use Rattle.internetwork.specs.Hearing.{HasListener, HasNoListener, RefusesOctets, Then}
 use Rattle.internetwork.specs.Step.{Steps}
 use Rattle.plans.specs.hosts.Stations.{WorldStation}
@@ -141,8 +143,8 @@ pub record RelayMayHear {A : Type 0} (number : ℕ) (w : WorldState A) : Type 0 
   pub goes : GoesToRelay number w
   pub young : is_young w.moment goes.item ≡ true
 
--- an event may want memory: not a tick, no delivery that is refused for the item itself, and no hearing of a station that
--- isn't on that bus
+-- an event may want memory: not a tick, no delivery that is refused for the item itself, and no hearing of a station
+-- that isn't on that bus
 abbrev pub MayGrow : {A : Type 0} → Event A → WorldState A → Type 0
 MayGrow (event.Tick n) w = ⊥
 MayGrow (event.Deliver number) w = MayBeHeard number w ⊎ RelayMayHear number w

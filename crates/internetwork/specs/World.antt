@@ -19,9 +19,9 @@ use Rattle.plans.specs.relays.declared.relay.Relay.TheVariants.{Router, Manager}
 use Rattle.site_parts.specs.declared.parts.Parts.{Parts}
 use Rattle.traffic.specs.declared.item.Item.{Item}
 
--- relays: managers and routers, in the order of the site. stations: behind them devices and clients, in that order. items:
--- what was put out on networks of BACnet/IP, numbered from 0 on. buses: in the order of the site. keys: who issued, and
--- under which invoke ID, of each issue in order. moment: in milliseconds
+-- relays: managers and routers, in the order of the site. stations: behind them devices and clients, in that order.
+-- items: what was put out on networks of BACnet/IP, numbered from 0 on. buses: in the order of the site. keys: who
+-- issued, and under which invoke ID, of each issue in order. moment: in milliseconds
 pub record WorldState (A : Type 0) : Type 0 where
   pub site : Parts A
   pub moment : ℕ

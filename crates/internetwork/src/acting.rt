@@ -45,8 +45,8 @@ fn is_quiet<A: Allocator + Copy>(plan: &WorldPlan<A>) -> bool
     plan.out.is_empty() && plan.entity.said().is_empty()
 }
 
-/// A station that puts nothing out and says nothing does what it planned at the moment `now`, in milliseconds: the history
-/// grows by what is told, and nothing else does.
+/// A station that puts nothing out and says nothing does what it planned at the moment `now`, in milliseconds: the
+/// history grows by what is told, and nothing else does.
 ///
 /// # Errors
 /// `Memory` alone. All is then as it was.
@@ -76,8 +76,8 @@ fn act_quietly<A: Allocator + Copy>(
 }
 
 /// A station does what it planned at the moment `now`, in milliseconds, and all grows by what comes of it: items, what
-/// goes out on buses, what was said, and the history, where an issue or a restart stands before what is told. What takes
-/// memory comes first.
+/// goes out on buses, what was said, and the history, where an issue or a restart stands before what is told. What
+/// takes memory comes first.
 ///
 /// # Errors
 /// `Memory` alone. All is then as it was.

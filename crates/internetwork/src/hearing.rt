@@ -1,13 +1,15 @@
 //! Octets that are heard on a bus.
 
-ghost use Rattle.std.specs.Prelude.{◌≡◌, ◌⊎◌, ◌↔◌, ◌<◌, Some, None, IfErr, IfOk, IfSome, IfNone, IsTrue, OnErr, OnOk, length, map, slice_get};
+ghost use Rattle.std.specs.Prelude.{◌≡◌, ◌⊎◌, ◌↔◌, ◌<◌, Some, None, IfErr, IfOk, IfSome, IfNone, IsTrue, OnErr, OnOk};
+ghost use Rattle.std.specs.Prelude.{length, map, slice_get};
 ghost use Rattle.bus_traffic.specs.declared.hearing.Ending.TheVariants as ending;
 ghost use Rattle.buses.specs.Finding.{HasEarAt};
 ghost use Rattle.buses.specs.Hearing.{HearsAt};
 ghost use Rattle.plans.specs.hosts.Hosts.{IsHost};
 ghost use Rattle.internetwork.specs.Hearing.{HasNoListener, Hears, HostIsTold, HostRefuses};
 ghost use Rattle.internetwork.specs.Hearing.{IsOne, RefusesHeard, Settles, Then};
-ghost use Rattle.internetwork.specs.Hearing.{HostTakes, IsThere, IsTold, Keeps, Listens, NoneListens, RefusesAs, RefusesOne};
+ghost use Rattle.internetwork.specs.Hearing.{HostTakes, IsThere, IsTold, Keeps, Listens, NoneListens, RefusesAs};
+ghost use Rattle.internetwork.specs.Hearing.{RefusesOne};
 ghost use Rattle.internetwork.specs.Hearing.{RelayIsTold, RelayRefuses, RelayTakes, Takes, TakesAll, TakesEach};
 ghost use Rattle.internetwork.specs.Refusals.{IsRefused};
 ghost use Rattle.internetwork.specs.declared.event.Event.TheVariants as event;

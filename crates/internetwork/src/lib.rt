@@ -1,9 +1,9 @@
-//! The stations of a site, what is on its way between them, and what each event does (ANSI/ASHRAE 135, clauses 5.4, 6, 9,
-//! 12, 16.10 and J).
+//! The stations of a site, what is on its way between them, and what each event does (ANSI/ASHRAE 135, clauses 5.4, 6,
+//! 9, 12, 16.10 and J).
 //!
-//! To the layer above it promises: an event is the step of the station that it is for, as that station's contract says it,
-//! and nothing else changes; each refusal has its cause, and then nothing has changed. It says so of every state, however
-//! that came about; what is true of whatever came about by events alone is the layer above's to say.
+//! To the layer above it promises: an event is the step of the station that it is for, as that station's contract says
+//! it, and nothing else changes; each refusal has its cause, and then nothing has changed. It says so of every state,
+//! however that came about; what is true of whatever came about by events alone is the layer above's to say.
 //!
 //! - `event`: what can happen.
 //! - `internetwork`: the stations of a site, what is on its way between them, and what happened.

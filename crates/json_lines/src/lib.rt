@@ -3,8 +3,8 @@
 //!
 //! To the layer above it promises that it returns, and that where no line is given nothing is written. Which object a
 //! line becomes is shown by rows, and isn't proved; that an object has its commas, colons and escapes where they belong
-//! is the promise of the library `json` that writes it. A line of a kind that isn't known here becomes `{"line":..}`, so
-//! nothing is lost.
+//! is the promise of the library `json` that writes it. A line of a kind that isn't known here becomes `{"line":..}`,
+//! so nothing is lost.
 //!
 //! - `writing`: line by line. `streaming`: as lines are printed.
 //! - `line`: the words of a line. `stop`: why a line has no object of its own.

@@ -1,10 +1,10 @@
 //! The network side of a station: what goes down to a network and comes up from it, whatever that network is made of
 //! (ANSI/ASHRAE 135, clauses 6.1, 9 and Annex J).
 //!
-//! To the layers above it promises that each call of a `Link` is a step of the relation that the link gives, and of each
-//! such relation the carry law: what is put out carries a parcel that was handed down or waited, with its stamp, or
-//! none; what is handed up is what the octets carry that were heard, and for this station. It knows neither datagrams
-//! nor frames.
+//! To the layers above it promises that each call of a `Link` is a step of the relation that the link gives, and of
+//! each such relation the carry law: what is put out carries a parcel that was handed down or waited, with its stamp,
+//! or none; what is handed up is what the octets carry that were heard, and for this station. It knows neither
+//! datagrams nor frames.
 //!
 //! - `link`: the trait.
 //! - `step`: what comes of a call, and what is put out.

@@ -1,5 +1,6 @@
 -- Laws: a port on a bus of MS/TP keeps the law of a link.
-use Rattle.std.proofs.Common.{◌≡◌, ◌≢◌, ⊎_elim, ◌∙◌, sym, ap, subst, refl, arith, ℕ, ◌≤◌, ◌==◌, ◌&&◌, Bool, true, false, if◌then◌else◌, cond, List, [], ◌∷◌, ◌++◌, length, Some, None}
+use Rattle.std.proofs.Common.{◌≡◌, ◌≢◌, ⊎_elim, ◌∙◌, sym, ap, subst, refl, arith, ℕ, ◌≤◌, ◌==◌, ◌&&◌, Bool, true, false}
+use Rattle.std.proofs.Common.{if◌then◌else◌, cond, List, [], ◌∷◌, ◌++◌, length, Some, None}
 use Rattle.std.proofs.lemmas.Bool.{eqb-true, ne_eqb}
 use Rattle.std.specs.Prelude.{Option}
 use Rattle.carry.proofs.Frames.{stamp_is_borne}
@@ -23,8 +24,10 @@ use Rattle.mstp_frame.specs.declared.frame_type.FrameType.{FrameType}
 use Rattle.mstp_frame.specs.declared.frame_type.FrameType.TheVariants as type
 use Rattle.mstp_table.proofs.Hearing.{hands_up_data, idles_until_due, queued_waits}
 use Rattle.mstp_table.proofs.Rounds.{each_is_round, keeps_place, queue_came}
-use Rattle.mstp_table.specs.Laws.{BringsData, IsControl, IsOfWaiting, IsRound, PassesOrPolls, Queues, is_data, may_say_data, moment_of as moment_at}
-use Rattle.mstp_table.specs.Node.{ALL_NODES, IsForBus, NamedFrame, NodeState, Outcome, PutOut, all_sent, parcel_of, parcels_in, plain, sent, whom}
+use Rattle.mstp_table.specs.Laws.{BringsData, IsControl, IsOfWaiting, IsRound, PassesOrPolls, Queues, is_data}
+use Rattle.mstp_table.specs.Laws.{may_say_data, moment_of as moment_at}
+use Rattle.mstp_table.specs.Node.{ALL_NODES, IsForBus, NamedFrame, NodeState, Outcome, PutOut, all_sent, parcel_of}
+use Rattle.mstp_table.specs.Node.{parcels_in, plain, sent, whom}
 use Rattle.mstp_table.specs.Table as table
 use Rattle.mstp_table.specs.Table.{Input, Queued, Octets, Frame, Tick, data_of, quiet}
 use Rattle.mstp_table.specs.declared.state.Whom.TheVariants.{ToUs, ToAll, ToOthers}
@@ -37,7 +40,8 @@ use Rattle.npdu.specs.declared.parcel.Parcel.{Parcel}
 use Rattle.link_bus.specs.FrameLaws.{canonical_once}
 use Rattle.link_bus.specs.Laws.{DataCarry}
 use Rattle.link_bus.specs.Port.{BusPortState, at_moment, moment_of, restarted, station_of, waiting_in, with_node}
-use Rattle.link_bus.specs.Steps.{Counts, Does, Downs, Hears, HearsFrame, HearsNone, Idles, IsOnBus, Wakes, handed_up, is_due, is_taken, queued_if}
+use Rattle.link_bus.specs.Steps.{Counts, Does, Downs, Hears, HearsFrame, HearsNone, Idles, IsOnBus, Wakes, handed_up}
+use Rattle.link_bus.specs.Steps.{is_due, is_taken, queued_if}
 
 false_true : false ≡ true → ⊥
 false_true e = cc

@@ -11,4 +11,5 @@ use Rattle.mstp_table.specs.declared.waiting.Waiting.{Waiting}
 -- the octets of such data carry the parcel that waited, where the fields of their frame are octets
 abbrev pub DataCarry : Type 0 → Type 0
 DataCarry A = (ts : ℕ) (kind : FrameType) (w : Waiting A) → is_data kind ≡ true →
-    IsSound (plain (data_of kind ts w).frame) → IsFrameOf (sent {A = A} (data_of kind ts w)).octets w.stamp (parcel_of ts w)
+    IsSound (plain (data_of kind ts w).frame) →
+    IsFrameOf (sent {A = A} (data_of kind ts w)).octets w.stamp (parcel_of ts w)

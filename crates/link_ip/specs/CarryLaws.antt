@@ -1,5 +1,6 @@
 -- Laws: a port of BACnet/IP keeps the law of a link.
-use Rattle.std.proofs.Common.{◌≡◌, ⊎_elim, ◌≤◌, ◌∙◌, sym, ap, subst, refl, ℕ, Bool, true, false, List, [], ◌∷◌, length, Option, Some, None}
+use Rattle.std.proofs.Common.{◌≡◌, ⊎_elim, ◌≤◌, ◌∙◌, sym, ap, subst, refl, ℕ, Bool, true, false, List, [], ◌∷◌, length}
+use Rattle.std.proofs.Common.{Option, Some, None}
 use Rattle.bvll.proofs.Unique.{one_datagram}
 use Rattle.bvll.specs.Datagram.{Datagram, forwarded, register}
 use Rattle.bvll.specs.Datagram.{distribute, unicast, broadcast}

@@ -27,7 +27,7 @@ pub fn copy_of<L: Link<A> + Drop, A: Allocator + Copy>(
 ) -> Result<Vec<L, A>, AllocError>
     ensures { IfOk result (λ copies. copies.items ≡ ports.now) }
 {
-    let mut copies = Vec::new(alloc);
+    let mut copies = Vec::with_capacity(alloc, ports.len())?;
     for port in ports {
         copies.push(port.copy()?)?;
     }

@@ -4,7 +4,8 @@ use Rattle.byteorder.specs.Endian.{big_bytes, little_bytes}
 use Rattle.tags.specs.Number.{AreOctets}
 use Rattle.mstp_frame.specs.declared.frame.Frame.{Frame}
 use Rattle.mstp_frame.specs.FrameType.{type_number}
-use Rattle.mstp_frame.specs.Remainder.{sum, divided, bits_of, number_of, dividend, remainder, header_remainder, data_remainder}
+use Rattle.mstp_frame.specs.Remainder.{sum, divided, bits_of, number_of, dividend, remainder, header_remainder}
+use Rattle.mstp_frame.specs.Remainder.{data_remainder}
 
 -- a frame without where its data lie
 pub record PlainFrame : Type 0 where

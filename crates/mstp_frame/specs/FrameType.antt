@@ -1,7 +1,11 @@
 -- The types of frames (9.3.1 to 9.3.8).
 use Rattle.std.specs.Prelude.{ℕ, ◌≤◌}
 use Rattle.mstp_frame.specs.declared.frame_type.FrameType.{FrameType}
-use Rattle.mstp_frame.specs.declared.frame_type.FrameType.TheVariants.{Token, PollForMaster, ReplyToPollForMaster, TestRequest, TestResponse, BacnetDataExpectingReply, BacnetDataNotExpectingReply, ReplyPostponed, Other}
+use Rattle.mstp_frame.specs.declared.frame_type.FrameType.TheVariants.{Token, PollForMaster, ReplyToPollForMaster}
+use Rattle.mstp_frame.specs.declared.frame_type.FrameType.TheVariants.{TestRequest, TestResponse}
+use Rattle.mstp_frame.specs.declared.frame_type.FrameType.TheVariants.{BacnetDataExpectingReply}
+use Rattle.mstp_frame.specs.declared.frame_type.FrameType.TheVariants.{BacnetDataNotExpectingReply, ReplyPostponed}
+use Rattle.mstp_frame.specs.declared.frame_type.FrameType.TheVariants.{Other}
 
 -- the octet of a type (9.3)
 abbrev pub type_number : FrameType → ℕ

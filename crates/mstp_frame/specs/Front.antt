@@ -1,5 +1,6 @@
 -- What octets from 55 FF on are, and what a deframer's buffer holds.
-use Rattle.std.specs.Prelude.{◌≡◌, ℕ, ◌-◌, ◌<◌, ◌≤◌, Bool, true, false, Option, Some, None, if◌then◌else◌, List, [], ◌∷◌, ◌++◌, length, take, drop, slice_index, ◌⊎◌}
+use Rattle.std.specs.Prelude.{◌≡◌, ℕ, ◌-◌, ◌<◌, ◌≤◌, Bool, true, false, Option, Some, None, if◌then◌else◌, List, []}
+use Rattle.std.specs.Prelude.{◌∷◌, ◌++◌, length, take, drop, slice_index, ◌⊎◌}
 use Rattle.mstp_frame.specs.declared.front.Front.{Front}
 use Rattle.mstp_frame.specs.declared.front.Front.TheVariants.{Unfinished, Lost, Whole}
 use Rattle.mstp_frame.specs.declared.buffer.Buffer.{Buffer}

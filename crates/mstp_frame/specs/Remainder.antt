@@ -1,5 +1,6 @@
 -- The remainders that check a frame's header and data (Annex G), by long division of polynomials over two.
-use Rattle.std.specs.Prelude.{◌≡◌, ℕ, zero, suc, ◌+◌, ◌*◌, ◌/◌, ◌%◌, ◌==◌, Bool, true, false, not, List, [], ◌∷◌, ◌++◌, length, flat_map, replicate, if◌then◌else◌, refl}
+use Rattle.std.specs.Prelude.{◌≡◌, ℕ, zero, suc, ◌+◌, ◌*◌, ◌/◌, ◌%◌, ◌==◌, Bool, true, false, not, List, [], ◌∷◌, ◌++◌}
+use Rattle.std.specs.Prelude.{length, flat_map, replicate, if◌then◌else◌, refl}
 use Rattle.tags.specs.Number.{bit}
 
 -- the sum of two polynomials over two, each the list of its coefficients from one highest power on

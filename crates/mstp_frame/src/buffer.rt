@@ -1,6 +1,7 @@
 //! The octets that a deframer keeps, and the frame that it lends.
 
-ghost use Rattle.std.specs.Prelude.{◌≡◌, ◌<◌, ◌≤◌, ◌+◌, ◌++◌, ◌∷◌, [], None, Some, true, false, ℕ, List, length, drop, slice_index, option_map};
+ghost use Rattle.std.specs.Prelude.{◌≡◌, ◌<◌, ◌≤◌, ◌+◌, ◌++◌, ◌∷◌, [], None, Some, true, false, ℕ, List, length, drop};
+ghost use Rattle.std.specs.Prelude.{slice_index, option_map};
 ghost use Rattle.mstp_frame.specs.Frame.{frame_of};
 ghost use Rattle.mstp_frame.specs.Feeding.{HasNamedType, LeadsTo};
 ghost use Rattle.mstp_frame.specs.Front.{frame_in, kept_in, octets_in, whole_in, IsJudged, IsReady, Takes};

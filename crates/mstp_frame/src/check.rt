@@ -1,7 +1,8 @@
 //! The checks of a frame's header and data (Annex G), octet by octet through tables.
 
 ghost use Rattle.std.specs.Prelude.{◌≡◌, ◌-◌};
-ghost use Rattle.mstp_frame.specs.Remainder.{data_divisor, data_remainder, header_divisor, header_remainder, octet_remainder, octet_remainders};
+ghost use Rattle.mstp_frame.specs.Remainder.{data_divisor, data_remainder, header_divisor, header_remainder};
+ghost use Rattle.mstp_frame.specs.Remainder.{octet_remainder, octet_remainders};
 
 /// The remainder of each octet, divided by x^8 + x^7 + 1.
 #[rattlefmt::skip]

@@ -1,7 +1,8 @@
 //! What holds of every frame and of every stream, beside what the calls promise. A function without a body is a
 //! law: its contract.
 
-ghost use Rattle.mstp_frame.specs.Laws.{CanonicalSpells, CutsAreOne, EachIsHeard, FrameIsHeard, GivenIsHeard, HeardOnce, SpelledOnce, SpellOne};
+ghost use Rattle.mstp_frame.specs.Laws.{CanonicalSpells, CutsAreOne, EachIsHeard, FrameIsHeard, GivenIsHeard};
+ghost use Rattle.mstp_frame.specs.Laws.{HeardOnce, SpelledOnce, SpellOne};
 
 /// What is written is read again to the same fields: its octets spell the frame, and no other. No other octets
 /// spell it.

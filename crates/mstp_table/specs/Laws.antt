@@ -3,7 +3,9 @@ use Rattle.std.specs.Prelude.{◌≡◌, ◌≢◌, ◌⊎◌, ℕ, ◌==◌, �
 use Rattle.history.specs.Lists.{Has}
 use Rattle.mstp_frame.specs.FrameType.{IsNamed}
 use Rattle.mstp_frame.specs.declared.frame_type.FrameType.{FrameType}
-use Rattle.mstp_frame.specs.declared.frame_type.FrameType.TheVariants.{Token, PollForMaster as Poll, BacnetDataExpectingReply, BacnetDataNotExpectingReply}
+use Rattle.mstp_frame.specs.declared.frame_type.FrameType.TheVariants.{Token, PollForMaster as Poll}
+use Rattle.mstp_frame.specs.declared.frame_type.FrameType.TheVariants.{BacnetDataExpectingReply}
+use Rattle.mstp_frame.specs.declared.frame_type.FrameType.TheVariants.{BacnetDataNotExpectingReply}
 use Rattle.npdu.specs.declared.parcel.Parcel.{Parcel}
 use Rattle.profile.specs.Ages.{is_heard_in_time}
 use Rattle.mstp_table.specs.Node.{IsForBus, NamedFrame, NodeState, PutOut, after, parcels_in, waiting_of, whom}

@@ -1,5 +1,6 @@
 -- What a master node of MS/TP knows, and what it hears and puts out (9.3, 9.5).
-use Rattle.std.specs.Prelude.{◌≡◌, ◌≤◌, ℕ, ◌+◌, ◌-◌, ◌/◌, ◌%◌, ◌==◌, ◌&&◌, not, Bool, true, if◌then◌else◌, List, [], ◌∷◌, filter, length, map, slice_index, Option, Some, None}
+use Rattle.std.specs.Prelude.{◌≡◌, ◌≤◌, ℕ, ◌+◌, ◌-◌, ◌/◌, ◌%◌, ◌==◌, ◌&&◌, not, Bool, true, if◌then◌else◌, List, []}
+use Rattle.std.specs.Prelude.{◌∷◌, filter, length, map, slice_index, Option, Some, None}
 use Rattle.link.specs.Limits.{is_target}
 use Rattle.link.specs.declared.step.Sent.{Sent}
 use Rattle.mstp_frame.specs.Frame.{PlainFrame, canonical}

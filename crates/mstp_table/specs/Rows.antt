@@ -3,9 +3,12 @@ use Rattle.std.specs.Prelude.{◌≡◌, refl, ℕ, zero, suc, true, false, List
 use Rattle.mstp_frame.specs.Frame.{canonical}
 use Rattle.mstp_frame.specs.Remainder.{sum, divided, bits_of, number_of, dividend, remainder, header_remainder}
 use Rattle.mstp_frame.specs.declared.frame_type.FrameType.{FrameType}
-use Rattle.mstp_frame.specs.declared.frame_type.FrameType.TheVariants.{Token, PollForMaster as Poll, ReplyToPollForMaster}
+use Rattle.mstp_frame.specs.declared.frame_type.FrameType.TheVariants.{Token, PollForMaster as Poll}
+use Rattle.mstp_frame.specs.declared.frame_type.FrameType.TheVariants.{ReplyToPollForMaster}
 use Rattle.mstp_table.specs.Node.{NamedFrame, NodeState, Outcome, PutOut, plain}
-use Rattle.mstp_table.specs.Table.{Octets, Frame, Tick, after_frame, after_octets, after_queued, after_tick, answer_ticks, answers, done, hears_in, idle_hears, made, pass_ticks, poll_hears, poll_ticks, step, ticks_in, use_token, used, wait_hears}
+use Rattle.mstp_table.specs.Table.{Octets, Frame, Tick, after_frame, after_octets, after_queued, after_tick}
+use Rattle.mstp_table.specs.Table.{answer_ticks, answers, done, hears_in, idle_hears, made, pass_ticks, poll_hears}
+use Rattle.mstp_table.specs.Table.{poll_ticks, step, ticks_in, use_token, used, wait_hears}
 
 -- a frame of no data from MAC 1, and when it was put out
 put_at : (moment : ℕ) → FrameType → (destination : ℕ) → PutOut
@@ -33,26 +36,31 @@ fresh = record { node = made 1 0; out = [] }
 
 -- nothing is put out through 509
 row_quiet : (ticks 510 0 fresh).out ≡ []
-unfolding after_frame after_octets after_queued after_tick answer_ticks answers done hears_in idle_hears pass_ticks poll_hears poll_ticks step ticks_in use_token used wait_hears put_at then ticks fresh
+unfolding after_frame after_octets after_queued after_tick answer_ticks answers done hears_in idle_hears pass_ticks
+    poll_hears poll_ticks step ticks_in use_token used wait_hears put_at then ticks fresh
 row_quiet = refl
 
 -- at 510 MAC 2 is polled, and the next each 20 ms
 row_polls : (ticks 571 0 fresh).out ≡ put_at 510 Poll 2 ∷ put_at 530 Poll 3 ∷ put_at 550 Poll 4 ∷ put_at 570 Poll 5 ∷ []
-unfolding after_frame after_octets after_queued after_tick answer_ticks answers done hears_in idle_hears pass_ticks poll_hears poll_ticks step ticks_in use_token used wait_hears put_at then ticks fresh
+unfolding after_frame after_octets after_queued after_tick answer_ticks answers done hears_in idle_hears pass_ticks
+    poll_hears poll_ticks step ticks_in use_token used wait_hears put_at then ticks fresh
 row_polls = refl
 
 -- the 127th poll is the last before it is the sole master, at 3030, of MAC 0
 row_last_poll : drop 126 (ticks 3060 0 fresh).out ≡ put_at 3030 Poll 0 ∷ []
-unfolding after_frame after_octets after_queued after_tick answer_ticks answers done hears_in idle_hears pass_ticks poll_hears poll_ticks step ticks_in use_token used wait_hears put_at then ticks fresh
+unfolding after_frame after_octets after_queued after_tick answer_ticks answers done hears_in idle_hears pass_ticks
+    poll_hears poll_ticks step ticks_in use_token used wait_hears put_at then ticks fresh
 row_last_poll = refl
 
 -- it is the sole master from 3050 on
 row_not_sole : (ticks 3050 0 fresh).node.sole ≡ false
-unfolding after_frame after_octets after_queued after_tick answer_ticks answers done hears_in idle_hears pass_ticks poll_hears poll_ticks step ticks_in use_token used wait_hears put_at then ticks fresh
+unfolding after_frame after_octets after_queued after_tick answer_ticks answers done hears_in idle_hears pass_ticks
+    poll_hears poll_ticks step ticks_in use_token used wait_hears put_at then ticks fresh
 row_not_sole = refl
 
 row_sole : (ticks 3051 0 fresh).node.sole ≡ true
-unfolding after_frame after_octets after_queued after_tick answer_ticks answers done hears_in idle_hears pass_ticks poll_hears poll_ticks step ticks_in use_token used wait_hears put_at then ticks fresh
+unfolding after_frame after_octets after_queued after_tick answer_ticks answers done hears_in idle_hears pass_ticks
+    poll_hears poll_ticks step ticks_in use_token used wait_hears put_at then ticks fresh
 row_sole = refl
 
 -- MAC 2 replies at 515, in eight octets: it is given the token at once
@@ -64,7 +72,8 @@ replied =
     then told (step told.node (Frame reply 515))
 
 row_token : replied.out ≡ put_at 510 Poll 2 ∷ put_at 515 Token 2 ∷ []
-unfolding after_frame after_octets after_queued after_tick answer_ticks answers done hears_in idle_hears pass_ticks poll_hears poll_ticks step ticks_in use_token used wait_hears put_at then ticks fresh replied
+unfolding after_frame after_octets after_queued after_tick answer_ticks answers done hears_in idle_hears pass_ticks
+    poll_hears poll_ticks step ticks_in use_token used wait_hears put_at then ticks fresh replied
 row_token = refl
 
 -- the octets of the poll, of the reply and of the Token

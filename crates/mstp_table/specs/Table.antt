@@ -2,15 +2,21 @@
 -- state's lines the first that fits holds; where none does, the state stays, nothing is put out, and a frame is
 -- dropped. Done_With_Token and Use_Token stand first: other lines pass them through. Clause 9.5.6 is the pattern; the
 -- lines are this product's.
-use Rattle.std.specs.Prelude.{ℕ, ◌+◌, ◌-◌, ◌*◌, ◌==◌, ◌&&◌, nat_le, nat_lt, not, min, Bool, true, false, if◌then◌else◌, List, [], ◌∷◌, ◌++◌, Option, Some, None}
+use Rattle.std.specs.Prelude.{ℕ, ◌+◌, ◌-◌, ◌*◌, ◌==◌, ◌&&◌, nat_le, nat_lt, not, min, Bool, true, false, if◌then◌else◌}
+use Rattle.std.specs.Prelude.{List, [], ◌∷◌, ◌++◌, Option, Some, None}
 use Rattle.mstp_frame.specs.declared.frame_type.FrameType.{FrameType}
-use Rattle.mstp_frame.specs.declared.frame_type.FrameType.TheVariants.{Token, PollForMaster as Poll, ReplyToPollForMaster, TestRequest, TestResponse, BacnetDataExpectingReply, BacnetDataNotExpectingReply, ReplyPostponed}
+use Rattle.mstp_frame.specs.declared.frame_type.FrameType.TheVariants.{Token, PollForMaster as Poll}
+use Rattle.mstp_frame.specs.declared.frame_type.FrameType.TheVariants.{ReplyToPollForMaster, TestRequest, TestResponse}
+use Rattle.mstp_frame.specs.declared.frame_type.FrameType.TheVariants.{BacnetDataExpectingReply}
+use Rattle.mstp_frame.specs.declared.frame_type.FrameType.TheVariants.{BacnetDataNotExpectingReply, ReplyPostponed}
 use Rattle.npdu.specs.declared.parcel.Parcel.{Parcel}
 use Rattle.profile.specs.Limits.{N_MIN_OCTETS, N_POLL, N_RETRY_TOKEN}
 use Rattle.profile.specs.Times.{T_NO_TOKEN_MS, T_REPLY_DELAY_MS, T_REPLY_TIMEOUT_MS, T_SLOT_MS, T_USAGE_TIMEOUT_MS}
-use Rattle.mstp_table.specs.Node.{NamedFrame, NodeState, Outcome, Picked, PutOut, after, expects_reply, first_to, is_broadcast, silence, waiting_of, whom, young}
+use Rattle.mstp_table.specs.Node.{NamedFrame, NodeState, Outcome, Picked, PutOut, after, expects_reply, first_to}
+use Rattle.mstp_table.specs.Node.{is_broadcast, silence, waiting_of, whom, young}
 use Rattle.mstp_table.specs.declared.state.State.{State}
-use Rattle.mstp_table.specs.declared.state.State.TheVariants.{Idle, WaitForReply, DoneWithToken, PassToken, NoToken, PollForMaster, AnswerDataRequest}
+use Rattle.mstp_table.specs.declared.state.State.TheVariants.{Idle, WaitForReply, DoneWithToken, PassToken, NoToken}
+use Rattle.mstp_table.specs.declared.state.State.TheVariants.{PollForMaster, AnswerDataRequest}
 use Rattle.mstp_table.specs.declared.state.Whom.{Whom}
 use Rattle.mstp_table.specs.declared.state.Whom.TheVariants.{ToUs, ToAll}
 use Rattle.mstp_table.specs.declared.waiting.Waiting.{Waiting}

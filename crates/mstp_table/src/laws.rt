@@ -1,6 +1,7 @@
 //! What holds of every step of a master node, whatever its state. A function without a body is a law: its contract.
 
-ghost use Rattle.mstp_table.specs.Laws.{AnswersTheAsker, EachIsRound, HandsUpData, IdlesUntilDue, KeepsPlace, OthersAreQuiet, QueueCame, QueueIsKept, QueuedWaits};
+ghost use Rattle.mstp_table.specs.Laws.{AnswersTheAsker, EachIsRound, HandsUpData, IdlesUntilDue, KeepsPlace};
+ghost use Rattle.mstp_table.specs.Laws.{OthersAreQuiet, QueueCame, QueueIsKept, QueuedWaits};
 
 use std::alloc::Allocator;
 

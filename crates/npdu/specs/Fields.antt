@@ -1,5 +1,6 @@
 -- What the private readers say of each field of a header. The public calls cite Header and Refusals.
-use Rattle.std.specs.Prelude.{◌≡◌, ℕ, ◌/◌, ◌%◌, ◌<◌, ◌==◌, ◌++◌, Bool, List, [], ◌∷◌, length, Option, Some, None, is_some, option_map, IfSome}
+use Rattle.std.specs.Prelude.{◌≡◌, ℕ, ◌/◌, ◌%◌, ◌<◌, ◌==◌, ◌++◌, Bool, List, [], ◌∷◌, length, Option, Some, None}
+use Rattle.std.specs.Prelude.{is_some, option_map, IfSome}
 use Rattle.byteorder.specs.Endian.{big_bytes}
 use Rattle.npdu.specs.Dnet.{dnet_number, IsDnet}
 use Rattle.npdu.specs.Header.{Header, PlainDestination, PlainSource, IsSource, snet_octets, hop_octets, message_octets}

@@ -1,6 +1,7 @@
 -- The header of every message of the network layer (6.2): what it says, which headers there are, and the octets that
 -- spell them.
-use Rattle.std.specs.Prelude.{◌≡◌, ℕ, ◌+◌, ◌*◌, ◌/◌, ◌%◌, ◌<◌, ◌==◌, Bool, List, [], ◌∷◌, ◌++◌, length, Option, Some, None, is_some, option_map, IfSome}
+use Rattle.std.specs.Prelude.{◌≡◌, ℕ, ◌+◌, ◌*◌, ◌/◌, ◌%◌, ◌<◌, ◌==◌, Bool, List, [], ◌∷◌, ◌++◌, length, Option, Some}
+use Rattle.std.specs.Prelude.{None, is_some, option_map, IfSome}
 use Rattle.byteorder.specs.Endian.{big_bytes}
 use Rattle.tags.specs.Number.{bit}
 use Rattle.npdu.specs.Dnet.{dnet_number, IsDnet}

@@ -2,7 +2,8 @@
 use Rattle.std.specs.Prelude.{◌≢◌, ℕ, ◌<◌, ◌≤◌, ◌^◌, List, [], ◌∷◌}
 use Rattle.byteorder.specs.Endian.{big_bytes}
 use Rattle.npdu.specs.declared.message.Message.{Message}
-use Rattle.npdu.specs.declared.message.Message.TheVariants.{WhoIsRouterToNetwork, IAmRouterToNetwork, RejectMessageToNetwork, Other, Proprietary}
+use Rattle.npdu.specs.declared.message.Message.TheVariants.{WhoIsRouterToNetwork, IAmRouterToNetwork}
+use Rattle.npdu.specs.declared.message.Message.TheVariants.{RejectMessageToNetwork, Other, Proprietary}
 use Rattle.npdu.specs.declared.message.NetworkRejectReason.{NetworkRejectReason}
 use Rattle.npdu.specs.declared.message.NetworkRejectReason.TheVariants.{NoRoute, UnknownMessageType, TooLong}
 

@@ -1,10 +1,13 @@
 //! The fields of a header behind its control octet, one after another.
 
-ghost use Rattle.std.specs.Prelude.{◌≡◌, ◌∷◌, ◌++◌, ◌<◌, [], length, option_map, IfOk, IfErr, IfSome, OnOk, OnErr, IsOkUnless};
+ghost use Rattle.std.specs.Prelude.{◌≡◌, ◌∷◌, ◌++◌, ◌<◌, [], length, option_map, IfOk, IfErr, IfSome, OnOk, OnErr};
+ghost use Rattle.std.specs.Prelude.{IsOkUnless};
 ghost use Rattle.byteorder.specs.Endian.{big_bytes};
 ghost use Rattle.npdu.specs.Message.{IsMessage, message_type, type_octets};
-ghost use Rattle.npdu.specs.Header.{IsDestination, IsSource, dnet_octets, destination_of, source_of, snet_octets, hop_octets, message_octets};
-ghost use Rattle.npdu.specs.Fields.{Takes, Only, Lacks, Begins, IsNet, IsMac, IsAddress, address_octets, place_of, place_octets, IsPlaceIf, IsSourceIf, IsDestinationAt, IsMessageIf};
+ghost use Rattle.npdu.specs.Header.{IsDestination, IsSource, dnet_octets, destination_of, source_of, snet_octets};
+ghost use Rattle.npdu.specs.Header.{hop_octets, message_octets};
+ghost use Rattle.npdu.specs.Fields.{Takes, Only, Lacks, Begins, IsNet, IsMac, IsAddress, address_octets, place_of};
+ghost use Rattle.npdu.specs.Fields.{place_octets, IsPlaceIf, IsSourceIf, IsDestinationAt, IsMessageIf};
 ghost use Rattle.tags.specs.Canonical.{Extends};
 ghost use Rattle.npdu.specs.Refusals.{RefusesPlace, RefusesSource};
 

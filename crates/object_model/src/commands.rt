@@ -1,6 +1,7 @@
 //! The commands that a value object holds (clause 19.2).
 
-ghost use Rattle.std.specs.Prelude.{◌≡◌, ◌≤◌, ◌<◌, ◌&&◌, nat_lt, if◌then◌else◌, List, Option, IfOk, length, option_copied};
+ghost use Rattle.std.specs.Prelude.{◌≡◌, ◌≤◌, ◌<◌, ◌&&◌, nat_lt, if◌then◌else◌, List, Option, IfOk, length};
+ghost use Rattle.std.specs.Prelude.{option_copied};
 ghost use Rattle.priority.specs.Slots.{no_slots, slot, first_filled, put_slot};
 ghost use Rattle.object_model.specs.Levels.{put_level};
 

@@ -1,9 +1,11 @@
 //! Reading a property (15.5): where it is, and what it holds.
 
-ghost use Rattle.std.specs.Prelude.{◌≡◌, ◌∷◌, ◌-◌, ◌^◌, ◌<◌, ◌≤◌, ◌+◌, ◌≢◌, [], None, Some, Ok, Err, true, IfOk, IfErr, OnOk, length, map, option_to_list, option_copied, slice_get, if◌then◌else◌};
+ghost use Rattle.std.specs.Prelude.{◌≡◌, ◌∷◌, ◌-◌, ◌^◌, ◌<◌, ◌≤◌, ◌+◌, ◌≢◌, [], None, Some, Ok, Err, true, IfOk, IfErr};
+ghost use Rattle.std.specs.Prelude.{OnOk, length, map, option_to_list, option_copied, slice_get, if◌then◌else◌};
 ghost use Rattle.tags.specs.declared.value.Value.TheVariants as value;
 ghost use Rattle.primitives.specs.Numbers.{type_number};
-ghost use Rattle.object_model.specs.Objects.{text, present_value, status_flags, states_of, units_of, slot_value, object_list, held, held_by_value, held_by_device};
+ghost use Rattle.object_model.specs.Objects.{text, present_value, status_flags, states_of, units_of, slot_value};
+ghost use Rattle.object_model.specs.Objects.{object_list, held, held_by_value, held_by_device};
 ghost use Rattle.primitives.specs.Properties.{is_array};
 ghost use Rattle.object_model.specs.Reading.{index_refusal, locate_property, at_index};
 
@@ -378,9 +380,9 @@ fn slot_value<A: Allocator + Copy>(
 fn one<A: Allocator + Copy>(alloc: A, value: Value<A>) -> Result<Values<A>, AllocError>
     ensures { IfOk result (λ values. values ≡ value ∷ []) }
 {
-    let mut values = Items::new(alloc);
+    let mut values = Vec::with_capacity(alloc, 1)?;
     values.push(value)?;
-    Ok(values)
+    Ok(Items::from_vec(values))
 }
 
 /// A list of a copy of one value.

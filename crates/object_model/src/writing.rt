@@ -4,7 +4,9 @@ ghost use Rattle.std.specs.Prelude.{◌≡◌, ◌∷◌, [], None, length};
 ghost use Rattle.std.specs.Str.{is_utf8};
 ghost use Rattle.tags.specs.Value.{IsSound};
 ghost use Rattle.primitives.specs.Sound.{AreSound};
-ghost use Rattle.object_model.specs.Writing.{access, in_range, text_refusal, value_refusal, values_refusal, command_refusal, write_refusal, level_of, commanded, put, put_value, put_device};
+ghost use Rattle.object_model.specs.Writing.{access, in_range, text_refusal, value_refusal, values_refusal};
+ghost use Rattle.object_model.specs.Writing.{command_refusal, write_refusal, level_of, commanded, put, put_value};
+ghost use Rattle.object_model.specs.Writing.{put_device};
 
 use crate::object::{Access, Datatype, DeviceObject, Object, ValueKind, ValueObject};
 use crate::reading::Refusal;

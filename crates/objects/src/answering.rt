@@ -23,7 +23,8 @@ impl<A: Allocator + Copy> Table<A> {
     ghost use Rattle.objects.specs.Machine.{reply, reading_reply};
     ghost use Rattle.primitives.specs.Numbers.{property_number};
     ghost use Rattle.object_model.specs.Objects.{properties_of};
-    ghost use Rattle.object_model.specs.Reading.{object_at, is_selected, entry, selected_entries, entries_in, results_of, locate, read};
+    ghost use Rattle.object_model.specs.Reading.{object_at, is_selected, entry, selected_entries, entries_in};
+    ghost use Rattle.object_model.specs.Reading.{results_of, locate, read};
     ghost use Rattle.primitives.specs.Answers.{IsAnswerTo};
     ghost use Rattle.primitives.specs.Sound.{AreSound, IsSoundRequest, IsSoundReply};
     ghost use Rattle.object_model.specs.Writing.{place_refusal, in_order, writes_to};

@@ -1,7 +1,12 @@
 //! What holds of tables and requests (clauses 15 and 19.2). A function without a body
 //! is a law: its contract, for the proofs of the layers above.
 
-ghost use Rattle.objects.specs.Laws.{LeavesSound, RepliesSound, AnswersRequest, WriteLeavesShape, ShapeRefuses, RepliesFirstFailure, WritesEndAtFailure, DoneIsWritten, ReadingChangesNothing, RequestLeavesShape, RequestLeavesIdentifiers, RequestLeavesNames, RequestLeavesTypes, RequestLeavesObjectList, WriteLeavesOtherObjects, WriteLeavesOtherReads, WriteLeavesOtherProperties, CommandLeavesOtherLevels, PresentIsInForce, CommandReadsBack, CommandShows, WriteReadsBack};
+ghost use Rattle.objects.specs.Laws.{LeavesSound, RepliesSound, AnswersRequest, WriteLeavesShape, ShapeRefuses};
+ghost use Rattle.objects.specs.Laws.{RepliesFirstFailure, WritesEndAtFailure, DoneIsWritten, ReadingChangesNothing};
+ghost use Rattle.objects.specs.Laws.{RequestLeavesShape, RequestLeavesIdentifiers, RequestLeavesNames};
+ghost use Rattle.objects.specs.Laws.{RequestLeavesTypes, RequestLeavesObjectList, WriteLeavesOtherObjects};
+ghost use Rattle.objects.specs.Laws.{WriteLeavesOtherReads, WriteLeavesOtherProperties, CommandLeavesOtherLevels};
+ghost use Rattle.objects.specs.Laws.{PresentIsInForce, CommandReadsBack, CommandShows, WriteReadsBack};
 
 use std::alloc::Allocator;
 

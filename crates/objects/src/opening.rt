@@ -5,7 +5,8 @@ ghost use Rattle.std.specs.List.{AllByRecursion};
 ghost use Rattle.tags.specs.declared.object_id.ObjectId.{ObjectId};
 ghost use Rattle.object_model.specs.declared.object.Object.TheVariants as object;
 ghost use Rattle.object_model.specs.Objects.{identifier, name_of};
-ghost use Rattle.object_model.specs.Site.{opening_value, opening_device, opening_table, IsText, IsSoundKind, IsSoundObjectOf, IsOther, AllApart, IsSite};
+ghost use Rattle.object_model.specs.Site.{opening_value, opening_device, opening_table, IsText, IsSoundKind};
+ghost use Rattle.object_model.specs.Site.{IsSoundObjectOf, IsOther, AllApart, IsSite};
 ghost use Rattle.profile.specs.Limits.{MAX_OBJECTS};
 
 use object_model::writing::{text_refusal, value_refusal};

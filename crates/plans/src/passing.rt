@@ -43,8 +43,8 @@ pub fn plan_passing<A: Allocator + Copy>(
     relay.plan_hears(port, item.from, item.octets.as_slice(), item.stamp, now)
 }
 
-/// What a relay plans where it hears a frame of a bus, from this address, once its port was told of the octets that end it
-/// (9.5.4).
+/// What a relay plans where it hears a frame of a bus, from this address, once its port was told of the octets that end
+/// it (9.5.4).
 ///
 /// # Errors
 /// `Memory`; what its port refuses of these octets; what it refuses of the message in them.
@@ -103,7 +103,8 @@ pub fn plan_relay_wakes<A: Allocator + Copy>(
 ) -> Result<WorldRelayPlan<A>, Fault>
     requires greatest { now ≤ MAX_MOMENT_MS }
     requires stands { RelayStands now relay.now }
-    ensures wakes { IfOk result (λ plan. RelayWakes site.is_due site.Wakes site.Downs now relay.now (passing.out_of plan)
+    ensures wakes { IfOk result (λ plan.
+        RelayWakes site.is_due site.Wakes site.Downs now relay.now (passing.out_of plan)
         (passing.left_by now plan relay.now)) }
     ensures may { IfOk result (λ plan. MayPass now plan relay.now) }
     ensures cause { IfErr result (λ fault. (fault ≡ Fault.Memory) ⊎

@@ -8,8 +8,10 @@ ghost use Rattle.plans.specs.Plans.{MayBeDone, WakeIsTooLong, places_of};
 ghost use Rattle.primitives.specs.Sound.{IsSoundRequest};
 ghost use Rattle.profile.specs.Times.{MAX_MOMENT_MS};
 ghost use Rattle.directory.specs.site_station.Entity.{IsClient};
-ghost use Rattle.directory.specs.site_station.Station.{AskingIsRefused, FrameIsRefused, HearingIsRefused, IssueIsRefused};
-ghost use Rattle.directory.specs.site_station.Station.{IsNotForeign, StationAsks, StationCounts, StationHears, StationHearsFrame};
+ghost use Rattle.directory.specs.site_station.Station.{AskingIsRefused, FrameIsRefused, HearingIsRefused};
+ghost use Rattle.directory.specs.site_station.Station.{IssueIsRefused};
+ghost use Rattle.directory.specs.site_station.Station.{IsNotForeign, StationAsks, StationCounts, StationHears};
+ghost use Rattle.directory.specs.site_station.Station.{StationHearsFrame};
 ghost use Rattle.directory.specs.site_station.Station.{StationIssues, StationRegisters, StationRestarts, StationWakes};
 ghost use Rattle.directory.specs.site_station.Station.{left_by, told_by};
 
@@ -120,8 +122,8 @@ pub fn plan_wakes<A: Allocator + Copy>(
 /// What a client plans where it issues a request, and the invoke ID that it gives.
 ///
 /// # Errors
-/// `Memory`; as `Client::issue` refuses, `NoSuch` for a device among them; `TooLong` where the request is too long for the
-/// port.
+/// `Memory`; as `Client::issue` refuses, `NoSuch` for a device among them; `TooLong` where the request is too long for
+/// the port.
 #[tactic(auto, using(crate::proofs::PlanLaws::issuing_rules))]
 pub fn plan_issues<A: Allocator + Copy>(
     station: &WorldStation<A>,

@@ -1,7 +1,8 @@
 //! What holds of any slots of a commandable property (19.2). A function without a body is a law:
 //! its contract, for the proofs of the layers above.
 
-ghost use Rattle.priority.specs.Laws.{PutIsHeld, PutLeavesOthers, PutKeepsLength, FirstIsInForce, NoFirstIsNoneFilled, PutIsInForce, NewAreEmpty, SameAtEachLevel};
+ghost use Rattle.priority.specs.Laws.{PutIsHeld, PutLeavesOthers, PutKeepsLength, FirstIsInForce, NoFirstIsNoneFilled};
+ghost use Rattle.priority.specs.Laws.{PutIsInForce, NewAreEmpty, SameAtEachLevel};
 
 /// Sixteen empty slots are sixteen, and each is empty.
 pub fn new_are_empty<T>()

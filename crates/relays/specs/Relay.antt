@@ -10,6 +10,11 @@ use Rattle.relays.specs.declared.plan.RelayPlan.TheVariants as plan
 use Rattle.relays.specs.declared.relay.Relay.{Relay}
 use Rattle.relays.specs.declared.relay.Relay.TheVariants.{Router, Manager}
 
+-- the ports of a relay, in order: a manager has none, since nothing of it waits (6.6, J.4)
+abbrev pub relay_ports : {A L : Type 0} → Relay L A → List L
+relay_ports (Router s) = s.ports
+relay_ports (Manager s) = []
+
 -- where it is: where each port of a router is, in order, and a manager at its one address (6.1, J.1.2)
 abbrev pub places_of : {A L : Type 0} → (station : L → Station) → Relay L A → List Station
 places_of station (Router s) = map station s.ports

@@ -48,7 +48,7 @@ module _ {A L : Type 0} where
   RelayWakes is_due wakes downs now (Manager s) out (Manager new) = ManagerWakes now s out new
   RelayWakes is_due wakes downs now r out new = ⊥
 
-  -- nothing is due of it where it wakes; of a manager nothing ever is
+  -- nothing is due of it where it wakes (6.6.2); of a manager nothing ever is
   abbrev pub IsQuiet : (is_due : ℕ → L → Bool) → ℕ → Relay L A → Type 0
   IsQuiet is_due now (Router s) = router.IsQuiet is_due now s
   IsQuiet is_due now (Manager s) = Unit {0}

@@ -2,7 +2,7 @@
 
 ghost use Rattle.std.specs.Prelude.{◌≡◌, ◌≤◌, ◌⊎◌, ◌↔◌, [], true, IfOk, IfErr, length, map, slice_get};
 ghost use Rattle.profile.specs.Times.{MAX_MOMENT_MS};
-ghost use Rattle.relays.specs.Relay.{IsBefore, left_by, out_of, places_of};
+ghost use Rattle.relays.specs.Relay.{IsBefore, left_by, out_of, places_of, relay_ports};
 ghost use Rattle.relays.specs.Refusals.{FrameIsRefused, HearingIsRefused, WakeIsRefused};
 ghost use Rattle.relays.specs.Steps.{IsQuiet, RelayCounts, RelayHears, RelayHearsFrame, RelayWakes};
 
@@ -198,13 +198,14 @@ impl<L: Link<A> + Drop, A: Allocator + Copy> Relay<L, A> {
         }
     }
 
-    /// Wakes at the moment `now`, in milliseconds, where nothing is due: nothing is put out, and a manager forgets the
-    /// registrations that have ended (J.5.2.3). It takes no memory.
+    /// Wakes at the moment `now`, in milliseconds, where nothing is due: nothing is put out, the ports of a router stay
+    /// as they are, and a manager forgets the registrations that have ended (J.5.2.3). It takes no memory.
     pub fn wake_quietly(&mut self, now: u64)
         requires greatest { now ≤ MAX_MOMENT_MS }
         requires before { IsBefore L.moment now self.old }
         requires quiet { IsQuiet L.is_due now self.old }
-        ensures { RelayWakes L.is_due L.wakes L.downs now self.old [] self.new }
+        ensures wakes { RelayWakes L.is_due L.wakes L.downs now self.old [] self.new }
+        ensures ports { relay_ports self.new ≡ relay_ports self.old }
     {
         match self {
             Relay::Router(station) => station.wake_quietly(now),

@@ -1,5 +1,6 @@
 -- What is remembered of requests that were executed, in order of execution (5.4.5).
-use Rattle.std.specs.Prelude.{◌≢◌, ◌≤◌, ℕ, not, Bool, true, false, if◌then◌else◌, List, [], ◌∷◌, length, map, Option, Some, None}
+use Rattle.std.specs.Prelude.{◌≢◌, ◌≤◌, ℕ, not, Bool, true, false, if◌then◌else◌, List, [], ◌∷◌, length, map, Option}
+use Rattle.std.specs.Prelude.{Some, None}
 use Rattle.std.specs.List.{AllByRecursion}
 use Rattle.std.specs.Ordering.{is_eq, nat_cmp, ordering_then}
 use Rattle.std.specs.declared.cmp.Ordering.{Ordering}

@@ -2,10 +2,7 @@
 use Rattle.std.proofs.Common.{◌≡◌, ◌∙◌, refl, sym, ap, subst, inl, inr, ℕ, cond, Bool, true, false, List, [], ◌∷◌}
 use Rattle.std.specs.Prelude.{◌&&◌}
 use Rattle.std.specs.BTreeMap.{insert_entry}
-use Rattle.std.specs.List.{AllByRecursion}
-use Rattle.std.specs.Ordering.{match_ordering, nat_cmp}
-use Rattle.std.specs.declared.cmp.Ordering.{Ordering}
-use Rattle.std.specs.declared.cmp.Ordering.TheVariants.{Less, Equal, Greater}
+use Rattle.std.specs.Ordering.{nat_cmp}
 use Rattle.byteorder.specs.Endian.{big_number}
 use Rattle.npdu.specs.declared.mac.Station.{Station}
 use Rattle.router.specs.Hearing.{handling_of, heard}
@@ -18,20 +15,7 @@ use Rattle.router.specs.declared.handling.Handling.{Handling}
 use Rattle.router.specs.declared.handling.Handling.TheVariants as does
 use Rattle.router.specs.declared.routes.Route.{Route}
 use Rattle.router.proofs.RouteLaws.{untaught}
-
--- each key of a list meets a condition, and the new one
-abbrev AllKeys : (ℕ → Type 0) → List (ℕ × Route) → Type 0
-AllKeys P es = AllByRecursion (λ (r : ℕ × Route). P r.0) es
-
-insert_keys : (P : ℕ → Type 0) (es : List (ℕ × Route)) (k : ℕ) (v : Route) → AllKeys P es → P k → AllKeys P (insert_entry nat_cmp es k v)
-insert_keys P [] k v all pk = (pk, tt)
-insert_keys P (e ∷ es) k v all pk = by_order (nat_cmp k e.0) (insert_keys P es k v (all.1) pk)
-  where
-    by_order : (o : Ordering) → AllKeys P (insert_entry nat_cmp es k v) →
-        AllKeys P (match_ordering o ((k, v) ∷ e ∷ es) ((e.0, v) ∷ es) (e ∷ insert_entry nat_cmp es k v))
-    by_order Less rest = (pk, all)
-    by_order Equal rest = (all.0, all.1)
-    by_order Greater rest = (all.0, rest)
+use Rattle.router.proofs.Sorted.{AllKeys, insert_keys}
 
 module _ (ports : List Station) (route : Route) where
   abbrev May : ℕ → Type 0

@@ -1,13 +1,17 @@
 -- Routes that are learned, and ports.
-use Rattle.std.proofs.Common.{◌≡◌, ◌<◌, ◌∙◌, refl, sym, ap, subst, arith, ℕ, zero, suc, true, false, List, [], ◌∷◌, length, Some}
-use Rattle.std.specs.Prelude.{◌||◌, Bool, cond, slice_get}
+use Rattle.std.proofs.Common.{◌≡◌, ◌<◌, ◌≤◌, ◌∙◌, refl, sym, ap, subst, arith, ℕ, zero, suc, true, false, List, [], ◌∷◌, length, Some}
+use Rattle.std.proofs.lemmas.Bool.{le-ltb}
+use Rattle.std.specs.Prelude.{◌&&◌, ◌||◌, Bool, cond, slice_get}
 use Rattle.std.specs.BTreeMap.{insert_entry}
 use Rattle.std.specs.Ordering.{nat_cmp}
 use Rattle.byteorder.specs.Endian.{big_number}
 use Rattle.npdu.specs.declared.mac.Station.{Station}
+use Rattle.profile.specs.Limits.{MAX_LEARNED_ROUTES}
 use Rattle.router.specs.Router.{AreNumbered, IsNumbered}
-use Rattle.router.specs.Routes.{IsFront, is_learnable, is_overfull, learned, learned_one, teaches}
+use Rattle.router.specs.Handling.{route_to}
+use Rattle.router.specs.Routes.{IsFront, IsNews, is_learnable, is_overfull, is_too_many, learned, learned_one, teaches}
 use Rattle.router.specs.declared.routes.Route.{Route}
+use Rattle.router.proofs.Sorted.{insert_keeps, inserted_route}
 
 -- one network of the rest
 pub learned_step : (ports : List Station) (route : Route) (rest behind : List ℕ) (net : ℕ) (old new all : List (ℕ × Route)) →
@@ -30,38 +34,6 @@ fewer rest behind net front = let e = ap (λ (o : List ℕ). length o) front.par
 
 pub ruleset learn_rules = (learned_step, learned_end, fewer)
 
--- whether a network of the rest may be learned
-teaches_is : (ports : List Station) (rest behind : List ℕ) (net : ℕ) → IsFront rest net behind →
-    teaches ports rest ≡ (is_learnable ports net || teaches ports behind)
-teaches_is ports rest behind net front =
-    ap (λ (o : List ℕ). teaches ports o) front.parts
-    ∙ ap (λ (n : ℕ). is_learnable ports n || teaches ports behind) (sym front.number)
-
-or_true : (a b : Bool) → a ≡ true → (a || b) ≡ true
-or_true true b e = refl
-or_true false b e = absurd (cc e)
-
-or_false : (a b : Bool) → a ≡ false → (a || b) ≡ b
-or_false true b e = absurd (cc e)
-or_false false b e = refl
-
-pub teaches_here : (ports : List Station) (rest behind : List ℕ) (net : ℕ) (all : Bool) → IsFront rest net behind →
-    is_learnable ports net ≡ true → teaches ports rest ≡ all → true ≡ all
-teaches_here ports rest behind net all front may e =
-    sym (teaches_is ports rest behind net front ∙ or_true _ (teaches ports behind) may) ∙ e
-
-pub teaches_behind : (ports : List Station) (rest behind : List ℕ) (net : ℕ) (all : Bool) → IsFront rest net behind →
-    is_learnable ports net ≡ false → teaches ports rest ≡ all → teaches ports behind ≡ all
-teaches_behind ports rest behind net all front may e =
-    sym (teaches_is ports rest behind net front ∙ or_false _ (teaches ports behind) may) ∙ e
-
-pub teaches_end : (ports : List Station) (rest : List ℕ) (all : Bool) → length rest < 2 → teaches ports rest ≡ all → false ≡ all
-teaches_end ports [] all short e = e
-teaches_end ports (a ∷ []) all short e = e
-teaches_end ports (a ∷ b ∷ rest) all short e = absurd (omega (arith, short))
-
-pub ruleset teach_rules = (teaches_here, teaches_behind, teaches_end, fewer)
-
 -- where none may be learned, the routes stay
 pub untaught : (ports : List Station) (route : Route) (contents : List ℕ) (routes : List (ℕ × Route)) →
     teaches ports contents ≡ false → learned ports route contents routes ≡ routes
@@ -78,13 +50,78 @@ untaught ports route (a ∷ b ∷ rest) routes e =
         ap (λ (t : Bool). learned ports route rest (cond t (insert_entry nat_cmp routes (big_number 2 (a ∷ b ∷ [])) route) routes)) f
         ∙ rest_stays g
 
+-- ---- what an announcement teaches that names a network with news
+one_keeps : (ports : List Station) (route : Route) (n net : ℕ) (may : Bool) (routes : List (ℕ × Route)) → route_to net routes ≡ Some route →
+    route_to net (cond may (insert_entry nat_cmp routes n route) routes) ≡ Some route
+one_keeps ports route n net true routes is = insert_keeps routes n net route is
+one_keeps ports route n net false routes is = is
+
+route_keeps : (ports : List Station) (route : Route) (contents : List ℕ) (net : ℕ) (routes : List (ℕ × Route)) → route_to net routes ≡ Some route →
+    route_to net (learned ports route contents routes) ≡ Some route
+route_keeps ports route [] net routes is = is
+route_keeps ports route (a ∷ []) net routes is = is
+route_keeps ports route (a ∷ b ∷ rest) net routes is =
+    route_keeps ports route rest net (learned_one ports route (big_number 2 (a ∷ b ∷ [])) routes)
+    (one_keeps ports route (big_number 2 (a ∷ b ∷ [])) net (is_learnable ports (big_number 2 (a ∷ b ∷ []))) routes is)
+
+-- they change
+pub news_change : (ports : List Station) (route : Route) (rest behind : List ℕ) (net : ℕ) (routes all : List (ℕ × Route)) →
+    IsFront rest net behind → IsNews ports route net routes → learned ports route rest routes ≡ all → all ≡ routes → ⊥
+news_change ports route rest behind net routes all front news leads same =
+    let one : learned_one ports route net routes ≡ insert_entry nat_cmp routes net route =
+    ap (λ (t : Bool). cond t (insert_entry nat_cmp routes net route) routes) news.learnable in
+    let ends : learned ports route behind (insert_entry nat_cmp routes net route) ≡ routes =
+    learned_step ports route rest behind net routes (insert_entry nat_cmp routes net route) routes front (sym one) (leads ∙ same) in
+    news.other (ap (λ (rs : List (ℕ × Route)). route_to net rs) (sym ends)
+    ∙ route_keeps ports route behind net (insert_entry nat_cmp routes net route) (inserted_route routes net route))
+
+pub known_step : (ports : List Station) (route : Route) (rest behind : List ℕ) (net : ℕ) (routes all : List (ℕ × Route)) →
+    IsFront rest net behind → learned_one ports route net routes ≡ routes →
+    learned ports route rest routes ≡ all → learned ports route behind routes ≡ all
+known_step ports route rest behind net routes all front known leads =
+    learned_step ports route rest behind net routes routes all front (sym known) leads
+
+pub ruleset keep_rules = (known_step, learned_end, fewer)
+
+and_false : (a b : Bool) → b ≡ false → (a && b) ≡ false
+and_false true b e = e
+and_false false b e = refl
+
+and_true : (a b : Bool) → a ≡ true → b ≡ true → (a && b) ≡ true
+and_true true b e f = f
+and_true false b e f = absurd (cc e)
+
+-- it isn't overfull where the routes stay, or are few
+pub kept_fits : (ports : List Station) (route : Route) (contents : List ℕ) (routes : List (ℕ × Route)) →
+    learned ports route contents routes ≡ routes → length routes ≤ MAX_LEARNED_ROUTES → is_overfull ports route contents routes ≡ false
+kept_fits ports route contents routes same few =
+    and_false (teaches ports contents) _ (ap is_too_many same ∙ le-ltb MAX_LEARNED_ROUTES (length routes) few)
+
+pub few_fits : (ports : List Station) (route : Route) (contents : List ℕ) (routes : List (ℕ × Route)) →
+    is_too_many (learned ports route contents routes) ≡ false → is_overfull ports route contents routes ≡ false
+few_fits ports route contents routes few = and_false (teaches ports contents) _ few
+
+-- one that changes the routes teaches something
+pub news_teach : (ports : List Station) (route : Route) (contents : List ℕ) (routes : List (ℕ × Route)) →
+    (learned ports route contents routes ≡ routes → ⊥) → teaches ports contents ≡ true
+news_teach ports route contents routes news = by_case (teaches ports contents) refl
+  where
+    by_case : (b : Bool) → teaches ports contents ≡ b → b ≡ true
+    by_case true e = refl
+    by_case false e = absurd (news (untaught ports route contents routes e))
+
+pub many_overfull : (ports : List Station) (route : Route) (contents : List ℕ) (routes : List (ℕ × Route)) →
+    (learned ports route contents routes ≡ routes → ⊥) → is_too_many (learned ports route contents routes) ≡ true →
+    is_overfull ports route contents routes ≡ true
+many_overfull ports route contents routes news many = and_true (teaches ports contents) _ (news_teach ports route contents routes news) many
+
 -- of the same ports and routes an announcement is overfull or not
 pub overfull_same : (ps qs : List Station) (route : Route) (contents : List ℕ) (rs ss : List (ℕ × Route)) → ps ≡ qs → rs ≡ ss →
     is_overfull ps route contents rs ≡ is_overfull qs route contents ss
 overfull_same ps qs route contents rs ss e f =
     ap (λ (xs : List Station). is_overfull xs route contents rs) e ∙ ap (λ (xs : List (ℕ × Route)). is_overfull qs route contents xs) f
 
-pub ruleset taught_rules = (untaught)
+pub ruleset taught_rules = (kept_fits)
 
 same : (p s : Station) → Some p ≡ Some s → p ≡ s
 same p s e = cc

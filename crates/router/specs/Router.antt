@@ -4,8 +4,8 @@ use Rattle.std.specs.List.{AllByRecursion}
 use Rattle.npdu.specs.declared.mac.Station.{Station}
 use Rattle.router.specs.declared.routes.Route.{Route}
 
--- the networks of its ports and its addresses there; the routes that it learned, in the order of their networks; whether
--- it has woken; and the moment of the last call that was not refused
+-- the networks of its ports and its addresses there; the routes that it learned, in the order of their networks;
+-- whether it has woken; and the moment of the last call that was not refused
 pub record RouterState : Type 0 where
   pub ports : List Station
   pub routes : List (ℕ × Route)

@@ -1,6 +1,8 @@
 -- The routes that a router learns (6.6.1, 6.6.3.3).
-use Rattle.std.specs.Prelude.{◌≡◌, ℕ, ◌==◌, ◌&&◌, ◌||◌, not, nat_lt, cond, Bool, false, List, [], ◌∷◌, length}
-use Rattle.std.specs.BTreeMap.{insert_entry}
+use Rattle.std.specs.Prelude.{◌≡◌, ◌≢◌, ℕ, ◌==◌, ◌&&◌, ◌||◌, not, nat_lt, cond, Bool, true, false, List, [], ◌∷◌}
+use Rattle.std.specs.Prelude.{length, Some}
+use Rattle.std.specs.BTreeMap.{insert_entry, is_at}
+use Rattle.std.specs.Map.{lookup}
 use Rattle.std.specs.Ordering.{nat_cmp}
 use Rattle.byteorder.specs.Endian.{big_number}
 use Rattle.npdu.specs.declared.mac.Station.{Station}
@@ -32,6 +34,11 @@ abbrev pub teaches : List Station → List ℕ → Bool
 teaches ports [] = false
 teaches ports (a ∷ []) = false
 teaches ports (high ∷ low ∷ rest) = is_learnable ports (big_number 2 (high ∷ low ∷ [])) || teaches ports rest
+
+-- a route to it may be learned, and isn't known yet
+pub record IsNews (ports : List Station) (route : Route) (net : ℕ) (routes : List (ℕ × Route)) : Type 0 where
+  pub learnable : is_learnable ports net ≡ true
+  pub other : lookup (is_at (nat_cmp net)) routes ≢ Some route
 
 -- more routes than a router knows
 abbrev pub is_too_many : List (ℕ × Route) → Bool

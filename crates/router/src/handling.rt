@@ -113,8 +113,8 @@ fn unknown(to: Target) -> Handling
 }
 
 impl<A: Allocator + Copy> Router<A> {
-    /// What is done with a message that comes on the port of this number, to this target on its network (6.5, 6.6.3). It
-    /// takes no memory.
+    /// What is done with a message that comes on the port of this number, to this target on its network (6.5, 6.6.3).
+    /// It takes no memory.
     pub fn handling(&self, port: usize, to: Target, view: &View<'_>) -> Handling
         ensures { result ≡ handling self.now port to (header_of view.now) }
     {

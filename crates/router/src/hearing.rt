@@ -60,7 +60,7 @@ impl<A: Allocator + Copy> Router<A> {
 
     /// What it does where it hears a parcel on the port of this number at the moment `now`, in milliseconds: `commit`
     /// does it. A parcel that is dropped, for its header or its destination, takes no memory and is never refused; only
-    /// one that teaches a route has its routes copied.
+    /// one that teaches a route that it doesn't know has its routes copied.
     ///
     /// # Errors
     /// `TableFull` for an announcement behind which it would know more than `MAX_LEARNED_ROUTES` routes, or `Memory`.
@@ -73,6 +73,8 @@ impl<A: Allocator + Copy> Router<A> {
         ensures step { IfOk result (λ plan.
             RouterHears now port parcel.now self.now plan.out (left_by now plan self.now)) }
         ensures copied { IfOk result (λ plan. HasRoutes plan.change → Teaches port parcel.now self.now) }
+        ensures news { IfOk result (λ plan. HasRoutes plan.change →
+            (left_by now plan self.now).routes ≢ self.now.routes) }
         ensures cause { IfErr result (λ fault. (fault ≡ Fault.Memory) ⊎
             ((fault ≡ Fault.TableFull) × IsOverfull port parcel.now self.now)) }
         ensures taken { OnErr result (IsTaken port parcel.now self.now) }
@@ -102,6 +104,8 @@ impl<A: Allocator + Copy> Router<A> {
             plan.out (left_by heard.now.moment plan self.now)) }
         ensures copied { IfOk result (λ plan. HasRoutes plan.change →
             Teaches heard.now.port heard.now.parcel.now self.now) }
+        ensures news { IfOk result (λ plan. HasRoutes plan.change →
+            (left_by heard.now.moment plan self.now).routes ≢ self.now.routes) }
         ensures cause { IfErr result (λ fault. (fault ≡ Fault.Memory) ⊎
             ((fault ≡ Fault.TableFull) × IsOverfull heard.now.port heard.now.parcel.now self.now)) }
         ensures taken { OnErr result (IsTaken heard.now.port heard.now.parcel.now self.now) }
@@ -121,6 +125,8 @@ impl<A: Allocator + Copy> Router<A> {
         ensures copied { IfOk result (λ plan. HasRoutes plan.change →
             ((handling_of self.now (heard_of heard.now) ≡ Handling.Learn) ×
             (routes.teaches self.now.ports heard.now.view.body.now ≡ true))) }
+        ensures news { IfOk result (λ plan. HasRoutes plan.change →
+            (left_by heard.now.moment plan self.now).routes ≢ self.now.routes) }
         ensures cause { IfErr result (λ fault. (fault ≡ Fault.Memory) ⊎ ((fault ≡ Fault.TableFull) ×
             (teaches_too_many (heard_of heard.now) self.now (handling_of self.now (heard_of heard.now)) ≡ true))) }
         ensures taken { OnErr result (handling_of self.now (heard_of heard.now) ≢ Handling.Discard) }
@@ -138,6 +144,8 @@ impl<A: Allocator + Copy> Router<A> {
         ensures fits { OnOk result (teaches_too_many (heard_of heard.now) self.now handling ≡ false) }
         ensures copied { IfOk result (λ change. HasRoutes change →
             ((handling ≡ Handling.Learn) × (routes.teaches self.now.ports heard.now.view.body.now ≡ true))) }
+        ensures news { IfOk result (λ change. HasRoutes change →
+            (changed heard.now.moment change self.now).routes ≢ self.now.routes) }
         ensures cause { IfErr result (λ fault. (fault ≡ Fault.Memory) ⊎ ((fault ≡ Fault.TableFull) ×
             (teaches_too_many (heard_of heard.now) self.now handling ≡ true))) }
         ensures taken { OnErr result (handling ≢ Handling.Discard) }
@@ -156,13 +164,16 @@ impl<A: Allocator + Copy> Router<A> {
         }
     }
 
-    /// What an announcement changes: nothing, where it names no network that may be learned.
+    /// What an announcement changes: nothing, where each network that it names, and that may be learned, has that
+    /// route.
     fn learns(&self, heard: &Heard<'_, A>) -> Result<RouterChange<A>, Fault>
         ensures left { IfOk result (λ change.
             changed heard.now.moment change self.now ≡ left (heard_of heard.now) self.now Handling.Learn) }
         ensures fits { OnOk result (teaches_too_many (heard_of heard.now) self.now Handling.Learn ≡ false) }
         ensures copied { IfOk result (λ change. HasRoutes change →
             (routes.teaches self.now.ports heard.now.view.body.now ≡ true)) }
+        ensures news { IfOk result (λ change. HasRoutes change →
+            (changed heard.now.moment change self.now).routes ≢ self.now.routes) }
         ensures cause { IfErr result (λ fault. (fault ≡ Fault.Memory) ⊎ ((fault ≡ Fault.TableFull) ×
             (teaches_too_many (heard_of heard.now) self.now Handling.Learn ≡ true))) }
     {

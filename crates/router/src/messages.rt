@@ -13,7 +13,7 @@ ghost use Rattle.router.specs.Sending.{of_others, unless};
 use crate::heard::Heard;
 use crate::plan::PortParcel;
 use crate::router::Router;
-use crate::routes::Routes;
+use crate::routes::Route;
 use npdu::{
     Destination, Dnet, INITIAL_HOP_COUNT, Mac, Message, NetworkRejectReason, Parcel, Priority,
     Rejected, Source, Station, Target, View,
@@ -165,12 +165,12 @@ fn put_own_behind<A: Allocator>(
 /// Those of the networks learned over other ports than that one, in ascending order.
 fn put_learned_behind<A: Allocator>(
     port: usize,
-    routes: &Routes<A>,
+    routes: &[(u16, Route)],
     out: &mut Vec<u8, A>,
 ) -> Result<(), AllocError>
     ensures { OnOk result (out.new.items ≡ out.old.items ++ learned_behind port routes.now) }
 {
-    for (net, route) in &routes.held {
+    for (net, route) in routes {
         put_net_unless(port, route.port, *net, out)?;
     }
     Ok(())
@@ -225,7 +225,7 @@ impl<A: Allocator + Copy> Router<A> {
     {
         let mut out = Vec::new(self.alloc);
         put_own_behind(port, self.ports.as_slice(), &mut out)?;
-        put_learned_behind(port, &self.routes, &mut out)?;
+        put_learned_behind(port, self.routes.as_slice(), &mut out)?;
         Ok(out)
     }
 

@@ -1,13 +1,13 @@
 //! The routes that a router learns from others (6.6.1, 6.6.3.3).
 
-ghost use Rattle.std.specs.Prelude.{◌≡◌, ◌<◌, OnOk, IfSome, IfNone, length};
+ghost use Rattle.std.specs.Prelude.{◌≡◌, ◌<◌, ◌⊎◌, ◌↔◌, IsTrue, OnOk, IfSome, IfNone, length};
 ghost use Rattle.router.specs.Routes as spec;
-ghost use Rattle.router.specs.Routes.{IsFront, learned, learned_one};
+ghost use Rattle.router.specs.Routes.{IsFront, IsNews, learned, learned_one};
 
+use crate::route_map::RouteMap;
 use npdu::{Mac, Station};
 use profile::MAX_LEARNED_ROUTES;
 use std::alloc::{AllocError, Allocator};
-use std::collections::BTreeMap;
 use std::marker::Model;
 use tags::Fault;
 
@@ -23,7 +23,7 @@ pub struct Route {
 /// Learned routes, in the order of their networks.
 #[derive(Drop)]
 pub(crate) struct Routes<A: Allocator> {
-    pub(crate) held: BTreeMap<u16, Route, A>,
+    pub(crate) held: RouteMap<A>,
 }
 
 impl<A: Allocator> Model for Routes<A> {
@@ -33,9 +33,9 @@ impl<A: Allocator> Model for Routes<A> {
 
     ghost Value = { List (ℕ × Route) };
 
-    ghost view = { λ r. r.held.entries };
+    ghost view = { λ r. r.held };
 
-    ghost invariant = { λ r. length r.held.entries ≤ MAX_LEARNED_ROUTES };
+    ghost invariant = { λ r. length r.held ≤ MAX_LEARNED_ROUTES };
 }
 
 /// Whether one of the ports is on this network.
@@ -68,29 +68,14 @@ fn front(octets: &[u8]) -> Option<(u16, &[u8])>
     }
 }
 
-/// Whether an announcement names a network to which a route may be learned.
-#[tactic(auto, using(crate::proofs::RouteLaws::teach_rules))]
-fn teaches(ports: &[Station], contents: &[u8]) -> bool
-    ensures { result ≡ spec.teaches ports.now contents.now }
-{
-    let mut rest = contents;
-    while let Some((net, behind)) = front(rest) {
-        if is_learnable(ports, net) {
-            return true;
-        }
-        rest = behind;
-    }
-    false
-}
-
 /// Learns a route to one network.
 fn learn_one<A: Allocator + Copy>(
-    routes: &mut BTreeMap<u16, Route, A>,
+    routes: &mut RouteMap<A>,
     ports: &[Station],
     route: Route,
     net: u16,
 ) -> Result<(), AllocError>
-    ensures { OnOk result (routes.new.entries ≡ learned_one ports.now route net routes.old.entries) }
+    ensures { OnOk result (routes.new ≡ learned_one ports.now route net routes.old) }
 {
     if is_learnable(ports, net) {
         routes.insert(net, route)?;
@@ -101,12 +86,12 @@ fn learn_one<A: Allocator + Copy>(
 /// Learns a route to each network that an announcement names, in two octets each.
 #[tactic(auto, using(crate::proofs::RouteLaws::learn_rules))]
 fn learn<A: Allocator + Copy>(
-    routes: &mut BTreeMap<u16, Route, A>,
+    routes: &mut RouteMap<A>,
     ports: &[Station],
     route: Route,
     contents: &[u8],
 ) -> Result<(), AllocError>
-    ensures { OnOk result (routes.new.entries ≡ learned ports.now route contents.now routes.old.entries) }
+    ensures { OnOk result (routes.new ≡ learned ports.now route contents.now routes.old) }
 {
     let mut rest = contents;
     while let Some((net, behind)) = front(rest) {
@@ -116,8 +101,42 @@ fn learn<A: Allocator + Copy>(
     Ok(())
 }
 
+/// Whether a route to one network teaches nothing: it is known already, or none may be learned.
+fn keeps_one<A: Allocator + Copy>(
+    routes: &RouteMap<A>,
+    ports: &[Station],
+    route: Route,
+    net: u16,
+) -> bool
+    ensures kept { IsTrue result → learned_one ports.now route net routes.now ≡ routes.now }
+    ensures news { IsTrue result ⊎ IsNews ports.now route net routes.now }
+{
+    !is_learnable(ports, net) || routes.has(net, route)
+}
+
+/// Whether an announcement teaches nothing, of all the networks that it names.
+#[tactic(auto, using(crate::proofs::RouteLaws::keep_rules))]
+fn keeps<A: Allocator + Copy>(
+    routes: &RouteMap<A>,
+    ports: &[Station],
+    route: Route,
+    contents: &[u8],
+) -> bool
+    ensures { IsTrue result ↔ (learned ports.now route contents.now routes.now ≡ routes.now) }
+{
+    let mut rest = contents;
+    while let Some((net, behind)) = front(rest) {
+        if !keeps_one(routes, ports, route, net) {
+            return false;
+        }
+        rest = behind;
+    }
+    true
+}
+
 impl<A: Allocator + Copy> Routes<A> {
-    ghost use Rattle.std.specs.Prelude.{◌≡◌, ◌≤◌, ◌⊎◌, [], true, false, IfOk, IfErr, IfSome, OnOk, length, unwrap_or};
+    ghost use Rattle.std.specs.Prelude.{◌≡◌, ◌≢◌, ◌≤◌, ◌⊎◌, [], true, false, IfOk, IfErr, IfSome, OnOk, length};
+    ghost use Rattle.std.specs.Prelude.{unwrap_or};
     ghost use Rattle.profile.specs.Limits.{MAX_LEARNED_ROUTES};
     ghost use Rattle.router.specs.Handling.{route_to};
     ghost use Rattle.router.specs.Routes.{is_overfull, is_too_many, learned, teaches};
@@ -127,7 +146,7 @@ impl<A: Allocator + Copy> Routes<A> {
         ensures { result ≡ [] }
     {
         Routes {
-            held: BTreeMap::new(alloc),
+            held: RouteMap::new(alloc),
         }
     }
 
@@ -136,8 +155,15 @@ impl<A: Allocator + Copy> Routes<A> {
         ensures { IfOk result (λ copy. copy ≡ self.now) }
     {
         Ok(Routes {
-            held: self.held.clone()?,
+            held: self.held.copy_with_room(0)?,
         })
+    }
+
+    /// They, in the order of their networks.
+    pub(crate) fn as_slice(&self) -> &[(u16, Route)]
+        ensures { result.now ≡ self.now }
+    {
+        self.held.as_slice()
     }
 
     /// How many there are.
@@ -152,7 +178,7 @@ impl<A: Allocator + Copy> Routes<A> {
     pub(crate) fn get(&self, net: u16) -> Option<Route>
         ensures { result ≡ route_to net self.now }
     {
-        self.held.get(&net).copied()
+        self.held.get(net)
     }
 
     /// The routes behind an announcement, as a copy.
@@ -165,7 +191,7 @@ impl<A: Allocator + Copy> Routes<A> {
         ensures cause { IfErr result (λ fault. (fault ≡ Fault.Memory) ⊎ ((fault ≡ Fault.TableFull) ×
             (is_too_many (learned ports.now route contents.now self.now) ≡ true))) }
     {
-        let mut held = self.held.clone()?;
+        let mut held = self.held.copy_with_room(contents.len() / 2)?;
         learn(&mut held, ports, route, contents)?;
         if held.len() > MAX_LEARNED_ROUTES {
             return Err(Fault::TableFull);
@@ -173,8 +199,8 @@ impl<A: Allocator + Copy> Routes<A> {
         Ok(Routes { held })
     }
 
-    /// The routes behind an announcement, as a copy, where it names a network to which a route may be learned. `None`
-    /// where it doesn't, and they stay.
+    /// The routes behind an announcement, as a copy, where it teaches something. `None` where it doesn't, and they
+    /// stay.
     ///
     /// # Errors
     /// `TableFull` for more than `MAX_LEARNED_ROUTES`, or `Memory`.
@@ -188,10 +214,11 @@ impl<A: Allocator + Copy> Routes<A> {
         ensures taught { IfOk result (λ o. unwrap_or o self.now ≡ learned ports.now route contents.now self.now) }
         ensures fits { OnOk result (is_overfull ports.now route contents.now self.now ≡ false) }
         ensures copied { IfOk result (λ o. IfSome o (λ r. teaches ports.now contents.now ≡ true)) }
+        ensures news { IfOk result (λ o. IfSome o (λ r. r ≢ self.now)) }
         ensures cause { IfErr result (λ fault. (fault ≡ Fault.Memory) ⊎ ((fault ≡ Fault.TableFull) ×
             (is_overfull ports.now route contents.now self.now ≡ true))) }
     {
-        if !teaches(ports, contents) {
+        if keeps(&self.held, ports, route, contents) {
             return Ok(None);
         }
         let routes = self.learned(ports, route, contents)?;

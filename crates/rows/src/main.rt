@@ -1,6 +1,6 @@
-//! The program `rows`: it runs the sheets of rows in its `data/`, a folder for each of the libraries `rows_..`, and prints
-//! a line for each row that differs and one with the counts of each sheet. That they stand in one program spares the gate
-//! a build by each of two compilers for every library.
+//! The program `rows`: it runs the sheets of rows in its `data/`, a folder for each of the libraries `rows_..`, and
+//! prints a line for each row that differs and one with the counts of each sheet. That they stand in one program spares
+//! the gate a build by each of two compilers for every library.
 #![tactic(auto)]
 
 use sheets::run_folder;

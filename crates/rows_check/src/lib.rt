@@ -1,6 +1,6 @@
 //! Rows on what is told of site files and of scripts for them: each fault of a file, of a key and of a site, each bad
-//! line, and what a script names that is not there (ANSI/ASHRAE 135, clauses 3.2, 6, 9, 12 and J). The program `rows` runs
-//! them.
+//! line, and what a script names that is not there (ANSI/ASHRAE 135, clauses 3.2, 6, 9, 12 and J). The program `rows`
+//! runs them.
 //!
 //! - `texts`: site files and scripts that rows describe.
 //! - `runs`: what is told of them, also where an allocation is refused.

@@ -1,8 +1,8 @@
-//! What is told: `check FILE -> 0: site: 1 network, 2 stations`, `check FILE, OLD ==> NEW -> 1: there is no network`, and
-//! `script FILE: whois c\nwake x -> ..` with a script; the exit status, and then the lines, parted by ` / `.
+//! What is told: `check FILE -> 0: site: 1 network, 2 stations`, `check FILE, OLD ==> NEW -> 1: there is no network`,
+//! and `script FILE: whois c\nwake x -> ..` with a script; the exit status, and then the lines, parted by ` / `.
 //!
-//! Each row runs again with each allocation refused in turn: that is told as want of memory, and what was told before is
-//! the beginning of what is wanted. `large FILE -> ..` runs once.
+//! Each row runs again with each allocation refused in turn: that is told as want of memory, and what was told before
+//! is the beginning of what is wanted. `large FILE -> ..` runs once.
 
 use crate::texts::{text_of, unescaped};
 use sheets::{Counts, Given, Part, Row, Stop, Trial, differs, run_text, run_trial, try_row};

@@ -1,6 +1,6 @@
-//! The program `rows_ladder`: rows of text on ladders and reports of runs (ANSI/ASHRAE 135, clauses 5.4, 6, 9.3, 20.1 and
-//! Annex J). It reads the files of its folder `data`, runs each row, and prints a line for each row that differs and one
-//! with the counts of each file.
+//! The program `rows_ladder`: rows of text on ladders and reports of runs (ANSI/ASHRAE 135, clauses 5.4, 6, 9.3, 20.1
+//! and Annex J). It reads the files of its folder `data`, runs each row, and prints a line for each row that differs
+//! and one with the counts of each file.
 //!
 //! - `pictures`: pictures of lanes and rows that a row describes, and texts that are escaped.
 //! - `runs`: what is drawn of a script at a site, also where an allocation is refused.

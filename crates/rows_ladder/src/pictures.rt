@@ -1,7 +1,7 @@
-//! Pictures that a row describes: `draw a b; 20 0>1 Who-Is -> ..`, the names of the lanes, and behind them the rows, each
-//! with its moment: an arrow that is heard, one that is not (`0x1`, or `0x` for all), or a note on a lane (`0`, or `-` for
-//! none), and its text. `draw` wants what the picture draws: the shapes of paths, and the places of dots and texts;
-//! `titles` wants each row in words. `escape` and `cut N` want a text as it stands in SVG.
+//! Pictures that a row describes: `draw a b; 20 0>1 Who-Is -> ..`, the names of the lanes, and behind them the rows,
+//! each with its moment: an arrow that is heard, one that is not (`0x1`, or `0x` for all), or a note on a lane (`0`, or
+//! `-` for none), and its text. `draw` wants what the picture draws: the shapes of paths, and the places of dots and
+//! texts; `titles` wants each row in words. `escape` and `cut N` want a text as it stands in SVG.
 //!
 //! A picture is drawn again with each allocation refused in turn.
 

@@ -1,12 +1,12 @@
-//! What is drawn of a script at a site: `KIND SITE: STEP; STEP; .. -> ..`, the site of the file `SITE.site` and the steps
-//! of a script, or `KIND SITE FROM..TO: ..` for a part of the run, either end of which may be left out.
+//! What is drawn of a script at a site: `KIND SITE: STEP; STEP; .. -> ..`, the site of the file `SITE.site` and the
+//! steps of a script, or `KIND SITE FROM..TO: ..` for a part of the run, either end of which may be left out.
 //!
 //! - `rows` wants the rows of the picture in words, as its titles say them;
-//! - `history` the table of the page, `page` what it says of each message with the name of its place, and `explain-d0` the
-//!   lines of the one at this place.
+//! - `history` the table of the page, `page` what it says of each message with the name of its place, and `explain-d0`
+//!   the lines of the one at this place.
 //!
-//! The elements of each picture and of each page are nested, and each link leads to a place. Each row runs again with each
-//! allocation refused in turn (behind the eighth not each): that is told as want of memory.
+//! The elements of each picture and of each page are nested, and each link leads to a place. Each row runs again with
+//! each allocation refused in turn (behind the eighth not each): that is told as want of memory.
 
 use crate::drawn::{are_links_there, explained, history, summaries, titles};
 use crate::nesting::is_nested;

@@ -1,7 +1,7 @@
-//! Live runs over memory in which a call fails or an allocation is refused: `SITE-NAME.failing` is a script. It runs once
-//! for each call on the wire that fails, up to a run in which none does, while datagrams are lost, come twice and overtake
-//! others, by several lists of numbers; and once for each allocation that is refused (behind the eighth not each). Each
-//! history must be legal, and the counts of all runs are told.
+//! Live runs over memory in which a call fails or an allocation is refused: `SITE-NAME.failing` is a script. It runs
+//! once for each call on the wire that fails, up to a run in which none does, while datagrams are lost, come twice and
+//! overtake others, by several lists of numbers; and once for each allocation that is refused (behind the eighth not
+//! each). Each history must be legal, and the counts of all runs are told.
 
 use crate::live::{OverMemory, printed_of};
 use refusing::Refusing;
@@ -18,8 +18,8 @@ const FAILING: &str = ".failing";
 /// The line of a call that failed, behind its moment.
 const FAILED: &str = " refused 14 Wire\n";
 
-/// Where the lists of numbers begin, each so that the first datagram arrives: with it lost nothing is bound, and nothing
-/// executed.
+/// Where the lists of numbers begin, each so that the first datagram arrives: with it lost nothing is bound, and
+/// nothing executed.
 const SEEDS: [u64; 3] = [1, 2, 4];
 
 /// How many runs there are at most for a list, or for allocations.

@@ -1,6 +1,6 @@
-//! Rows of command lines: `bacsite answer 8 -> 1: ! bacsite: hex`; `..` stands for text of clap's. And of writers that fail:
-//! `121 bacsite sim p.toml live.script -> 0`, the exit status of a command line where standard output takes so many octets
-//! and standard error none. With any less it is 1.
+//! Rows of command lines: `bacsite answer 8 -> 1: ! bacsite: hex`; `..` stands for text of clap's. And of writers that
+//! fail: `121 bacsite sim p.toml live.script -> 0`, the exit status of a command line where standard output takes so
+//! many octets and standard error none. With any less it is 1.
 
 use command_line::Files;
 use sheets::{

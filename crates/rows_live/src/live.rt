@@ -1,5 +1,5 @@
-//! Rows of live runs over memory: `SITE-NAME.live` is a script, before whose lines may stand those that tell of the wire
-//! in rows of turns. A millisecond passes in each round. What is wanted is what is printed.
+//! Rows of live runs over memory: `SITE-NAME.live` is a script, before whose lines may stand those that tell of the
+//! wire in rows of turns. A millisecond passes in each round. What is wanted is what is printed.
 
 use crate::timer::SteppingTimer;
 use rows_wire::{Course, Row, WireInMemory, row_of, said, take_word, text_of, wanted_of};

@@ -1,6 +1,6 @@
-//! The program `rows_live`: rows on live runs (ANSI/ASHRAE 135, clauses 5.4, 9, 12, 15, 16.10 and J), and on command lines
-//! of `bacsite`. It reads the files of its folder `data`, and prints what comes of each. It alone opens sockets: each at a
-//! port that is free.
+//! The program `rows_live`: rows on live runs (ANSI/ASHRAE 135, clauses 5.4, 9, 12, 15, 16.10 and J), and on command
+//! lines of `bacsite`. It reads the files of its folder `data`, and prints what comes of each. It alone opens sockets:
+//! each at a port that is free.
 //!
 //! - `udp`: scripts over UDP.
 //! - `turns`: turns over memory, one by one, also where allocations are refused.

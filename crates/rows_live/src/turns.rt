@@ -1,11 +1,11 @@
-//! Rows of turns over memory: `SITE-NAME.turns` has a line for each turn: a step of a script, or `receive`. Before it may
-//! stand `come FROM TO HEX`, a datagram that comes, and `fail N`: the call of this number from there on fails, the next
-//! being 1. Where the first line is `open`, the runner is. What is wanted is a line for each turn, with what it answers
-//! and whether it had a stray that was heard, behind it `sent FROM TO HEX` for each datagram that it sent, and at last the
-//! history.
+//! Rows of turns over memory: `SITE-NAME.turns` has a line for each turn: a step of a script, or `receive`. Before it
+//! may stand `come FROM TO HEX`, a datagram that comes, and `fail N`: the call of this number from there on fails, the
+//! next being 1. Where the first line is `open`, the runner is. What is wanted is a line for each turn, with what it
+//! answers and whether it had a stray that was heard, behind it `sent FROM TO HEX` for each datagram that it sent, and
+//! at last the history.
 //!
-//! Each row runs again with each allocation refused in turn: a turn that is refused so has changed nothing, so that all is
-//! as it was once it is taken again.
+//! Each row runs again with each allocation refused in turn: a turn that is refused so has changed nothing, so that all
+//! is as it was once it is taken again.
 
 ghost use Rattle.std.specs.Prelude.{IfSome, Some};
 ghost use Rattle.runner.specs.internetwork.Step.{IsSoundIfAny};

@@ -1,5 +1,5 @@
-//! Rows over UDP: `SITE-NAME.script` is a script, and what is wanted is printed of it in a live run, but for the moments.
-//! The site's ports are moved to a base where all of them are free.
+//! Rows over UDP: `SITE-NAME.script` is a script, and what is wanted is printed of it in a live run, but for the
+//! moments. The site's ports are moved to a base where all of them are free.
 
 use rows_wire::{Row, row_of, said, text_of, wanted_of};
 use sheets::names;

@@ -1,5 +1,6 @@
-//! Rows on what a router does with a parcel (ANSI/ASHRAE 135, clauses 6.5 and 6.6), what a port of BACnet/IP (Annex J) or
-//! of a bus (9) puts out and hands up, and what is inside a message on a network (6.2). The program `rows` runs them.
+//! Rows on what a router does with a parcel (ANSI/ASHRAE 135, clauses 6.5 and 6.6), what a port of BACnet/IP (Annex J)
+//! or of a bus (9) puts out and hands up, and what is inside a message on a network (6.2). The program `rows` runs
+//! them.
 //!
 //! - `addresses`: addresses in words.
 //! - `named`: octets in words, with announcements of many networks.

@@ -1,5 +1,5 @@
-//! Rows on requests and replies, on commands, and on the objects of a device (ANSI/ASHRAE 135, clauses 12, 15, 18, 19.2 and
-//! 21). The program `rows` runs them.
+//! Rows on requests and replies, on commands, and on the objects of a device (ANSI/ASHRAE 135, clauses 12, 15, 18, 19.2
+//! and 21). The program `rows` runs them.
 //!
 //! - `text`: words of a row, as the libraries read and print them.
 //! - `words_rows`: requests in words.

@@ -1,5 +1,5 @@
-//! Rows on the bodies of the confirmed services, the answers to them and what executes them (ANSI/ASHRAE 135, clauses 15,
-//! 18.9, 19.2, 20.1 and 21), and on the two tools and the device that stand on them. The program `rows` runs them.
+//! Rows on the bodies of the confirmed services, the answers to them and what executes them (ANSI/ASHRAE 135, clauses
+//! 15, 18.9, 19.2, 20.1 and 21), and on the two tools and the device that stand on them. The program `rows` runs them.
 //!
 //! - `bodies`: bodies, and the requests that they spell or their Reject.
 //! - `replies`: answers, and the replies that they spell to their requests.

@@ -1,5 +1,5 @@
-//! Sites, scripts and texts that rows describe: `site NAME`, `script NAME` or `prints NAME`, and behind it its lines, up
-//! to the next such line or the next row that wants something.
+//! Sites, scripts and texts that rows describe: `site NAME`, `script NAME` or `prints NAME`, and behind it its lines,
+//! up to the next such line or the next row that wants something.
 
 use crate::repeated::push_repeated;
 use sheets::{Part, Row, Stop};

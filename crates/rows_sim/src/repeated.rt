@@ -1,6 +1,6 @@
-//! Words that stand for many: `each 0..63 deliver {}` for 64 lines, `each 1..3 tick 20 ; wake r` for six, `<128*41>` for
-//! the same 128 times in a line, and `(1..14* 40:{} 85)` for the same with a number in each. What stands between `<` and
-//! `>` is repeated first.
+//! Words that stand for many: `each 0..63 deliver {}` for 64 lines, `each 1..3 tick 20 ; wake r` for six, `<128*41>`
+//! for the same 128 times in a line, and `(1..14* 40:{} 85)` for the same with a number in each. What stands between
+//! `<` and `>` is repeated first.
 
 use sheets::{Part, Stop, first_and_last, number};
 use std::alloc::Global;

@@ -1,6 +1,6 @@
-//! What is printed of a script: `sim SITE SCRIPT ..`, `trace SITE SCRIPT ..` with the items, `once SITE SCRIPT ..` for a
-//! long one, which runs with ample memory alone, and `item K SITE SCRIPT ..` for the octets of an item alone, which are
-//! wanted whole, or their beginning with `..` behind it.
+//! What is printed of a script: `sim SITE SCRIPT ..`, `trace SITE SCRIPT ..` with the items, `once SITE SCRIPT ..` for
+//! a long one, which runs with ample memory alone, and `item K SITE SCRIPT ..` for the octets of an item alone, which
+//! are wanted whole, or their beginning with `..` behind it.
 //!
 //! What is wanted of a run that prints is the name of a `prints` block. What is told on the standard error is wanted as
 //! it stands behind `! `, and the exit status is 1 then.

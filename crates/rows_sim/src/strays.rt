@@ -1,6 +1,6 @@
 //! Datagrams and frames as strays, which no station of the site sent: each row of `strays.rows` comes whole, cut and
-//! changed to each address of a site, and to two that nobody has. The site is that of `strays.site`, behind the steps of
-//! `strays.script`: the nodes of its bus pass their token, its client has asked, and waits for an answer.
+//! changed to each address of a site, and to two that nobody has. The site is that of `strays.site`, behind the steps
+//! of `strays.script`: the nodes of its bus pass their token, its client has asked, and waits for an answer.
 //!
 //! Each stray comes to a world of its own. Where it is refused that world does afterwards what one does that got none.
 

@@ -1,4 +1,5 @@
-//! Devices in words: `NAME PLACE INSTANCE` and objects `TYPE:INSTANCE:NAME:DEFAULT`, or `N*` for as many Integer Values.
+//! Devices in words: `NAME PLACE INSTANCE` and objects `TYPE:INSTANCE:NAME:DEFAULT`, or `N*` for as many Integer
+//! Values.
 
 use crate::places::{cut, place, text};
 use object_model::{SiteObject, SiteObjects, ValueKind};

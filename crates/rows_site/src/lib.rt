@@ -1,5 +1,5 @@
-//! Rows on the parts of a site, on which parts fit together, and on what a site is asked (ANSI/ASHRAE 135, clauses 3.2, 6,
-//! 9, 12 and J). The program `rows` runs them.
+//! Rows on the parts of a site, on which parts fit together, and on what a site is asked (ANSI/ASHRAE 135, clauses 3.2,
+//! 6, 9, 12 and J). The program `rows` runs them.
 //!
 //! - `places`: places and addresses in words.
 //! - `described`: sites that rows describe.

@@ -1,5 +1,5 @@
-//! Site files: `file NAME`, and behind it the lines of the file. `parts NAME`, `changed NAME` and `read NAME` read it, and
-//! `read NAME, OLD ==> NEW && OLD ==> NEW` with other words in place of some.
+//! Site files: `file NAME`, and behind it the lines of the file. `parts NAME`, `changed NAME` and `read NAME` read it,
+//! and `read NAME, OLD ==> NEW && OLD ==> NEW` with other words in place of some.
 
 use crate::escaped::push_unescaped;
 use crate::parts::push_parts;

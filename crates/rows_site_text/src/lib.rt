@@ -1,5 +1,5 @@
-//! Rows on site files and scripts: which parts a site file describes, why it describes none, and which steps the lines of
-//! a script ask for (ANSI/ASHRAE 135, clauses 3.2, 5.4, 6, 9, 12, 15, 16.10 and J). The program `rows` runs them.
+//! Rows on site files and scripts: which parts a site file describes, why it describes none, and which steps the lines
+//! of a script ask for (ANSI/ASHRAE 135, clauses 3.2, 5.4, 6, 9, 12, 15, 16.10 and J). The program `rows` runs them.
 //!
 //! - `escaped`: texts of several lines in one row.
 //! - `files`: site files that rows describe, and what is read of them.

@@ -1,5 +1,5 @@
-//! Rows on what a client and a server of transactions say over time (ANSI/ASHRAE 135, clauses 5.4.1, 5.4.4 and 5.4.5). The
-//! program `rows` runs them.
+//! Rows on what a client and a server of transactions say over time (ANSI/ASHRAE 135, clauses 5.4.1, 5.4.4 and 5.4.5).
+//! The program `rows` runs them.
 //!
 //! - `client`: what a client says of its requests, and what is told of them.
 //! - `server`: what a server says and executes.

@@ -12,8 +12,8 @@ use tags::Fault;
 /// How many events are left out at once, before they are left out one by one.
 const RUNS: [usize; 2] = [16, 4];
 
-/// The events that are left of a list from which runs of events and then one after another are left out, as long as what
-/// is left still brings about something wrong in a copy of a world; and what that is.
+/// The events that are left of a list from which runs of events and then one after another are left out, as long as
+/// what is left still brings about something wrong in a copy of a world; and what that is.
 ///
 /// # Errors
 /// Want of memory; `NoSuch` where the list brings about nothing wrong.

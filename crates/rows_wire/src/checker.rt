@@ -1,5 +1,5 @@
-//! Whether a history is legal that was printed: issues are numbered in order; none is executed twice; each answer is the
-//! reply of an execution of its issue; each issue has one end at most; and the replies of a device are those of its
+//! Whether a history is legal that was printed: issues are numbered in order; none is executed twice; each answer is
+//! the reply of an execution of its issue; each issue has one end at most; and the replies of a device are those of its
 //! objects, as they are when the requests are executed in that order from its opening objects on (12, 15).
 
 use objects::Table;

@@ -1,5 +1,5 @@
-//! The files where the program runs: `SITE.toml` is a site, `SITE-NAME.KIND` what happens at it, and `SITE-NAME.out` what
-//! is wanted of that.
+//! The files where the program runs: `SITE.toml` is a site, `SITE-NAME.KIND` what happens at it, and `SITE-NAME.out`
+//! what is wanted of that.
 
 use std::alloc::{AllocError, Global};
 use std::{fs, io};

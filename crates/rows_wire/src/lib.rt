@@ -1,5 +1,5 @@
-//! What rows on live sites stand on: a wire over memory, on which datagrams are lost, come twice and overtake others, and a
-//! judge of histories (ANSI/ASHRAE 135, clauses 5.4 and J).
+//! What rows on live sites stand on: a wire over memory, on which datagrams are lost, come twice and overtake others,
+//! and a judge of histories (ANSI/ASHRAE 135, clauses 5.4 and J).
 //!
 //! - `checker`: whether a history is legal.
 //! - `wire_in_memory`, `course`: a wire over memory, and what becomes of datagrams on it.

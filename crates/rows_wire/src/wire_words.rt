@@ -1,4 +1,5 @@
-//! What rows say of a wire: ends of datagrams as `127.0.0.1:47810` (J.1.2), a datagram that comes, and a call that fails.
+//! What rows say of a wire: ends of datagrams as `127.0.0.1:47810` (J.1.2), a datagram that comes, and a call that
+//! fails.
 
 use crate::wire_in_memory::WireInMemory;
 use bvll::Address;
@@ -74,8 +75,8 @@ fn fail(wire: &mut WireInMemory, word: &str) -> bool {
     }
 }
 
-/// Takes a line that tells of the wire, `come FROM TO HEX` or `fail N`, or one that tells nothing. Tells whether the line
-/// is one of these.
+/// Takes a line that tells of the wire, `come FROM TO HEX` or `fail N`, or one that tells nothing. Tells whether the
+/// line is one of these.
 ///
 /// # Errors
 /// Want of memory.

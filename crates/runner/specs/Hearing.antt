@@ -57,7 +57,8 @@ pub record HearsThem {A : Type 0} (w : WorldState A) (net address : ℕ) (octets
   pub event : e ≡ Hear net station.name octets
 
 -- .. if there is one
-abbrev pub HearsThemIfAny : {A : Type 0} → WorldState A → (net address : ℕ) → (octets : List ℕ) → Option (Event A) → Type 0
+abbrev pub HearsThemIfAny : {A : Type 0} → WorldState A → (net address : ℕ) → (octets : List ℕ) → Option (Event A) →
+    Type 0
 HearsThemIfAny w net address octets (Some e) = HearsThem w net address octets e
 HearsThemIfAny w net address octets None = station_at w net address ≡ None
 

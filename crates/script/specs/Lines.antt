@@ -1,5 +1,6 @@
 -- The lines of a script, and the steps that they say one after another.
-use Rattle.std.specs.Prelude.{◌≡◌, ◌⊎◌, ◌+◌, ◌-◌, ◌++◌, ◌==◌, ◌||◌, not, ℕ, Bool, true, false, if◌then◌else◌, List, [], ◌∷◌, length, map, slice_index, take, Option, None, Some}
+use Rattle.std.specs.Prelude.{◌≡◌, ◌⊎◌, ◌+◌, ◌-◌, ◌++◌, ◌==◌, ◌||◌, not, ℕ, Bool, true, false, if◌then◌else◌, List, []}
+use Rattle.std.specs.Prelude.{◌∷◌, length, map, slice_index, take, Option, None, Some}
 use Rattle.std.specs.List.{filter, slice_split}
 use Rattle.std.specs.Str.{IsUtf8}
 use Rattle.script.specs.declared.script.BadScript.{BadScript}

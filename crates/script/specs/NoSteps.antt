@@ -3,7 +3,8 @@ use Rattle.std.specs.Prelude.{◌≡◌, ◌⊎◌, ℕ, List, Option}
 use Rattle.apdu.specs.declared.unconfirmed.Limits.{Limits}
 use Rattle.primitives.specs.declared.plain_data.Request.{Request}
 use Rattle.script.specs.declared.step.Step.{Step}
-use Rattle.script.specs.Steps.{IsFit, IsFitStep, SaysHear, SaysHeard, SaysIssue, SaysLimits, SaysName, SaysStep, SaysWhoIs}
+use Rattle.script.specs.Steps.{IsFit, IsFitStep, SaysHear, SaysHeard, SaysIssue, SaysLimits, SaysName, SaysStep}
+use Rattle.script.specs.Steps.{SaysWhoIs}
 use Rattle.words.specs.declared.unread.Unread.{Unread}
 use Rattle.words.specs.declared.unread.Unread.TheVariants.{Memory}
 use Rattle.words.specs.Requests.{SaysRequest}

@@ -1,5 +1,6 @@
 -- What a receiver of segments does (5.4.4, 5.4.5).
-use Rattle.std.specs.Prelude.{ℕ, suc, ◌+◌, ◌-◌, ◌==◌, ◌||◌, nat_le, nat_lt, min, not, Bool, true, false, List, [], ◌++◌, length, Option, Some, None}
+use Rattle.std.specs.Prelude.{ℕ, suc, ◌+◌, ◌-◌, ◌==◌, ◌||◌, nat_le, nat_lt, min, not, Bool, true, false, List, [], ◌++◌}
+use Rattle.std.specs.Prelude.{length, Option, Some, None}
 use Rattle.profile.specs.Limits.{MAX_SEGMENTS_ACCEPTED, MAX_SERVICE_DATA_OCTETS, WINDOW_SIZE}
 use Rattle.profile.specs.Times.{APDU_SEGMENT_TIMEOUT_MS}
 use Rattle.segments.specs.declared.step.Step.{Step}

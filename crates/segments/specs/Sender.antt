@@ -1,5 +1,6 @@
 -- What a sender of segments does (5.4.4, 5.4.5).
-use Rattle.std.specs.Prelude.{ℕ, suc, ◌+◌, ◌-◌, ◌==◌, ◌&&◌, ◌||◌, nat_le, nat_lt, min, max, Bool, true, false, List, take, drop}
+use Rattle.std.specs.Prelude.{ℕ, suc, ◌+◌, ◌-◌, ◌==◌, ◌&&◌, ◌||◌, nat_le, nat_lt, min, max, Bool, true, false, List}
+use Rattle.std.specs.Prelude.{take, drop}
 use Rattle.profile.specs.Limits.{NUMBER_OF_APDU_RETRIES}
 use Rattle.profile.specs.Times.{APDU_SEGMENT_TIMEOUT_MS}
 use Rattle.segments.specs.Pieces.{PlainPiece, piece_count, pieces}

@@ -1,7 +1,8 @@
 //! What holds of any segments, for the proofs of the layers above. A function without a body is a law: its
 //! contract.
 
-ghost use Rattle.segments.specs.Laws.{PiecesJoin, PiecesAreFewest, PiecesInOrder, PiecesAreFull, WholeIsTaken, NothingIsFront, JoinsKeepFront, WholeIsCut, WindowIsPieces};
+ghost use Rattle.segments.specs.Laws.{PiecesJoin, PiecesAreFewest, PiecesInOrder, PiecesAreFull, WholeIsTaken};
+ghost use Rattle.segments.specs.Laws.{NothingIsFront, JoinsKeepFront, WholeIsCut, WindowIsPieces};
 
 /// A body is the concatenation of its pieces in order: the fewest that hold it, and one at least, each but
 /// the last of them full.

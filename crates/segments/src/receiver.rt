@@ -2,7 +2,8 @@
 
 ghost use Rattle.std.specs.Prelude.{◌≡◌, ◌≤◌, length, nat_lt, option_map, IfOk, OnOk, OnErr};
 ghost use Rattle.profile.specs.Limits as limit;
-ghost use Rattle.segments.specs.Receiver.{ReceiverState, granted_window, nothing_joined, may_nak, step_out_of_order, step_of, joins, whole_of};
+ghost use Rattle.segments.specs.Receiver.{ReceiverState, granted_window, nothing_joined, may_nak, step_out_of_order};
+ghost use Rattle.segments.specs.Receiver.{step_of, joins, whole_of};
 
 use crate::step::Step;
 use profile::{

@@ -2,7 +2,8 @@
 
 ghost use Rattle.std.specs.Prelude.{◌≡◌, ◌≤◌, length};
 ghost use Rattle.segments.specs.Pieces.{piece_count, window_rest};
-ghost use Rattle.segments.specs.Sender.{SenderState, nothing_sent, window_of, is_timed_out, has_ended, is_heard, hears, wakes};
+ghost use Rattle.segments.specs.Sender.{SenderState, nothing_sent, window_of, is_timed_out, has_ended, is_heard, hears};
+ghost use Rattle.segments.specs.Sender.{wakes};
 
 use crate::pieces::Window;
 use crate::step::Turn;

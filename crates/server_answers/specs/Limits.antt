@@ -1,5 +1,6 @@
 -- How long an answer may be, and how it is cut (5.2.1, 5.4.5.3).
-use Rattle.std.specs.Prelude.{ℕ, ◌-◌, ◌+◌, ◌||◌, nat_le, nat_lt, min, max, Bool, true, false, List, length, Option, Some, None}
+use Rattle.std.specs.Prelude.{ℕ, ◌-◌, ◌+◌, ◌||◌, nat_le, nat_lt, min, max, Bool, true, false, List, length, Option}
+use Rattle.std.specs.Prelude.{Some, None}
 use Rattle.apdu.specs.Sizes.{apdu_taken, segments_taken}
 use Rattle.apdu.specs.declared.numbers.AbortReason.TheVariants.{BufferOverflow, SegmentationNotSupported}
 use Rattle.apdu.specs.declared.sizes.MaxApdu.{MaxApdu}

@@ -1,9 +1,11 @@
 -- What holds of any server: what is executed, said again, and refused (5.4.5).
-use Rattle.std.specs.Prelude.{◌≡◌, ◌≤◌, ◌<◌, ◌⊎◌, ℕ, Bool, true, false, List, [], length, filter, Option, Some, None, slice_get}
+use Rattle.std.specs.Prelude.{◌≡◌, ◌≤◌, ◌<◌, ◌⊎◌, ℕ, Bool, true, false, List, [], length, filter, Option, Some, None}
+use Rattle.std.specs.Prelude.{slice_get}
 use Rattle.std.specs.List.{AllByRecursion}
 use Rattle.apdu.specs.ApduWriting.{canonical}
 use Rattle.apdu.specs.declared.apdu.Segment.{Segment}
-use Rattle.apdu.specs.declared.numbers.AbortReason.TheVariants.{BufferOverflow, OutOfResources, SegmentationNotSupported}
+use Rattle.apdu.specs.declared.numbers.AbortReason.TheVariants.{BufferOverflow, OutOfResources}
+use Rattle.apdu.specs.declared.numbers.AbortReason.TheVariants.{SegmentationNotSupported}
 use Rattle.npdu.specs.declared.mac.Way.{Way}
 use Rattle.primitives.specs.declared.plain_data.Reply.{Reply}
 use Rattle.primitives.specs.declared.plain_data.Request.{Request}
@@ -19,7 +21,8 @@ use Rattle.server_answers.specs.services.Asked.{replied}
 use Rattle.server_answers.specs.services.Request.{SpellsRequest}
 use Rattle.server_answers.specs.Answering.{answer_apdu, answer_of, answered_by, number_of}
 use Rattle.server_answers.specs.Plan.{quiet, ServerChange, ServerPlan, Stays, GivesUp, Executes}
-use Rattle.server_tsm.specs.Hearing.{Heard, aborting, asks, acknowledges, ack_if, asked_by, asked_on, asker_of, executing, is_deaf, repeated}
+use Rattle.server_tsm.specs.Hearing.{Heard, aborting, asks, acknowledges, ack_if, asked_by, asked_on, asker_of}
+use Rattle.server_tsm.specs.Hearing.{executing, is_deaf, repeated}
 use Rattle.server_answers.specs.Said.{answer_octets}
 use Rattle.server_answers.specs.Gathering.{gathering_of, gathers_still}
 use Rattle.server_tsm.specs.Server.{AreKept, AreTimely, ServerTsmState, committed}

@@ -145,8 +145,8 @@ impl<E: Executor<A> + Drop, A: Allocator + Copy> ServerTsm<E, A> {
         self.take(plan, now)
     }
 
-    /// Whether nothing is due where the server wakes at the moment `now`, in milliseconds: no window is said again, and no
-    /// answer's sending ends.
+    /// Whether nothing is due where the server wakes at the moment `now`, in milliseconds: no window is said again, and
+    /// no answer's sending ends.
     pub fn is_quiet(&self, now: u64) -> bool
         ensures { result ≡ is_quiet now self.now.records }
     {

@@ -13,7 +13,9 @@ use Rattle.primitives.specs.Sound.{IsSoundPriority}
 use Rattle.apdu.specs.Parameter.{IsObject, Takes}
 use Rattle.apdu.specs.Parameter as parameter
 use Rattle.apdu.specs.declared.numbers.RejectReason.{RejectReason}
-use Rattle.apdu.specs.declared.numbers.RejectReason.TheVariants.{InvalidParameterDataType, InvalidTag, MissingRequiredParameter, ParameterOutOfRange, TooManyArguments}
+use Rattle.apdu.specs.declared.numbers.RejectReason.TheVariants.{InvalidParameterDataType, InvalidTag}
+use Rattle.apdu.specs.declared.numbers.RejectReason.TheVariants.{MissingRequiredParameter, ParameterOutOfRange}
+use Rattle.apdu.specs.declared.numbers.RejectReason.TheVariants.{TooManyArguments}
 
 -- an object identifier under the context tag of this number, and what follows (20.2.14, 20.2.15)
 abbrev pub TakesObject : List ℕ → ℕ → ObjectId → List ℕ → Type 0

@@ -8,7 +8,8 @@ use Rattle.primitives.specs.declared.plain_data.PropertyReference.{PropertyRefer
 use Rattle.primitives.specs.declared.plain_data.ObjectWrites.{ObjectWrites}
 use Rattle.primitives.specs.declared.plain_data.PropertyWrite.{PropertyWrite}
 use Rattle.apdu.specs.declared.numbers.RejectReason.{RejectReason}
-use Rattle.apdu.specs.declared.numbers.RejectReason.TheVariants.{InvalidParameterDataType, InvalidTag, MissingRequiredParameter}
+use Rattle.apdu.specs.declared.numbers.RejectReason.TheVariants.{InvalidParameterDataType, InvalidTag}
+use Rattle.apdu.specs.declared.numbers.RejectReason.TheVariants.{MissingRequiredParameter}
 use Rattle.services.specs.Fields.{
   TakesObject,
   TakesNumber,

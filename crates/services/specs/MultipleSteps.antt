@@ -10,7 +10,8 @@ use Rattle.primitives.specs.declared.plain_data.PropertyReference.{PropertyRefer
 use Rattle.primitives.specs.declared.plain_data.PropertyWrite.{PropertyWrite}
 use Rattle.apdu.specs.declared.numbers.RejectReason.{RejectReason}
 use Rattle.apdu.specs.declared.numbers.RejectReason.TheVariants.{InvalidParameterDataType, InvalidTag}
-use Rattle.services.specs.Fields.{TakesNumber, TakesOption, TakesClosing, TakesEach, TakesInside, OpensBehind, IsOtherTag, RejectsOption, RejectsBehind, RejectsInside, RejectsRange}
+use Rattle.services.specs.Fields.{TakesNumber, TakesOption, TakesClosing, TakesEach, TakesInside, OpensBehind}
+use Rattle.services.specs.Fields.{IsOtherTag, RejectsOption, RejectsBehind, RejectsInside, RejectsRange}
 use Rattle.services.specs.Multiple.{RejectsNext, TakesReference, TakesPropertyWrite}
 
 -- a further property, or none where the list ends

@@ -11,7 +11,8 @@ use Rattle.primitives.specs.declared.plain_data.Reply.{Reply}
 use Rattle.primitives.specs.declared.plain_data.ObjectResults.{ObjectResults}
 use Rattle.primitives.specs.declared.plain_data.PropertyResult.{PropertyResult}
 use Rattle.services.specs.Fields.{TakesNumber, TakesClosing, TakesEach}
-use Rattle.services.specs.Reply.{TakesErrorInside, reading_tag, TakesReadingInside, TakesIndexed, TakesResult, TakesResultList, TakesResults, SpellsAck, SpellsAnswer}
+use Rattle.services.specs.Reply.{TakesErrorInside, reading_tag, TakesReadingInside, TakesIndexed, TakesResult}
+use Rattle.services.specs.Reply.{TakesResultList, TakesResults, SpellsAck, SpellsAnswer}
 use Rattle.answers.specs.declared.answer.Answer.{Answer}
 use Rattle.services.specs.Requests.{TakesWrite}
 

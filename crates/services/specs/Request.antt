@@ -3,7 +3,8 @@ use Rattle.std.specs.Prelude.{◌≡◌, ℕ, List}
 use Rattle.primitives.specs.declared.plain_data.Request.{Request}
 use Rattle.primitives.specs.declared.plain_data.Request.TheVariants.{Read, ReadMany, Write, WriteMany}
 use Rattle.apdu.specs.declared.numbers.ConfirmedService.{ConfirmedService}
-use Rattle.apdu.specs.declared.numbers.ConfirmedService.TheVariants.{ReadProperty, ReadPropertyMultiple, WriteProperty, WritePropertyMultiple}
+use Rattle.apdu.specs.declared.numbers.ConfirmedService.TheVariants.{ReadProperty, ReadPropertyMultiple, WriteProperty}
+use Rattle.apdu.specs.declared.numbers.ConfirmedService.TheVariants.{WritePropertyMultiple}
 use Rattle.apdu.specs.declared.numbers.RejectReason.{RejectReason}
 use Rattle.apdu.specs.declared.numbers.RejectReason.TheVariants.{UnrecognizedService}
 use Rattle.apdu.specs.Numbers.{service_number, NoService}

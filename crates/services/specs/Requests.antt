@@ -4,7 +4,8 @@ use Rattle.tags.specs.declared.object_id.ObjectId.{ObjectId}
 use Rattle.tags.specs.declared.value.Value.{Value}
 use Rattle.primitives.specs.Sound.{IsSoundPriority}
 use Rattle.apdu.specs.declared.numbers.RejectReason.{RejectReason}
-use Rattle.services.specs.Fields.{TakesObject, TakesNumber, TakesLast, TakesInside, OpensBehind, RejectsObject, RejectsNumber, RejectsLast, RejectsEnd, RejectsBehind, RejectsInside, RejectsRange}
+use Rattle.services.specs.Fields.{TakesObject, TakesNumber, TakesLast, TakesInside, OpensBehind, RejectsObject}
+use Rattle.services.specs.Fields.{RejectsNumber, RejectsLast, RejectsEnd, RejectsBehind, RejectsInside, RejectsRange}
 
 -- an object under context tag 0 and a property under 1, and what follows (15.5.1, 15.9.1)
 pub record TakesProperty (octets : List ℕ) (object : ObjectId) (property : ℕ) (rest : List ℕ) : Type 0 where

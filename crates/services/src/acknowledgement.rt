@@ -4,10 +4,13 @@
 ghost use Rattle.std.specs.Prelude.{◌≡◌, ◌<◌, ◌^◌, [], IfOk, IfErr, IfSome, IfNone, OnErr, length, ◌++◌, OnOk};
 ghost use Rattle.std.specs.List.{AllByRecursion};
 ghost use Rattle.tags.specs.Tag.{plain_tag};
-ghost use Rattle.primitives.specs.Sound.{AreSound, IsSoundError, IsSoundIndex, IsSoundReading, IsSoundResult, IsSoundResults};
+ghost use Rattle.primitives.specs.Sound.{AreSound, IsSoundError, IsSoundIndex, IsSoundReading, IsSoundResult};
+ghost use Rattle.primitives.specs.Sound.{IsSoundResults};
 ghost use Rattle.services.specs.Fields.{TakesClosing, TakesEach};
 ghost use Rattle.services.specs.Reply.{TakesErrorInside, TakesIndexed, TakesResult, TakesResultList, TakesResults};
-ghost use Rattle.services.specs.ReplySteps.{NoReadAck, NoErrorInside, ReadingUnder, NoReadingUnder, NoIndexed, TakesNextResult, NoNextResult, NoResult, NoResultList, NoResults, NoManyAck};
+ghost use Rattle.services.specs.ReplySteps.{NoReadAck, NoErrorInside, ReadingUnder, NoReadingUnder, NoIndexed};
+ghost use Rattle.services.specs.ReplySteps.{TakesNextResult, NoNextResult, NoResult, NoResultList, NoResults};
+ghost use Rattle.services.specs.ReplySteps.{NoManyAck};
 ghost use Rattle.services.specs.Requests.{TakesWrite};
 ghost use Rattle.answers.specs.Stop.{StopsFor};
 ghost use Rattle.tags.specs.Canonical.{Extends};

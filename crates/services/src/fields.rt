@@ -7,7 +7,10 @@ ghost use Rattle.tags.specs.Element.{context};
 ghost use Rattle.tags.specs.Number.{SpellsUnsigned};
 ghost use Rattle.tags.specs.Refusal.{IsBadNumber};
 ghost use Rattle.primitives.specs.Sound.{IsSoundIndex, IsSoundPriority};
-ghost use Rattle.services.specs.Fields.{TakesObject, TakesNumber, TakesOpening, TakesClosing, NoClosing, OpensBehind, TakesLast, IsOtherTag, RejectsTag, RejectsContents, RejectsObject, RejectsNumber, RejectsOpening, RejectsBehind, RejectsLast, RejectsEnd, RejectsRange};
+ghost use Rattle.services.specs.Fields.{TakesObject, TakesNumber, TakesOpening, TakesClosing, NoClosing, OpensBehind};
+ghost use Rattle.services.specs.Fields.{TakesLast, IsOtherTag, RejectsTag, RejectsContents, RejectsObject};
+ghost use Rattle.services.specs.Fields.{RejectsNumber, RejectsOpening, RejectsBehind, RejectsLast, RejectsEnd};
+ghost use Rattle.services.specs.Fields.{RejectsRange};
 ghost use Rattle.tags.specs.Canonical.{Extends};
 ghost use Rattle.apdu.specs.ParameterWriting.{option_field};
 

@@ -1,7 +1,8 @@
 //! What holds of every spelling of a request (15, 18.9). A function without a body is a law: its
 //! contract, for the proofs of the layers above.
 
-ghost use Rattle.services.specs.RequestLaws.{OneRequest, RequestIsSpelled, RequestReadsBack, RejectedIsNone, RejectedOnce, RequestIsShortest};
+ghost use Rattle.services.specs.RequestLaws.{OneRequest, RequestIsSpelled, RequestReadsBack, RejectedIsNone};
+ghost use Rattle.services.specs.RequestLaws.{RejectedOnce, RequestIsShortest};
 
 use std::alloc::Allocator;
 

@@ -4,10 +4,15 @@
 ghost use Rattle.std.specs.Prelude.{◌≡◌, ◌<◌, ◌^◌, [], ◌≢◌, IfOk, IfErr, IsTrue, ◌↔◌, length, ◌++◌};
 ghost use Rattle.std.specs.List.{AllByRecursion};
 ghost use Rattle.tags.specs.Tag.{plain_tag};
-ghost use Rattle.primitives.specs.Sound.{IsSoundId, IsSoundIndex, IsSoundPriority, IsSoundReference, IsSoundRefs, IsSoundWrite, IsSoundWrites, AreSound};
+ghost use Rattle.primitives.specs.Sound.{IsSoundId, IsSoundIndex, IsSoundPriority, IsSoundReference, IsSoundRefs};
+ghost use Rattle.primitives.specs.Sound.{IsSoundWrite, IsSoundWrites, AreSound};
 ghost use Rattle.services.specs.Fields.{TakesNumber};
-ghost use Rattle.services.specs.Multiple.{OpensList, RejectsList, RejectsFirst, RejectsNext, RejectsReferences, TakesRefs, RejectsRefs, RejectsWriteList, TakesWrites, RejectsWrites, SpellsWriteMultiple, RejectsWriteMultiple, MustStand, SpellsReadMultiple, RejectsReadMultiple};
-ghost use Rattle.services.specs.MultipleSteps.{TakesNext, IsNext, RejectsNextTag, GoesOn, RejectsGoing, References, TakesValuesBehind, RejectsValuesBehind, RejectsPriority, PropertyWrites};
+ghost use Rattle.services.specs.Multiple.{OpensList, RejectsList, RejectsFirst, RejectsNext, RejectsReferences};
+ghost use Rattle.services.specs.Multiple.{TakesRefs, RejectsRefs, RejectsWriteList, TakesWrites, RejectsWrites};
+ghost use Rattle.services.specs.Multiple.{SpellsWriteMultiple, RejectsWriteMultiple, MustStand, SpellsReadMultiple};
+ghost use Rattle.services.specs.Multiple.{RejectsReadMultiple};
+ghost use Rattle.services.specs.MultipleSteps.{TakesNext, IsNext, RejectsNextTag, GoesOn, RejectsGoing, References};
+ghost use Rattle.services.specs.MultipleSteps.{TakesValuesBehind, RejectsValuesBehind, RejectsPriority, PropertyWrites};
 ghost use Rattle.answers.specs.Stop.{StopsFor};
 
 use crate::fields::{

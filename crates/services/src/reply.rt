@@ -1,6 +1,7 @@
 //! The replies to requests, both ways (clauses 15.5, 15.7, 15.9, 15.10, 20.1.4, 20.1.5 and 20.1.7).
 
-ghost use Rattle.services.specs.Reply.{SpellsAck, SpellsAnswer, SpellsReply, OnlyReply, NoReply, IsSoundAnswer, HasServiceData};
+ghost use Rattle.services.specs.Reply.{SpellsAck, SpellsAnswer, SpellsReply, OnlyReply, NoReply, IsSoundAnswer};
+ghost use Rattle.services.specs.Reply.{HasServiceData};
 ghost use Rattle.answers.specs.Answer.{SpellsFailure};
 ghost use Rattle.std.specs.Prelude.{◌≡◌, ◌<◌, ◌^◌, ◌⊎◌, IfOk, IfErr, IsOk, IfSome, IfNone, length, ◌++◌, OnOk, OnErr};
 ghost use Rattle.primitives.specs.Sound.{IsSoundReply, IsSoundRequest};

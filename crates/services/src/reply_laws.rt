@@ -1,7 +1,8 @@
 //! What holds of every spelling of a reply (15, 20.1). A function without a body is a law: its
 //! contract, for the proofs of the layers above.
 
-ghost use Rattle.services.specs.Contents.{EqualContents, GoesInContents, MeaningReadsBack, OneMeaning, ReplyIsMeant, ReplyOfContents};
+ghost use Rattle.services.specs.Contents.{EqualContents, GoesInContents, MeaningReadsBack, OneMeaning, ReplyIsMeant};
+ghost use Rattle.services.specs.Contents.{ReplyOfContents};
 ghost use Rattle.services.specs.ReplyLaws.{OneReply, ReplyIsSpelled, ReplyReadsBack, ReplyIsShortest};
 
 use std::alloc::Allocator;

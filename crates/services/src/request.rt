@@ -4,7 +4,8 @@ ghost use Rattle.std.specs.Prelude.{◌≡◌, ◌<◌, ◌^◌, ◌≢◌, [], 
 ghost use Rattle.primitives.specs.Sound.{IsSoundId, IsSoundIndex, IsSoundPriority, IsSoundRequest, AreSound};
 ghost use Rattle.apdu.specs.Numbers.{service_number, NoService};
 ghost use Rattle.services.specs.Request.{SpellsRequest, OnlyRequest, NoRequest, RejectsRequest, request_service};
-ghost use Rattle.services.specs.Requests.{TakesProperty, RejectsProperty, SpellsReadProperty, RejectsReadProperty, TakesWrite, RejectsWrite, RejectsTail, RejectsWriteProperty};
+ghost use Rattle.services.specs.Requests.{TakesProperty, RejectsProperty, SpellsReadProperty, RejectsReadProperty};
+ghost use Rattle.services.specs.Requests.{TakesWrite, RejectsWrite, RejectsTail, RejectsWriteProperty};
 ghost use Rattle.services.specs.Fields.{TakesLast};
 ghost use Rattle.answers.specs.Stop.{StopsFor};
 ghost use Rattle.tags.specs.Canonical.{Extends};

@@ -35,9 +35,9 @@ pub enum Part {
     },
 }
 
-/// How far so many milliseconds have gone. In each of them time passes; each item and each frame that was put out before,
-/// wasn't delivered and may still be heard is delivered, in the order in which they were put out, a frame at each other
-/// station of its bus; and each station wakes, in the order of the site.
+/// How far so many milliseconds have gone. In each of them time passes; each item and each frame that was put out
+/// before, wasn't delivered and may still be heard is delivered, in the order in which they were put out, a frame at
+/// each other station of its bus; and each station wakes, in the order of the site.
 #[derive(Clone, Copy, Debug, PartialEq, Eq)]
 pub struct Flow {
     pub(crate) left: u64,

@@ -1,8 +1,8 @@
 //! A world: what came about from a site's opening by events alone (ANSI/ASHRAE 135, clauses 5.4, 6, 12, 16.10 and J).
 //!
-//! To whoever runs it it promises the headline: whatever events happen, in whatever order, the history is legal: no issue
-//! is executed twice, each answer is the reply of an earlier execution of that very issue at the device that it names, and
-//! the objects of each device are what its executions leave.
+//! To whoever runs it it promises the headline: whatever events happen, in whatever order, the history is legal: no
+//! issue is executed twice, each answer is the reply of an earlier execution of that very issue at the device that it
+//! names, and the objects of each device are what its executions leave.
 //!
 //! - `world`: the world, and its runs.
 //! - `flow`: the events of a site that nothing disturbs.

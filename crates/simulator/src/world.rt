@@ -47,8 +47,8 @@ impl<A: Allocator + Copy> World<A> {
     ghost use Rattle.simulator.specs.Laws.{IsLed};
 
     /// The world of a site as it opens: the moment is 0, each device has the objects that the site gives it, no client
-    /// has asked anything, no router and no manager has heard anything, no node has heard a token, and nothing is on its
-    /// way (6.6, 9.5.6, J).
+    /// has asked anything, no router and no manager has heard anything, no node has heard a token, and nothing is on
+    /// its way (6.6, 9.5.6, J).
     ///
     /// # Errors
     /// `Memory` alone.

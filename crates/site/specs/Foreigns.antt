@@ -1,5 +1,6 @@
 -- Foreign devices, and the managers at which they register (J.5).
-use Rattle.std.specs.Prelude.{◌==◌, ◌&&◌, ◌+◌, if◌then◌else◌, ℕ, Bool, true, false, nat_lt, nat_le, List, [], ◌∷◌, Option, Some, None, bytes_eq}
+use Rattle.std.specs.Prelude.{◌==◌, ◌&&◌, ◌+◌, if◌then◌else◌, ℕ, Bool, true, false, nat_lt, nat_le, List, [], ◌∷◌}
+use Rattle.std.specs.Prelude.{Option, Some, None, bytes_eq}
 use Rattle.std.specs.List.{list_any, list_all}
 use Rattle.profile.specs.Limits.{MAX_FOREIGN_DEVICES}
 use Rattle.site_parts.specs.declared.parts.Station.{Station}

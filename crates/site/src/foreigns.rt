@@ -4,7 +4,8 @@ ghost use Rattle.std.specs.Prelude.{◌≡◌, ◌≤◌, length, bytes_eq, nat_
 ghost use Rattle.std.specs.List.{list_any};
 ghost use Rattle.profile.specs.Limits as limit;
 ghost use Rattle.site_parts.specs.Roles.{beyond};
-ghost use Rattle.site.specs.Foreigns.{are_few_beyond, are_registered, count_at, is_at, is_host, is_manager_on, is_registered, is_sound_beyond, is_time};
+ghost use Rattle.site.specs.Foreigns.{are_few_beyond, are_registered, count_at, is_at, is_host, is_manager_on};
+ghost use Rattle.site.specs.Foreigns.{is_registered, is_sound_beyond, is_time};
 
 use profile::MAX_FOREIGN_DEVICES;
 use site_parts::{Foreign, Role, Station};

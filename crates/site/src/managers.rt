@@ -3,7 +3,8 @@
 ghost use Rattle.std.specs.Prelude.{◌≡◌, ◌≤◌, ◌+◌, ◌++◌, IfOk, OnOk, length, nat_le};
 ghost use Rattle.std.specs.List.{flat_map, list_all, list_any};
 ghost use Rattle.profile.specs.Limits as limit;
-ghost use Rattle.site.specs.Managers.{are_covered, are_few, count_on, is_apart, is_covered, is_one, managed, managed_in, subnet_at, subnets};
+ghost use Rattle.site.specs.Managers.{are_covered, are_few, count_on, is_apart, is_covered, is_one, managed};
+ghost use Rattle.site.specs.Managers.{managed_in, subnet_at, subnets};
 
 use profile::MAX_PEERS;
 use site_parts::{Link, Role, Station};

@@ -134,7 +134,8 @@ fn texts_of<A: Allocator>(object: &SiteObject<A>) -> [(&'static str, &[u8]); 3] 
     ]
 }
 
-/// Tells the first of these objects that is the object, and the first that has its name, and whether something was told.
+/// Tells the first of these objects that is the object, and the first that has its name, and whether something was
+/// told.
 fn tell_same<A: Allocator, W: Write>(
     device: &str,
     before: &[SiteObject<A>],

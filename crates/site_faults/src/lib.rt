@@ -1,8 +1,8 @@
-//! What is wrong with the parts of a site, told so that it can be mended: each fact of a sound site that fails, with the
-//! stations or networks that break it (ANSI/ASHRAE 135, clauses 3.2, 6, 9, 12 and J).
+//! What is wrong with the parts of a site, told so that it can be mended: each fact of a sound site that fails, with
+//! the stations or networks that break it (ANSI/ASHRAE 135, clauses 3.2, 6, 9, 12 and J).
 //!
-//! To the layer above it promises: parts are judged sound exactly where they are a sound site. Which lines tell of what,
-//! rows show.
+//! To the layer above it promises: parts are judged sound exactly where they are a sound site. Which lines tell of
+//! what, rows show.
 //!
 //! - `told`: what is told, with its texts.
 //! - `shown`: names, rows and addresses, as they stand in what is told.

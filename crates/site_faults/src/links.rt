@@ -12,7 +12,8 @@ use std::alloc::Allocator;
 use std::io;
 use std::io::Write;
 
-/// Whether each place on a network is in range, and on a network of its kind that is there (9); each that is not is told.
+/// Whether each place on a network is in range, and on a network of its kind that is there (9); each that is not is
+/// told.
 pub(crate) fn tell_links<A: Allocator, W: Write>(
     networks: &[Network],
     stations: &[Station<A>],

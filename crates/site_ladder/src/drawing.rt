@@ -73,9 +73,10 @@ fn ladder_of<A: Allocator + Copy>(
     })
 }
 
-/// Takes the steps of a script in a world of a site, as their texts describe them, and gives the picture of a part of the
-/// run: SVG in UTF-8, with a lane for each station, an arrow for each message that is heard, one that ends in the air for
-/// each that is put out and never heard, and each entry of the history. The document is read in memory of `reading`.
+/// Takes the steps of a script in a world of a site, as their texts describe them, and gives the picture of a part of
+/// the run: SVG in UTF-8, with a lane for each station, an arrow for each message that is heard, one that ends in the
+/// air for each that is put out and never heard, and each entry of the history. The document is read in memory of
+/// `reading`.
 ///
 /// # Errors
 /// Those of `site_steps::open`, and `Memory`.
@@ -89,8 +90,8 @@ pub fn ladder<A: Allocator + Copy>(
     draw(reading, alloc, site, script, part, Form::Picture)
 }
 
-/// The same, and gives a page in HTML that needs no other file: the picture, the history, and each datagram and each frame
-/// of the part with what its octets say.
+/// The same, and gives a page in HTML that needs no other file: the picture, the history, and each datagram and each
+/// frame of the part with what its octets say.
 ///
 /// # Errors
 /// Those of `site_steps::open`, and `Memory`.

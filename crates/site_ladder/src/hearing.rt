@@ -24,7 +24,8 @@ pub(crate) struct Heard<A: Allocator> {
     pub(crate) number: Option<u64>,
 }
 
-/// The frames that an event lets a station hear, of those that it is for, without tokens. The event hasn't happened yet.
+/// The frames that an event lets a station hear, of those that it is for, without tokens. The event hasn't happened
+/// yet.
 pub(crate) fn heard_by<A: Allocator + Copy>(
     alloc: A,
     world: &World<A>,
@@ -123,8 +124,8 @@ pub(crate) fn is_shown(frame: Frame<'_>) -> bool {
     }
 }
 
-/// The number of the first frame with these octets that may still be heard on a bus and wasn't delivered at a MAC, which
-/// isn't its sender's.
+/// The number of the first frame with these octets that may still be heard on a bus and wasn't delivered at a MAC,
+/// which isn't its sender's.
 fn number_of<A: Allocator>(buses: &[Bus<A>], network: u16, mac: u8, octets: &[u8]) -> Option<u64> {
     for bus in buses {
         if bus.net == network {

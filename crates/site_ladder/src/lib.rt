@@ -1,7 +1,8 @@
-//! The ladder of a run at a site, and a page that tells of the whole run: the picture, its history, and each message taken
-//! apart (ANSI/ASHRAE 135, clauses 5.4, 6, 9.3, 20.1 and Annex J, written for a person to read).
+//! The ladder of a run at a site, and a page that tells of the whole run: the picture, its history, and each message
+//! taken apart (ANSI/ASHRAE 135, clauses 5.4, 6, 9.3, 20.1 and Annex J, written for a person to read).
 //!
-//! To the layer above it promises that [`ladder`] and [`report`] return. What they show is shown by rows, and isn't proved.
+//! To the layer above it promises that [`ladder`] and [`report`] return. What they show is shown by rows, and isn't
+//! proved.
 //!
 //! - `drawing`: the two calls. `part`: which moments of a run they show.
 //! - `gathering`: what happens in a run, row behind row. `putting`: what is put out. `hearing`: frames that are heard.

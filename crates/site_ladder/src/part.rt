@@ -2,8 +2,8 @@
 
 use std::fmt;
 
-/// The part of a run between two moments in milliseconds, both among it. Without one it goes on from the beginning, or up
-/// to the end.
+/// The part of a run between two moments in milliseconds, both among it. Without one it goes on from the beginning, or
+/// up to the end.
 #[derive(Clone, Copy, Debug, PartialEq, Eq)]
 pub struct Part {
     pub from: Option<u64>,

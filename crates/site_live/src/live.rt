@@ -303,8 +303,8 @@ impl<W: Wire + Drop, T: Timer + Drop, S: Observer<A> + Drop, A: Allocator + Copy
         self.register_all(out)
     }
 
-    /// A round: time passes, at most one datagram is received, frames are heard, each station wakes, and foreign devices
-    /// register. Tells whether any datagram came or was put out: what goes over a bus takes its time there.
+    /// A round: time passes, at most one datagram is received, frames are heard, each station wakes, and foreign
+    /// devices register. Tells whether any datagram came or was put out: what goes over a bus takes its time there.
     #[tactic(auto, using(crate::proofs::LiveLaws::live_laws))]
     fn round<O: Write>(&mut self, out: &mut O) -> io::Result<bool>
         ensures { OnOk result (Lives [] self.old self.new (O.contents out.old) (O.contents out.new)) }
@@ -347,7 +347,8 @@ impl<W: Wire + Drop, T: Timer + Drop, S: Observer<A> + Drop, A: Allocator + Copy
     #[tactic(auto, using(crate::proofs::LiveLaws::live_laws))]
     pub fn take_step<O: Write>(&mut self, step: LiveStep<A>, out: &mut O) -> io::Result<()>
         requires sound { IsSoundLiveStep step }
-        ensures lives { OnOk result (Lives (asked_at step) self.old self.new (O.contents out.old) (O.contents out.new)) }
+        ensures lives { OnOk result
+            (Lives (asked_at step) self.old self.new (O.contents out.old) (O.contents out.new)) }
     {
         match step {
             LiveStep::Happens(event) => self.take_turn(Some(event), out),

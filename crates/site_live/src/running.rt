@@ -72,7 +72,8 @@ impl<A: Allocator + Copy> Opened<A> {
 /// The world of a site and the steps of a script, as their texts describe them. The site is judged first.
 ///
 /// # Errors
-/// `BadSite` for a text that describes no site; the first line that asks for nothing that a live run takes; or `Memory`.
+/// `BadSite` for a text that describes no site; the first line that asks for nothing that a live run takes; or
+/// `Memory`.
 pub fn open<A: Allocator + Copy>(
     reading: Global,
     alloc: A,

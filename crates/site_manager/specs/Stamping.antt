@@ -9,7 +9,8 @@ use Rattle.bvll.specs.declared.function.Function.TheVariants.{ForwardedNpdu}
 use Rattle.carry.specs.Datagrams.{mac_at}
 use Rattle.link_ports.specs.declared.ports.PortSent.{PortSent}
 
--- what carries an NPDU on has the stamp of what was heard; what a manager says of itself, a Result or an Ack, this moment
+-- what carries an NPDU on has the stamp of what was heard; what a manager says of itself, a Result or an Ack, this
+-- moment
 abbrev pub stamp_if : (carries : Bool) → (heard now : ℕ) → ℕ
 stamp_if true heard now = heard
 stamp_if false heard now = now

@@ -14,8 +14,8 @@ pub fn tables_stand<A: Allocator>()
     ensures { TablesStand A }
 {}
 
-/// Once each foreign device of a network is registered, and while its registration lives, the tables of that network are
-/// full (J.4.3, J.5.2).
+/// Once each foreign device of a network is registered, and while its registration lives, the tables of that network
+/// are full (J.4.3, J.5.2).
 pub fn tables_are_full<A: Allocator>()
     ensures { TablesAreFull A }
 {}

@@ -28,7 +28,8 @@ abbrev pub AnnouncesTooLong : (A : Type 0) → (places : List Station) → (now 
 AnnouncesTooLong A places now r = IsOneTooLong {A = A} places (announced now r)
 
 -- why what came up is refused: it would teach too many routes, or what is said is too long
-abbrev pub UpIsRefused : {A : Type 0} → (places : List Station) → (now port : ℕ) → Parcel A → RouterState → Fault → Type 0
+abbrev pub UpIsRefused : {A : Type 0} → (places : List Station) → (now port : ℕ) → Parcel A → RouterState → Fault →
+    Type 0
 UpIsRefused places now port p r fault =
     ((fault ≡ TableFull) × IsOverfull port p r) ⊎ ((fault ≡ TooLong) × AnswersTooLong places now port p r)
 
@@ -43,8 +44,8 @@ module _ {A L : Type 0} (hears : ℕ → Mac → List ℕ → ℕ → L → Link
     pub refused : UpIsRefused (map station ports) now port up r fault
 
   -- why octets that are heard are refused: by the port, or what came up of them is
-  abbrev pub HearingIsRefused : (refuses : Fault → Mac → List ℕ → Type 0) → (station : L → Station) → (now port : ℕ) → Mac →
-      List ℕ → (stamp : ℕ) → RouterStationState L → Fault → Type 0
+  abbrev pub HearingIsRefused : (refuses : Fault → Mac → List ℕ → Type 0) → (station : L → Station) → (now port : ℕ) →
+      Mac → List ℕ → (stamp : ℕ) → RouterStationState L → Fault → Type 0
   HearingIsRefused refuses station now port from octets stamp s fault =
       refuses fault from octets ⊎ ParcelIsRefused station now port from octets stamp s.ports s.router fault
 

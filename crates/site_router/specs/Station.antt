@@ -99,7 +99,7 @@ module _ {A L : Type 0} where
     pub ports : PortsWake wakes downs now (announced now old.router) old.ports out new.ports
         ⊎ PortsRest is_due now (announced {A = A} now old.router) old.ports out new.ports
 
--- nothing is due of a router with its ports where it wakes: it has woken before, and nothing is due at a port
+-- nothing is due of a router with its ports where it wakes: it has woken before (6.6.2), and nothing is due at a port
 pub record IsQuiet {L : Type 0} (is_due : ℕ → L → Bool) (now : ℕ) (s : RouterStationState L) : Type 0 where
   pub woken : s.router.woken ≡ true
   pub ports : NothingIsDue is_due now s.ports

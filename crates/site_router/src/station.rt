@@ -249,21 +249,22 @@ impl<L: Link<A> + Drop, A: Allocator + Copy> RouterStation<L, A> {
         })
     }
 
-    /// Whether nothing is due where it wakes at the moment `now`, in milliseconds: it has woken before, and nothing is due
-    /// at a port.
+    /// Whether nothing is due where it wakes at the moment `now`, in milliseconds: it has woken before, and nothing is
+    /// due at a port.
     pub fn is_quiet(&self, now: u64) -> bool
         ensures { (result ≡ true) ↔ IsQuiet L.is_due now self.now }
     {
         self.router.has_woken() && !is_any_due(self.ports.as_slice(), now)
     }
 
-    /// Wakes at the moment `now`, in milliseconds, where nothing is due: nothing is put out, and its ports stay as they are.
-    /// It takes no memory.
+    /// Wakes at the moment `now`, in milliseconds, where nothing is due: nothing is put out, and its ports stay as they
+    /// are. It takes no memory.
     pub fn wake_quietly(&mut self, now: u64)
         requires greatest { now ≤ MAX_MOMENT_MS }
         requires order { self.old.router.moment ≤ now }
         requires quiet { IsQuiet L.is_due now self.old }
-        ensures { RouterStationWakes L.is_due L.wakes L.downs now self.old [] self.new }
+        ensures wakes { RouterStationWakes L.is_due L.wakes L.downs now self.old [] self.new }
+        ensures ports { self.new.ports ≡ self.old.ports }
     {
         self.router.wake_again(now);
     }

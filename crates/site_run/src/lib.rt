@@ -3,8 +3,8 @@
 //!
 //! To the layer above it promises: with status 0 the one text is a TOML document of a sound site, and each line of the
 //! other one asks for a step; what was printed tells, line by line, what comes of these steps in their order in a world
-//! of that site, each refusal at its place; and the history that it tells is legal: no issue is executed twice, and each
-//! answer is the reply of its one execution.
+//! of that site, each refusal at its place; and the history that it tells is legal: no issue is executed twice, and
+//! each answer is the reply of its one execution.
 //!
 //! - `running`: the steps of a script, one after another.
 //! - `simulating`: the two texts, and the exit status.

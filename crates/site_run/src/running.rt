@@ -6,7 +6,8 @@ ghost use Rattle.std.specs.List.{AllByRecursion};
 ghost use Rattle.script.specs.Steps.{IsSoundStep};
 ghost use Rattle.script.specs.declared.step.Step.TheVariants as step;
 ghost use Rattle.simulator.specs.internetwork.Step.{IsSoundEvent};
-ghost use Rattle.site_run.specs.Running.{PrintsAll, PrintsEvent, PrintsGrowth, PrintsStep, PrintsSteps, told, trace_text};
+ghost use Rattle.site_run.specs.Running.{PrintsAll, PrintsEvent, PrintsGrowth, PrintsStep, PrintsSteps, told};
+ghost use Rattle.site_run.specs.Running.{trace_text};
 
 use script::Step;
 use simulator::{Event, Flow, World};

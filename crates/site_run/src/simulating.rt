@@ -21,10 +21,10 @@ use std::io;
 use std::io::Write;
 use tags::Items;
 
-/// Takes the steps of a script in a world of a site, as their texts describe them, and prints on `out` each entry of its
-/// history, each refusal at its place, and at last what there was of all. Answers the exit status: 0; or 1 for a text
-/// that is none, which is told on `err` and nothing runs then, for want of memory where it ends the program, and for a
-/// failed write. The document is read in memory of `reading`.
+/// Takes the steps of a script in a world of a site, as their texts describe them, and prints on `out` each entry of
+/// its history, each refusal at its place, and at last what there was of all. Answers the exit status: 0; or 1 for a
+/// text that is none, which is told on `err` and nothing runs then, for want of memory where it ends the program, and
+/// for a failed write. The document is read in memory of `reading`.
 pub fn simulate<A: Allocator + Copy, W: Write, E: Write>(
     reading: Global,
     alloc: A,

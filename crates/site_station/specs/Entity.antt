@@ -124,7 +124,7 @@ awake now (Client c) = Client (record c {
   machine = client_tsm.committed now (client_waking.woken now c.machine.open_ones).change c.machine;
 })
 
--- nothing is due of an entity where it wakes
+-- nothing is due of an entity where it wakes: none of its timers expires (5.4.1)
 abbrev pub is_quiet : {A : Type 0} → ℕ → Entity A → Bool
 is_quiet now (Device d) = server_waking.is_quiet now d.server.records
 is_quiet now (Client c) = client_waking.is_quiet now c.machine.open_ones
@@ -136,7 +136,8 @@ pub record IssuesIt {A : Type 0} (now instance : ℕ) (request : Request A) (c :
   pub free : refusal now instance request c ≡ None
   pub issues : issuing.Issues now instance request c (record { invoke_id = id; said = told.said }) left
 
-abbrev pub EntityIssues : {A : Type 0} → ℕ → (instance : ℕ) → Request A → Entity A → ℕ → EntityTold A → Entity A → Type 0
+abbrev pub EntityIssues : {A : Type 0} → ℕ → (instance : ℕ) → Request A → Entity A → ℕ → EntityTold A → Entity A →
+    Type 0
 EntityIssues now instance request (Client c) id told (Client left) = IssuesIt now instance request c id told left
 EntityIssues now instance request e id told left = ⊥
 

@@ -7,7 +7,8 @@ use Rattle.npdu.specs.declared.mac.Station.{Station}
 use Rattle.npdu.specs.declared.parcel.Parcel.{Parcel}
 use Rattle.object_model.specs.Objects.{PlainTable}
 use Rattle.primitives.specs.declared.plain_data.Request.{Request}
-use Rattle.site_station.specs.Entity.{EntityAsks, EntityHears, EntityIssues, EntityRestarts, IsDevice, RefusesParcel, awake, is_quiet, issue_refusal, silence, told_awake}
+use Rattle.site_station.specs.Entity.{EntityAsks, EntityHears, EntityIssues, EntityRestarts, IsDevice, RefusesParcel}
+use Rattle.site_station.specs.Entity.{awake, is_quiet, issue_refusal, silence, told_awake}
 use Rattle.site_station.specs.Entity as entity
 use Rattle.link_ports.specs.Ports.{CountsAt, DownsAll, HearsAt, IsTooLong, NothingIsDue, RegistersAt, WakesAll}
 use Rattle.site_station.specs.declared.entity.Entity.{Entity}
@@ -111,7 +112,7 @@ module _ {A L : Type 0} where
     pub ports : PortsWake wakes downs now t.told.said old.ports t.out new.ports
         ⊎ PortsRest is_due now t.told.said old.ports t.out new.ports
 
-  -- nothing is due of a station where it wakes: not of its entity, and not at a port
+  -- nothing is due of a station where it wakes: not of its entity (5.4.1), and not at a port (9.5.6)
   pub record IsQuiet (is_due : ℕ → L → Bool) (now : ℕ) (s : StationState A L) : Type 0 where
     pub entity : is_quiet now s.entity ≡ true
     pub ports : NothingIsDue is_due now s.ports
@@ -224,7 +225,8 @@ IssueIsRefused places now instance request e fault =
     ⊎ ((fault ≡ TooLong) × IssuesTooLong places now instance request e)
 
 -- what a client says of a question is too long for its port
-pub record AsksTooLong {A : Type 0} (places : List Station) (now : ℕ) (limits : Option Limits) (e : Entity A) : Type 0 where
+pub record AsksTooLong {A : Type 0} (places : List Station) (now : ℕ) (limits : Option Limits) (e : Entity A) :
+    Type 0 where
   pub told : EntityTold A
   pub left : Entity A
   pub asks : EntityAsks now limits e told left

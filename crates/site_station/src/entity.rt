@@ -151,7 +151,7 @@ impl<A: Allocator + Copy> Entity<A> {
         }
     }
 
-    /// Whether nothing is due where it wakes at the moment `now`, in milliseconds.
+    /// Whether nothing is due where it wakes at the moment `now`, in milliseconds: none of its timers expires (5.4.1).
     pub fn is_quiet(&self, now: u64) -> bool
         ensures { result ≡ spec.is_quiet now self.now }
     {
@@ -161,8 +161,8 @@ impl<A: Allocator + Copy> Entity<A> {
         }
     }
 
-    /// Wakes at the moment `now`, in milliseconds, where nothing is due: it says, executes and tells nothing. It takes no
-    /// memory.
+    /// Wakes at the moment `now`, in milliseconds, where nothing is due: it says, executes and tells nothing. It takes
+    /// no memory.
     #[tactic(auto, using(crate::proofs::Quiet::quiet_rules))]
     pub fn wake_quietly(&mut self, now: u64)
         requires order { spec.moment_of self.old ≤ now }

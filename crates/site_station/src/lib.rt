@@ -1,4 +1,5 @@
-//! A station of a site: its application entity, a device or a client, and its ports (ANSI/ASHRAE 135, clauses 5.4, 6.1).
+//! A station of a site: its application entity, a device or a client, and its ports (ANSI/ASHRAE 135, clauses 5.4,
+//! 6.1).
 //!
 //! To the layer above it promises: each input is planned before anything changes, and what was planned is then done
 //! whole or not at all; what comes of it is what the entity does with what its port hands up, and what the ports put

@@ -8,7 +8,8 @@ ghost use Rattle.site_station.specs.Entity.{told_awake};
 ghost use Rattle.link_ports.specs.Ports.{AreBefore, DownsAll, IsTooLong};
 ghost use Rattle.site_station.specs.Station as words;
 ghost use Rattle.site_station.specs.Station.{AskingIsRefused, FrameIsRefused, HearingIsRefused, HearsOn, IsNotForeign};
-ghost use Rattle.site_station.specs.Station.{IsPlanned, IsQuiet, IssueIsRefused, StationAsks, StationCounts, StationHears};
+ghost use Rattle.site_station.specs.Station.{IsPlanned, IsQuiet, IssueIsRefused, StationAsks, StationCounts};
+ghost use Rattle.site_station.specs.Station.{StationHears};
 ghost use Rattle.site_station.specs.Station.{StationHearsFrame, StationIssues, StationRegisters, StationRestarts};
 ghost use Rattle.site_station.specs.Station.{StationWakes, left_by, nothing_told, told_by};
 
@@ -269,15 +270,16 @@ impl<L: Link<A> + Drop, A: Allocator + Copy> SiteStation<L, A> {
         })
     }
 
-    /// Whether nothing is due where it wakes at the moment `now`, in milliseconds: not of its entity, and not at a port.
+    /// Whether nothing is due where it wakes at the moment `now`, in milliseconds: not of its entity (5.4.1), and not
+    /// at a port (9.5.6).
     pub fn is_quiet(&self, now: u64) -> bool
         ensures { (result ≡ true) ↔ IsQuiet L.is_due now self.now }
     {
         self.entity.is_quiet(now) && !is_any_due(self.ports.as_slice(), now)
     }
 
-    /// Wakes at the moment `now`, in milliseconds, where nothing is due: nothing is said, told or put out, and its ports
-    /// stay as they are. It takes no memory.
+    /// Wakes at the moment `now`, in milliseconds, where nothing is due: nothing is said, told or put out, and its
+    /// ports stay as they are. It takes no memory.
     pub fn wake_quietly(&mut self, now: u64)
         requires order { spec.moment_of self.old.entity ≤ now }
         requires quiet { IsQuiet L.is_due now self.old }

@@ -1,9 +1,11 @@
 -- What there was of all.
-use Rattle.std.specs.Prelude.{◌≡◌, ℕ, ◌+◌, ◌-◌, ◌/◌, ◌==◌, Bool, true, false, if◌then◌else◌, List, [], ◌∷◌, ◌++◌, codes, length}
+use Rattle.std.specs.Prelude.{◌≡◌, ℕ, ◌+◌, ◌-◌, ◌/◌, ◌==◌, Bool, true, false, if◌then◌else◌, List, [], ◌∷◌, ◌++◌, codes}
+use Rattle.std.specs.Prelude.{length}
 use Rattle.std.specs.Fmt.{decimal}
 use Rattle.apdu.specs.PduType.{type_number}
 use Rattle.apdu.specs.declared.pdu_type.PduType.{PduType}
-use Rattle.apdu.specs.declared.pdu_type.PduType.TheVariants.{ConfirmedRequest, UnconfirmedRequest, SimpleAck, ComplexAck, SegmentAck, Error, Reject, Abort}
+use Rattle.apdu.specs.declared.pdu_type.PduType.TheVariants.{ConfirmedRequest, UnconfirmedRequest, SimpleAck}
+use Rattle.apdu.specs.declared.pdu_type.PduType.TheVariants.{ComplexAck, SegmentAck, Error, Reject, Abort}
 use Rattle.storm.specs.chronicle.Growing.{WorldHistory}
 use Rattle.storm.specs.chronicle.Kept.{all_said}
 use Rattle.storm.specs.chronicle.declared.saying.SaidMessage.{SaidMessage}

@@ -1,5 +1,6 @@
 -- The names of stations, as they stand in what is printed.
-use Rattle.std.specs.Prelude.{ℕ, ◌==◌, Bool, false, List, [], ◌∷◌, ◌++◌, Option, None, Some, if◌then◌else◌, slice_index, codes}
+use Rattle.std.specs.Prelude.{ℕ, ◌==◌, Bool, false, List, [], ◌∷◌, ◌++◌, Option, None, Some, if◌then◌else◌, slice_index}
+use Rattle.std.specs.Prelude.{codes}
 use Rattle.std.specs.Fmt.{decimal}
 use Rattle.bvll.specs.Address.{address_at}
 use Rattle.bvll.specs.declared.address.Address.{Address}
@@ -13,8 +14,9 @@ use Rattle.site_views.specs.Views.{at_address}
 
 -- an address of BACnet/IP, as `127.0.0.1:47808` (J.1.2)
 abbrev pub address_text : Address → List ℕ
-address_text a = decimal (slice_index a.ip 0) ++ (codes "." ++ (decimal (slice_index a.ip 1) ++ (codes "."
-    ++ (decimal (slice_index a.ip 2) ++ (codes "." ++ (decimal (slice_index a.ip 3) ++ (codes ":" ++ decimal a.port)))))))
+address_text a = decimal (slice_index a.ip 0) ++ (codes "." ++ (decimal (slice_index a.ip 1)
+    ++ (codes "." ++ (decimal (slice_index a.ip 2) ++ (codes "." ++ (decimal (slice_index a.ip 3)
+    ++ (codes ":" ++ decimal a.port)))))))
 
 -- an address of BACnet/IP, or of MS/TP, as `5` (9)
 abbrev pub mac_text : Mac → List ℕ

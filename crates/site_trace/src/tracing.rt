@@ -58,8 +58,8 @@ fn print_item<A: Allocator, W: Write>(
     writeln!(out, "{text}")
 }
 
-/// Prints what may still be heard of the frames that were put out on these buses behind so many, bus by bus, at a moment,
-/// in milliseconds, each on a line.
+/// Prints what may still be heard of the frames that were put out on these buses behind so many, bus by bus, at a
+/// moment, in milliseconds, each on a line.
 ///
 /// # Errors
 /// Those of writing.

@@ -1,5 +1,6 @@
 -- Networks and routers as one tree (3.2).
-use Rattle.std.specs.Prelude.{◌≡◌, ◌==◌, ◌+◌, if◌then◌else◌, ℕ, Bool, true, false, not, List, [], ◌∷◌, ◌&&◌, map, length}
+use Rattle.std.specs.Prelude.{◌≡◌, ◌==◌, ◌+◌, if◌then◌else◌, ℕ, Bool, true, false, not, List, [], ◌∷◌, ◌&&◌, map}
+use Rattle.std.specs.Prelude.{length}
 use Rattle.std.specs.List.{AllByRecursion, list_any, list_all}
 use Rattle.site_parts.specs.declared.parts.Network.{Network}
 use Rattle.site_parts.specs.declared.role.Role.{Role}
@@ -17,7 +18,8 @@ numbers ns = map (λ n. n.number) ns
 
 -- networks that no router leads out of: who has a port on one of them has all its ports on them
 abbrev pub IsClosed : {A : Type 0} → (ℕ → Bool) → List (Station A) → Type 0
-IsClosed here stations = AllByRecursion (λ s. list_any here (port_networks s) ≡ true → list_all here (port_networks s) ≡ true) stations
+IsClosed here stations =
+    AllByRecursion (λ s. list_any here (port_networks s) ≡ true → list_all here (port_networks s) ≡ true) stations
 
 -- whoever begins with the first network and follows the routers comes to all of them
 abbrev pub IsJoined : {A : Type 0} → List ℕ → List (Station A) → Type 0
@@ -66,7 +68,9 @@ ArePortsThere ns stations = AllByRecursion (λ s. list_all (λ n. is_among n ns)
 
 -- while the networks are joined one after another: those that are still apart are some of the site's, without the
 -- first, and all others are come to by whoever begins with the first
-pub record IsBetween {A : Type 0} (first : ℕ) (ns : List ℕ) (stations : List (Station A)) (apart : List ℕ) : Type 0 where
+pub record IsBetween {A : Type 0} (first : ℕ) (ns : List ℕ) (stations : List (Station A)) (apart : List ℕ) :
+    Type 0 where
   pub begun : is_among first apart ≡ false
   pub some : (n : ℕ) → is_among n apart ≡ true → is_among n ns ≡ true
-  pub come : (here : ℕ → Bool) → here first ≡ true → IsClosed here stations → (n : ℕ) → is_among n ns ≡ true → is_among n apart ≡ false → here n ≡ true
+  pub come : (here : ℕ → Bool) → here first ≡ true → IsClosed here stations →
+      (n : ℕ) → is_among n ns ≡ true → is_among n apart ≡ false → here n ≡ true

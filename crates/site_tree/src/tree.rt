@@ -1,9 +1,11 @@
 //! Networks joined one after another by routers, and ports counted.
 
-ghost use Rattle.std.specs.Prelude.{◌≡◌, ◌==◌, ◌+◌, ◌≤◌, ◌<◌, ◌↔◌, ◌*◌, ◌^◌, true, false, not, ℕ, List, [], ◌∷◌, ◌++◌, IfOk, OnOk, IfSome, IfNone, IsTrue, length, map, get_or};
+ghost use Rattle.std.specs.Prelude.{◌≡◌, ◌==◌, ◌+◌, ◌≤◌, ◌<◌, ◌↔◌, ◌*◌, ◌^◌, true, false, not, ℕ, List, [], ◌∷◌, ◌++◌};
+ghost use Rattle.std.specs.Prelude.{IfOk, OnOk, IfSome, IfNone, IsTrue, length, map, get_or};
 ghost use Rattle.std.specs.List.{list_any, flat_map};
 ghost use Rattle.site_parts.specs.Places.{network_of};
-ghost use Rattle.site_tree.specs.Tree.{IsOneTree, IsJoined, IsBetween, ArePortsThere, numbers, is_among, joins, leads, ports, routers, nodes_in, but};
+ghost use Rattle.site_tree.specs.Tree.{IsOneTree, IsJoined, IsBetween, ArePortsThere, numbers, is_among, joins, leads};
+ghost use Rattle.site_tree.specs.Tree.{ports, routers, nodes_in, but};
 
 use site_parts::{Link, Network, Role, Station};
 use std::alloc::{AllocError, Allocator};
@@ -102,7 +104,8 @@ fn is_none(numbers: &[u16]) -> bool
 
 /// Takes away one after another each network that a router joins to one that isn't apart.
 fn join<A: Allocator>(stations: &[Station<A>], apart: &mut Vec<u16, A>)
-    ensures between { (first : ℕ) (ns : List ℕ) → ArePortsThere ns stations.now → IsBetween first ns stations.now apart.old.items → IsBetween first ns stations.now apart.new.items }
+    ensures between { (first : ℕ) (ns : List ℕ) → ArePortsThere ns stations.now →
+        IsBetween first ns stations.now apart.old.items → IsBetween first ns stations.now apart.new.items }
     ensures ended { list_any (leads stations.now apart.new.items) apart.new.items ≡ false }
 {
     while let Some(place) = next_joined(stations, apart.as_slice()) {
@@ -112,7 +115,8 @@ fn join<A: Allocator>(stations: &[Station<A>], apart: &mut Vec<u16, A>)
 
 /// The place of a network that a router joins to one that isn't apart.
 fn next_joined<A: Allocator>(stations: &[Station<A>], apart: &[u16]) -> Option<usize>
-    ensures some { IfSome result (λ i. (i < length apart.now) × (leads stations.now apart.now (get_or apart.now i 0) ≡ true)) }
+    ensures some { IfSome result (λ i. (i < length apart.now) ×
+        (leads stations.now apart.now (get_or apart.now i 0) ≡ true)) }
     ensures none { IfNone result (list_any (leads stations.now apart.now) apart.now ≡ false) }
 {
     let mut place = 0;

@@ -1,5 +1,6 @@
 -- What holds of a sound site, in its own words.
-use Rattle.std.specs.Prelude.{◌≡◌, ◌==◌, if◌then◌else◌, ℕ, Bool, not, List, [], ◌∷◌, ◌++◌, map, filter, Option, Some, None, option_map, option_to_list}
+use Rattle.std.specs.Prelude.{◌≡◌, ◌==◌, if◌then◌else◌, ℕ, Bool, not, List, [], ◌∷◌, ◌++◌, map, filter, Option, Some}
+use Rattle.std.specs.Prelude.{None, option_map, option_to_list}
 use Rattle.std.specs.List.{AllByRecursion, flat_map}
 use Rattle.bbmd.specs.Reach.{AreFull, times}
 use Rattle.bbmd.specs.declared.spreading.Subnet.{Subnet}
@@ -101,7 +102,8 @@ subnet_with moment id ss foreign = record {
 
 -- the subnets of a network, each once, with the foreign table of each manager by its subnet's number
 abbrev pub subnets_with : {A : Type 0} → ℕ → ℕ → List (Station A) → (ℕ → List Registration) → List (Subnet A)
-subnets_with moment n ss tables = map (λ k. subnet_with moment (subnet_of n k) ss (tables k)) (distinct (numbers_on n ss))
+subnets_with moment n ss tables =
+    map (λ k. subnet_with moment (subnet_of n k) ss (tables k)) (distinct (numbers_on n ss))
 
 -- in each foreign table just the foreign devices of its manager live
 pub record AreRegistered {A : Type 0} (now n : ℕ) (ss : List (Station A)) (tables : ℕ → List Registration) :

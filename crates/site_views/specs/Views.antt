@@ -1,5 +1,6 @@
 -- What the layers above ask of a site's stations.
-use Rattle.std.specs.Prelude.{◌==◌, ◌&&◌, ◌||◌, if◌then◌else◌, ℕ, Bool, true, false, List, [], ◌∷◌, ◌++◌, map, Option, Some, None, option_map, option_to_list, bytes_eq}
+use Rattle.std.specs.Prelude.{◌==◌, ◌&&◌, ◌||◌, if◌then◌else◌, ℕ, Bool, true, false, List, [], ◌∷◌, ◌++◌, map, Option}
+use Rattle.std.specs.Prelude.{Some, None, option_map, option_to_list, bytes_eq}
 use Rattle.std.specs.List.{flat_map, list_any}
 use Rattle.bvll.specs.Address.{address_octets}
 use Rattle.bvll.specs.declared.address.Address.{Address}

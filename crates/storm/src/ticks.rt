@@ -34,8 +34,8 @@ const BEHIND_EXECUTION: [u64; 2] = [KEEP_MS, KEEP_MS + 1];
 /// What is due behind an answer: what was said with it is too old.
 const BEHIND_ANSWER: [u64; 1] = [LIFE_MS];
 
-/// For how long of a silence a node on a bus waits (9.5.6): for a station that it gave the token or looks for, to answer,
-/// for an answer, and for the token.
+/// For how long of a silence a node on a bus waits (9.5.6): for a station that it gave the token or looks for, to
+/// answer, for an answer, and for the token.
 const ON_BUS: [u64; 4] = [
     T_USAGE_TIMEOUT_MS,
     T_REPLY_DELAY_MS,
@@ -151,8 +151,8 @@ fn to_bus_time<A: Allocator + Copy>(storm: &mut Storm, world: &World<A>) -> u64 
     beside(&mut storm.dice, due.saturating_sub(silence))
 }
 
-/// How many milliseconds pass next where there is a bus: few where something is on its way, else up to a time that a node
-/// waits for, and seldom up to a deadline.
+/// How many milliseconds pass next where there is a bus: few where something is on its way, else up to a time that a
+/// node waits for, and seldom up to a deadline.
 fn next_on_bus<A: Allocator + Copy>(storm: &mut Storm, world: &World<A>, is_moving: bool) -> Pass {
     let is_other = storm.dice.happens(storm.chances.reorder);
     if is_other && storm.dice.is_one_of(8) {
@@ -172,8 +172,8 @@ fn next_on_bus<A: Allocator + Copy>(storm: &mut Storm, world: &World<A>, is_movi
     }
 }
 
-/// How many milliseconds pass next: few where something is on its way, else up to a deadline, or where there is a bus, a
-/// time that a node waits for.
+/// How many milliseconds pass next: few where something is on its way, else up to a deadline, or where there is a bus,
+/// a time that a node waits for.
 pub(crate) fn next_tick<A: Allocator + Copy>(
     storm: &mut Storm,
     world: &World<A>,

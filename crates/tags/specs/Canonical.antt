@@ -5,7 +5,8 @@ use Rattle.tags.specs.declared.tag.Class.TheVariants.{Application, Context}
 use Rattle.tags.specs.declared.value.Value.{Value}
 use Rattle.tags.specs.declared.value.Value.TheVariants as value
 use Rattle.tags.specs.Number.{unsigned_octets, signed_octets, object_octets}
-use Rattle.tags.specs.Tag.{PlainContent, null, boolean, contents, opening, closing, initial_octets, LengthForm, in_initial, in_octet, in_two, in_four, length_bits, length_octets, HasContents}
+use Rattle.tags.specs.Tag.{PlainContent, null, boolean, contents, opening, closing, initial_octets, LengthForm}
+use Rattle.tags.specs.Tag.{in_initial, in_octet, in_two, in_four, length_bits, length_octets, HasContents}
 
 -- the shortest form that says a length (20.2.1.3.1)
 unfoldable pub shortest : ℕ → LengthForm

@@ -1,7 +1,9 @@
 -- The names and numbers of the refusals.
 use Rattle.std.specs.Prelude.{ℕ, List, codes}
 use Rattle.tags.specs.declared.fault.Fault.{Fault}
-use Rattle.tags.specs.declared.fault.Fault.TheVariants.{Memory, Short, BadTag, BadLength, BadVersion, TooLong, NoInvokeId, Unbound, NoRoute, TableFull, Expired, Forged, NoSuch, Wire, BadSite}
+use Rattle.tags.specs.declared.fault.Fault.TheVariants.{Memory, Short, BadTag, BadLength, BadVersion, TooLong}
+use Rattle.tags.specs.declared.fault.Fault.TheVariants.{NoInvokeId, Unbound, NoRoute, TableFull, Expired, Forged}
+use Rattle.tags.specs.declared.fault.Fault.TheVariants.{NoSuch, Wire, BadSite}
 
 -- the number that a refusal is printed with
 abbrev pub number_of : Fault → ℕ

@@ -2,7 +2,9 @@
 //! a law: its contract, for the proofs of the layers above.
 
 ghost use Rattle.std.specs.Prelude.{◌≡◌, ◌↔◌, IsTrue};
-ghost use Rattle.tags.specs.Laws.{OneTag, OneValue, OneList, TagIsSpelled, ValueIsSpelled, ListIsSpelled, TagIsShortest, ValueIsShortest, BuiltIsItself, TagReadsBack, ValueReadsBack, RefusesTagOnce, RefusesOnce};
+ghost use Rattle.tags.specs.Laws.{OneTag, OneValue, OneList, TagIsSpelled, ValueIsSpelled, ListIsSpelled};
+ghost use Rattle.tags.specs.Laws.{TagIsShortest, ValueIsShortest, BuiltIsItself, TagReadsBack, ValueReadsBack};
+ghost use Rattle.tags.specs.Laws.{RefusesTagOnce, RefusesOnce};
 
 use crate::value::Value;
 use std::alloc::Allocator;

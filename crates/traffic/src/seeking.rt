@@ -1,6 +1,7 @@
 //! Which item is meant, and which is to be delivered next.
 
-ghost use Rattle.std.specs.Prelude.{◌≡◌, ◌≤◌, Some, None, true, false, IfOk, IfErr, IfSome, OnOk, OnErr, length, slice_get};
+ghost use Rattle.std.specs.Prelude.{◌≡◌, ◌≤◌, Some, None, true, false, IfOk, IfErr, IfSome, OnOk, OnErr, length};
+ghost use Rattle.std.specs.Prelude.{slice_get};
 ghost use Rattle.traffic.specs.Seeking.{Waits, is_young};
 
 use crate::item::Item;
@@ -39,8 +40,8 @@ pub fn in_time<A: Allocator>(item: &Item<A>, now: u64) -> Result<(), Fault>
     }
 }
 
-/// The number of the first item that was put out at most so long ago that it may still be heard at the moment `now`: items
-/// stand in the order in which they were put out.
+/// The number of the first item that was put out at most so long ago that it may still be heard at the moment `now`:
+/// items stand in the order in which they were put out.
 fn first_young<A: Allocator>(items: &[Item<A>], now: u64) -> usize
     ensures bound { result ≤ length items.now }
 {

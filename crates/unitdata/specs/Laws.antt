@@ -29,8 +29,8 @@ pub record IsBrought (net : ℕ) (from : Mac) (octets : List ℕ) (h : Heard) : 
   pub sayer : h.station ≡ record { net = net; mac = from }
   pub contents : SpellsContent None octets h.content
 
--- what is said in a parcel brings a station of its own network that APDU, where it is for that network; where it is for a
--- station of another, it brings nothing here (6.2.2)
+-- what is said in a parcel brings a station of its own network that APDU, where it is for that network; where it is for
+-- a station of another, it brings nothing here (6.2.2)
 abbrev pub SpokenIsBrought : Type 0
 SpokenIsBrought = (net : ℕ) (mac : Mac) (s : Spoken) (h : Heard) → is_spelled s.way.destination ≡ true →
     Brings net mac (One s.way.to) (npdu_of s) h → (s.way.destination ≡ None) × IsBrought net mac s.apdu h

@@ -31,8 +31,8 @@ struct BoundSocket {
 /// How many datagrams a socket may bring in a row before the next one is asked first.
 const MAX_IN_ROW: u8 = 16;
 
-/// A wire of UDP (J.1.2) with one socket for each address of a site. No socket waits for a datagram, and each is asked in
-/// turn, once for so many datagrams of another: what comes to one alone is not sought at all others each time.
+/// A wire of UDP (J.1.2) with one socket for each address of a site. No socket waits for a datagram, and each is asked
+/// in turn, once for so many datagrams of another: what comes to one alone is not sought at all others each time.
 #[derive(Drop)]
 pub struct UdpWire<A: Allocator> {
     sockets: Vec<BoundSocket, A>,

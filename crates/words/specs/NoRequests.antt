@@ -10,7 +10,8 @@ use Rattle.primitives.specs.declared.plain_data.Request.TheVariants.{Read, ReadM
 use Rattle.primitives.specs.Sound.{IsSoundRequest}
 use Rattle.tags.specs.declared.object_id.ObjectId.{ObjectId}
 use Rattle.tags.specs.declared.value.Value.{Value}
-use Rattle.words.specs.Requests.{SaysValues, SaysReferences, SaysPlace, SaysRefs, SaysWrite, SaysObjectWrite, SaysBatch, SaysRequest, SaysMany, SaysGiven, SaysPriority}
+use Rattle.words.specs.Requests.{SaysValues, SaysReferences, SaysPlace, SaysRefs, SaysWrite, SaysObjectWrite, SaysBatch}
+use Rattle.words.specs.Requests.{SaysRequest, SaysMany, SaysGiven, SaysPriority}
 
 -- the words say no values
 pub record NoValues (A : Type 0) (words : List ℕ) : Type 0 where

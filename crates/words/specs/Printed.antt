@@ -1,5 +1,6 @@
 -- What is printed in words of octets, objects, values, requests and replies (the types of 20.2, the services of 15).
-use Rattle.std.specs.Prelude.{ℕ, ◌+◌, ◌/◌, ◌%◌, ◌==◌, nat_lt, if◌then◌else◌, Bool, true, false, List, [], ◌∷◌, ◌++◌, Option, None, Some, Result, Ok, Err, codes, flat_map}
+use Rattle.std.specs.Prelude.{ℕ, ◌+◌, ◌/◌, ◌%◌, ◌==◌, nat_lt, if◌then◌else◌, Bool, true, false, List, [], ◌∷◌, ◌++◌}
+use Rattle.std.specs.Prelude.{Option, None, Some, Result, Ok, Err, codes, flat_map}
 use Rattle.std.specs.Fmt.{decimal, signed_decimal}
 use Rattle.primitives.specs.Errors.{class_number, code_number}
 use Rattle.primitives.specs.declared.error.ErrorClass.{ErrorClass}
@@ -53,7 +54,8 @@ numbered_text n octets = decimal n ++ (codes " " ++ octets_text octets)
 
 -- a text of set 0, or of the set behind a slash (20.2.9)
 unfoldable pub text_text : ℕ → List ℕ → List ℕ
-text_text set octets = if set == 0 then codes "text " ++ octets_text octets else codes "text/" ++ numbered_text set octets
+text_text set octets =
+    if set == 0 then codes "text " ++ octets_text octets else codes "text/" ++ numbered_text set octets
 
 -- a value (20.2)
 unfoldable pub value_text : {A : Type 0} → Value A → List ℕ

@@ -9,7 +9,8 @@ use Rattle.primitives.specs.declared.plain_data.Request.TheVariants.{Read, ReadM
 use Rattle.tags.specs.declared.object_id.ObjectId.{ObjectId}
 use Rattle.tags.specs.declared.value.Value.{Value}
 use Rattle.words.specs.Marks.{first_part, other_parts, but_last_part, last_part}
-use Rattle.words.specs.Says.{Has, before, behind, space, IsOfKind, SaysUnsigned, SaysObject, SaysProperty, SaysReference, SaysValue}
+use Rattle.words.specs.Says.{Has, before, behind, space, IsOfKind, SaysUnsigned, SaysObject, SaysProperty}
+use Rattle.words.specs.Says.{SaysReference, SaysValue}
 
 -- the words say the elements one after another, each in front of what it leaves to the next
 abbrev pub SaysEach : {X : Type 0} → (List ℕ → Option (List ℕ)) → (List ℕ → X → Type 0) →

@@ -4,7 +4,8 @@ use Rattle.primitives.specs.declared.plain_data.PropertyReference.{PropertyRefer
 use Rattle.tags.specs.declared.object_id.ObjectId.{ObjectId}
 use Rattle.tags.specs.declared.value.Value.{Value}
 use Rattle.tags.specs.Value.{IsSound}
-use Rattle.words.specs.Says.{SaysUnsigned, SaysSigned, SaysBool, SaysObject, SaysReference, SaysNumbered, SaysSet, SaysValue}
+use Rattle.words.specs.Says.{SaysUnsigned, SaysSigned, SaysBool, SaysObject, SaysReference, SaysNumbered, SaysSet}
+use Rattle.words.specs.Says.{SaysValue}
 
 -- the word says no number of so many bits
 pub record NoUnsigned (bits : ℕ) (word : List ℕ) : Type 0 where

@@ -3,8 +3,13 @@
 
 ghost use Rattle.std.specs.Prelude.{◌≡◌, ◌⊎◌, ◌++◌, IfOk, IfErr, Some, None, codes, flat_map, option_map};
 ghost use Rattle.std.specs.Fmt.{WritesOnOk};
-ghost use Rattle.words.specs.Printed.{error_text, object_results_text, read_text, reply_text, result_text, results_text};
-ghost use Rattle.words.specs.Replies.{IsBracketed, NoBracketed, NoBrackets, NoEachResult, NoError, NoErrorReply, NoKind, NoNamedError, NoObjects, NoRefusal, NoReply, NoResult, NoResults, NoValuesRead, SaysBracketed, SaysEachResult, SaysError, SaysErrorReply, SaysKind, SaysNamedError, SaysObjects, SaysRefusal, SaysReply, SaysResult, SaysResults, SaysValuesRead};
+ghost use Rattle.words.specs.Printed.{error_text, object_results_text, read_text, reply_text, result_text};
+ghost use Rattle.words.specs.Printed.{results_text};
+ghost use Rattle.words.specs.Replies.{IsBracketed, NoBracketed, NoBrackets, NoEachResult, NoError, NoErrorReply};
+ghost use Rattle.words.specs.Replies.{NoKind, NoNamedError, NoObjects, NoRefusal, NoReply, NoResult, NoResults};
+ghost use Rattle.words.specs.Replies.{NoValuesRead, SaysBracketed, SaysEachResult, SaysError, SaysErrorReply, SaysKind};
+ghost use Rattle.words.specs.Replies.{SaysNamedError, SaysObjects, SaysRefusal, SaysReply, SaysResult, SaysResults};
+ghost use Rattle.words.specs.Replies.{SaysValuesRead};
 
 use crate::octets::parse_u32;
 use crate::parts::cut_first;

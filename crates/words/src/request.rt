@@ -1,14 +1,20 @@
 //! Requests: `read 5:1 85`, `write 45:1 85 signed 20 at 8`, `many 5:1 85,87/17 8:99 76`,
 //! `batch 45:1 85 signed 20 at 8; 45:1 28 text -; 5:1 85 null`.
 
-ghost use Rattle.std.specs.Prelude.{◌≡◌, ◌∷◌, ◌++◌, ◌⊎◌, ◌↔◌, [], Some, IfOk, IfErr, OnOk, IsTrue, codes, flat_map, length, option_map};
+ghost use Rattle.std.specs.Prelude.{◌≡◌, ◌∷◌, ◌++◌, ◌⊎◌, ◌↔◌, [], Some, IfOk, IfErr, OnOk, IsTrue, codes, flat_map};
+ghost use Rattle.std.specs.Prelude.{length, option_map};
 ghost use Rattle.std.specs.Fmt.{WritesOnOk};
 ghost use Rattle.std.specs.Bool.{MatchBool};
 ghost use Rattle.tags.specs.declared.object_id.ObjectId.{ObjectId};
 ghost use Rattle.primitives.specs.Sound.{IsSoundRequest};
-ghost use Rattle.words.specs.Printed.{batch_text, given_text, place_text, priority_text, reference_text, references_text, refs_text, request_text, write_text, writes_text};
-ghost use Rattle.words.specs.Requests.{AreGrouped, EndsElsewhere, EndsWith, SaysBatch, SaysObjectWrite, SaysPlace, SaysPriority, SaysMany, SaysReferences, SaysRefs, SaysRequest, SaysWrite, all_writes, other_refs};
-ghost use Rattle.words.specs.NoRequests.{HasSingleValues, HaveSingleValues, AreSingle, NoBatch, NoMany, NoObjectWrite, NoPlace, NoPriority, NoReferences, NoRefs, NoRequest, NoWrite, SaysSeveral, SaysUnspelled};
+ghost use Rattle.words.specs.Printed.{batch_text, given_text, place_text, priority_text, reference_text};
+ghost use Rattle.words.specs.Printed.{references_text, refs_text, request_text, write_text, writes_text};
+ghost use Rattle.words.specs.Requests.{AreGrouped, EndsElsewhere, EndsWith, SaysBatch, SaysObjectWrite, SaysPlace};
+ghost use Rattle.words.specs.Requests.{SaysPriority, SaysMany, SaysReferences, SaysRefs, SaysRequest, SaysWrite};
+ghost use Rattle.words.specs.Requests.{all_writes, other_refs};
+ghost use Rattle.words.specs.NoRequests.{HasSingleValues, HaveSingleValues, AreSingle, NoBatch, NoMany, NoObjectWrite};
+ghost use Rattle.words.specs.NoRequests.{NoPlace, NoPriority, NoReferences, NoRefs, NoRequest, NoWrite, SaysSeveral};
+ghost use Rattle.words.specs.NoRequests.{SaysUnspelled};
 
 use crate::octets::parse_u8;
 use crate::parts::{cut_first, cut_last};

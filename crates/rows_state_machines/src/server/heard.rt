@@ -1,9 +1,9 @@
 //! What comes of an input. `MOMENT from ADDRESS APDU` is an APDU that a station of network 1 says, `ADDRESS/LINK` one
 //! that another link address hands on; `MOMENT broadcast ..` came by a broadcast; `MOMENT wake`; `MOMENT restart`;
 //! `MOMENT each PLACE FIRST..LAST from ..` are APDUs with these numbers at that place of their octets, of which it is
-//! told how many were executed, and what came of the last. Besides `read REQUEST`, `moment`, `copy`, which goes on
-//! with the copy. Each allocation of an input is refused in turn: the same input then comes again. Behind each wake there
-//! is one more at the same moment, at which nothing may be due.
+//! told how many were executed, and what came of the last. Besides `read REQUEST`, `moment`, `copy`, which goes on with
+//! the copy. Each allocation of an input is refused in turn: the same input then comes again. Behind each wake there is
+//! one more at the same moment, at which nothing may be due.
 
 use crate::server::opened::{Served, executor};
 use crate::server::told::push_told;

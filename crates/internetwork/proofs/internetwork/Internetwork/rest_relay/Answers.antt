@@ -45,10 +45,10 @@ invariant_of-self g c =
     c.index_mut.result.now c.self.invariant.1.relays there in (
       c.self.invariant.0,
       relay_rested c.self.inside.moment c.self.inside.relays.items c.self.inside.chronicle.items.items c.args.place
-          c.index_mut.result.now c.wake_quietly.new.self there c.wake_quietly.ensures c.self.invariant.1,
+          c.index_mut.result.now c.wake_quietly.new.self there c.wake_quietly.ensures.wakes c.self.invariant.1,
       relay_rested_leads c.self.inside.moment c.self.inside.relays.items c.self.inside.stations.items c.args.place
           c.index_mut.result.now c.wake_quietly.new.self c.self.inside.directory c.self.inside.site.stations there
-          c.wake_quietly.ensures stands c.self.invariant.2,
+          c.wake_quietly.ensures.wakes stands c.self.invariant.2,
     )
 
 pub returns : goal.returns
@@ -58,5 +58,5 @@ returns g c = record {
       c.index_mut.result.now c.wake_quietly.new.self c.args.self.now
       (read_there c.self.inside.relays.items c.args.place c.requires.quiet.one c.index_mut.result.now
       (ap (λ (w : WorldState _). slice_get w.relays c.args.place) c.self.view_is ∙ c.requires.quiet.there)
-      c.index_mut.ensures.value) c.wake_quietly.ensures c.self.view_is;
+      c.index_mut.ensures.value) c.wake_quietly.ensures.wakes c.self.view_is;
 }

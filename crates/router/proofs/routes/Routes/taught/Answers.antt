@@ -1,10 +1,27 @@
-use Rattle.std.proofs.Common.{rules, ◌≡◌, sym, false}
-use Rattle.router.specs.Routes.{teaches}
-use Rattle.router.proofs.RouteLaws.{untaught}
+use Rattle.std.proofs.Common.{◌∙◌, inl, inr}
+use Rattle.std.proofs.lemmas.Result.{err_from_is_err_and}
+use Rattle.router.proofs.RouteLaws.{few_fits, many_overfull, news_teach}
 use Rattle.router.proofs.routes.Routes.taught.Goals as goal
 
--- nothing is taught
-pub returns-then-not-teaches-clause-taught : goal.returns-then-not-teaches-clause-taught
-returns-then-not-teaches-clause-taught g c =
-    let nothing : teaches c.args.ports.now c.args.contents.now ≡ false = search rules in
-    sym (untaught c.args.ports.now c.args.route c.args.contents.now c.args.self.now nothing)
+-- there are no more than a router knows
+pub returns-clause-fits : goal.returns-clause-fits
+returns-clause-fits g c = few_fits c.args.ports.now c.args.route c.args.contents.now c.args.self.now c.in_ok-routes.ensures.fits
+
+-- it teaches something
+pub returns-clause-copied : goal.returns-clause-copied
+returns-clause-copied g c =
+    news_teach c.args.ports.now c.args.route c.args.contents.now c.args.self.now
+    (λ same. absurd (cc (c.if-keeps.ensures.1 (rw c.self.view_is same))))
+
+-- they are too many
+pub returns-in_err-routes-clause-cause : goal.returns-in_err-routes-clause-cause
+returns-in_err-routes-clause-cause g c =
+    let p = err_from_is_err_and c.from_residual.result c.from_residual.ensures.1 in
+    rw (p.1) (elim c.in_err-routes.ensures.cause [
+      | inl memory ↦ inl (p.2 ∙ memory)
+      | inr full ↦ inr (
+        p.2 ∙ full.0,
+        many_overfull c.args.ports.now c.args.route c.args.contents.now c.args.self.now
+            (λ same. absurd (cc (c.if-keeps.ensures.1 (rw c.self.view_is same)))) full.1,
+      )
+    ])
