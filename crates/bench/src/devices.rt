@@ -1,7 +1,7 @@
 //! A device on BACnet/IP (ANSI/ASHRAE 135, clauses 5.4.5, 15.5 and 15.7): decoding a request, answering it, and what
 //! its objects take.
 
-use crate::clock::{Often, Work, print, told};
+use crate::clock::{Clock, Often, Work};
 use calls::{Answering, Reading, decode};
 use std::alloc::{AllocError, Allocator, Global};
 use std::io;
@@ -67,67 +67,40 @@ impl<A: Allocator + Copy> Work for Reads<A> {
     }
 }
 
-/// Times work, and prints what came of it or what it took.
-fn run_work<W: Work>(
-    rt: &HostRuntime,
-    has_times: bool,
-    name: &str,
-    unit: &str,
-    work: &mut W,
-) -> io::Result<()> {
-    let told = told(rt, has_times, OFTEN, unit, work)?;
-    print(rt, name, told.as_str())
-}
-
 /// Times the answer of a device of so many objects to a datagram each `gap` ms.
-fn run_answer(
-    rt: &HostRuntime,
-    has_times: bool,
-    name: &str,
-    datagram: &[u8],
-    gap: u64,
-) -> io::Result<()> {
-    match Answering::new(rt.alloc(), OBJECTS, datagram, gap) {
-        Ok(answering) => run_work(rt, has_times, name, "octets said", &mut Answers(answering)),
-        Err(_) => Err(io::Error::from(AllocError)),
-    }
+fn run_answer(clock: Clock<'_>, name: &str, datagram: &[u8], gap: u64) -> io::Result<()> {
+    let answering = Answering::new(clock.alloc(), OBJECTS, datagram, gap).map_err(|_| AllocError)?;
+    clock.tell(OFTEN, name, "octets said", &mut Answers(answering))
 }
 
 /// Times the reads of a table of so many objects.
-fn run_reads(rt: &HostRuntime, has_times: bool, objects: u16) -> io::Result<()> {
-    let name = format!(in rt.alloc(); "read of one of {objects} objects")?;
-    match Reading::new(rt.alloc(), objects) {
-        Ok(reading) => run_work(rt, has_times, name.as_str(), "values", &mut Reads(reading)),
-        Err(_) => Err(io::Error::from(AllocError)),
-    }
+fn run_reads(clock: Clock<'_>, objects: u16) -> io::Result<()> {
+    let name = format!(in clock.alloc(); "read of one of {objects} objects")?;
+    let reading = Reading::new(clock.alloc(), objects).map_err(|_| AllocError)?;
+    clock.tell(OFTEN, name.as_str(), "values", &mut Reads(reading))
 }
 
 /// Times decoding a datagram.
-fn run_decoding(rt: &HostRuntime, has_times: bool) -> io::Result<()> {
+fn run_decoding(clock: Clock<'_>) -> io::Result<()> {
     let mut decoding = Decoding {
-        alloc: rt.alloc(),
+        alloc: clock.alloc(),
         datagram: READ_PROPERTY,
     };
-    run_work(
-        rt,
-        has_times,
-        "ReadProperty decoded",
-        "in sum",
-        &mut decoding,
-    )
+    let name = "ReadProperty decoded";
+    clock.tell(OFTEN, name, "in sum", &mut decoding)
 }
 
 /// Times a device's calls, and prints them.
 ///
 /// # Errors
 /// Those of the clock and of printing, and want of memory.
-pub(crate) fn run(rt: &HostRuntime, has_times: bool) -> io::Result<()> {
-    run_decoding(rt, has_times)?;
-    run_answer(rt, has_times, "ReadProperty answered", &READ_PROPERTY, RARE)?;
+pub(crate) fn run(clock: Clock<'_>) -> io::Result<()> {
+    run_decoding(clock)?;
+    run_answer(clock, "ReadProperty answered", &READ_PROPERTY, RARE)?;
     let remembering = "ReadProperty answered, 64 remembered";
-    run_answer(rt, has_times, remembering, &READ_PROPERTY, DENSE)?;
+    run_answer(clock, remembering, &READ_PROPERTY, DENSE)?;
     let many = "ReadPropertyMultiple of fourteen answered";
-    run_answer(rt, has_times, many, &READ_MANY, RARE)?;
-    run_reads(rt, has_times, 8)?;
-    run_reads(rt, has_times, 512)
+    run_answer(clock, many, &READ_MANY, RARE)?;
+    run_reads(clock, 8)?;
+    run_reads(clock, 512)
 }

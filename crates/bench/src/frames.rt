@@ -1,6 +1,6 @@
 //! MS/TP frames (ANSI/ASHRAE 135, clause 9.3, Annex G): the check of data, and hearing a frame in pieces.
 
-use crate::clock::{Often, Work, print, told};
+use crate::clock::{Clock, Often, Work};
 use mstp_frame::{Deframer, Frame, FrameType, data_check, write_frame};
 use std::alloc::{AllocError, Global};
 use std::io;
@@ -94,29 +94,27 @@ impl Work for Hearing {
 }
 
 /// Times the check of data.
-fn run_check(rt: &HostRuntime, has_times: bool) -> io::Result<()> {
-    let mut checking = Checking(octets(rt.alloc())?);
-    let told = told(rt, has_times, OFTEN, "in sum", &mut checking)?;
-    let name = format!(in rt.alloc(); "data_check of {OCTETS} octets")?;
-    print(rt, name.as_str(), told.as_str())
+fn run_check(clock: Clock<'_>) -> io::Result<()> {
+    let mut checking = Checking(octets(clock.alloc())?);
+    let name = format!(in clock.alloc(); "data_check of {OCTETS} octets")?;
+    clock.tell(OFTEN, name.as_str(), "in sum", &mut checking)
 }
 
 /// Times hearing a frame in pieces of so many octets.
-fn run_hearing(rt: &HostRuntime, has_times: bool, piece: usize) -> io::Result<()> {
-    let mut hearing = Hearing::new(rt.alloc(), piece)?;
-    let told = told(rt, has_times, OFTEN, "octets heard", &mut hearing)?;
-    let name = format!(in rt.alloc(); "feed in pieces of {piece}")?;
-    print(rt, name.as_str(), told.as_str())
+fn run_hearing(clock: Clock<'_>, piece: usize) -> io::Result<()> {
+    let mut hearing = Hearing::new(clock.alloc(), piece)?;
+    let name = format!(in clock.alloc(); "feed in pieces of {piece}")?;
+    clock.tell(OFTEN, name.as_str(), "octets heard", &mut hearing)
 }
 
 /// Times the check of data, and hearing a frame.
 ///
 /// # Errors
 /// Those of the clock and of printing, and want of memory.
-pub(crate) fn run(rt: &HostRuntime, has_times: bool) -> io::Result<()> {
-    run_check(rt, has_times)?;
+pub(crate) fn run(clock: Clock<'_>) -> io::Result<()> {
+    run_check(clock)?;
     for piece in PIECES {
-        run_hearing(rt, has_times, piece)?;
+        run_hearing(clock, piece)?;
     }
     Ok(())
 }

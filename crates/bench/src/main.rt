@@ -5,19 +5,28 @@
 //!
 //! - `clock`: the time of a call.
 //! - `devices`: what a device decodes and answers.
+//! - `flows`: a ring on a bus, and chains of networks, that are left to themselves.
 //! - `frames`: the check of data, and hearing a frame, over 500 octets.
 //! - `managers`: what a broadcast manager forwards.
+//! - `parts`: the parts of sites.
 //! - `remembered_answers`: finding and executing, with 1, 8 and 64 remembered answers.
+//! - `requests`: the events of a request on one subnet, and through a router.
 //! - `sites`: judging a large site.
+//! - `worlds`: what is done in worlds.
 #![tactic(auto)]
 
 mod clock;
 mod devices;
+mod flows;
 mod frames;
 mod managers;
+mod parts;
 mod remembered_answers;
+mod requests;
 mod sites;
+mod worlds;
 
+use crate::clock::Clock;
 use std::{env, io};
 
 fn main(rt: HostRuntime) -> io::Result<()> {
@@ -26,9 +35,12 @@ fn main(rt: HostRuntime) -> io::Result<()> {
         .as_slice()
         .iter()
         .any(|word| word.as_str() == "--times");
-    remembered_answers::run(&rt, has_times)?;
-    frames::run(&rt, has_times)?;
-    managers::run(&rt, has_times)?;
-    devices::run(&rt, has_times)?;
-    sites::run(&rt, has_times)
+    let clock = Clock { rt: &rt, has_times };
+    remembered_answers::run(clock)?;
+    frames::run(clock)?;
+    managers::run(clock)?;
+    devices::run(clock)?;
+    sites::run(clock)?;
+    requests::run(clock)?;
+    flows::run(clock)
 }

@@ -1,6 +1,6 @@
 //! Broadcast managers of BACnet/IP (ANSI/ASHRAE 135, clause J.4.5): forwarding a broadcast to the members of a subnet.
 
-use crate::clock::{Often, Work, print, told};
+use crate::clock::{Clock, Often, Work};
 use bbmd::Bbmd;
 use bvll::Address;
 use std::alloc::{AllocError, Allocator};
@@ -81,9 +81,8 @@ impl<A: Allocator + Copy> Work for Forwarding<A> {
 ///
 /// # Errors
 /// Those of the clock and of printing, and want of memory.
-pub(crate) fn run(rt: &HostRuntime, has_times: bool) -> io::Result<()> {
-    let mut forwarding = Forwarding::new(rt.alloc())?;
-    let told = told(rt, has_times, OFTEN, "datagrams", &mut forwarding)?;
-    let name = format!(in rt.alloc(); "forwarded to {MEMBERS} members")?;
-    print(rt, name.as_str(), told.as_str())
+pub(crate) fn run(clock: Clock<'_>) -> io::Result<()> {
+    let mut forwarding = Forwarding::new(clock.alloc())?;
+    let name = format!(in clock.alloc(); "forwarded to {MEMBERS} members")?;
+    clock.tell(OFTEN, name.as_str(), "datagrams", &mut forwarding)
 }

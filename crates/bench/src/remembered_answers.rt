@@ -1,6 +1,6 @@
 //! Remembered answers (ANSI/ASHRAE 135, clause 5.4.5): finding one, and executing a request with so many there.
 
-use crate::clock::{Often, Work, print, told};
+use crate::clock::{Clock, Often, Work};
 use apdu::ConfirmedService;
 use npdu::{Mac, Station, Way};
 use objects::{SiteObjects, Table};
@@ -199,37 +199,28 @@ impl<R: Records<Global> + Form + Drop> Work for Executing<R> {
 }
 
 /// Times finding in a form, with so many records there.
-fn find_told<R: Records<Global> + Form + Drop>(
-    rt: &HostRuntime,
-    count: u8,
-    has_times: bool,
-) -> io::Result<String> {
-    let mut finding = Finding(Device::<R>::new(rt.alloc(), count)?);
-    told(rt, has_times, OFTEN, "found", &mut finding)
+fn find_told<R: Records<Global> + Form + Drop>(clock: Clock<'_>, count: u8) -> io::Result<String> {
+    let mut finding = Finding(Device::<R>::new(clock.alloc(), count)?);
+    clock.told(OFTEN, "found", &mut finding)
 }
 
 /// Times executing in a form, with so many records there.
 fn execute_told<R: Records<Global> + Form + Drop>(
-    rt: &HostRuntime,
+    clock: Clock<'_>,
     count: u8,
-    has_times: bool,
 ) -> io::Result<String> {
-    let mut executing = Executing(Device::<R>::new(rt.alloc(), count)?);
-    told(rt, has_times, OFTEN, "remembered", &mut executing)
+    let mut executing = Executing(Device::<R>::new(clock.alloc(), count)?);
+    clock.told(OFTEN, "remembered", &mut executing)
 }
 
 /// Times the calls of a form, and prints them.
-fn run_form<R: Records<Global> + Form + Drop>(
-    rt: &HostRuntime,
-    name: &str,
-    has_times: bool,
-) -> io::Result<()> {
+fn run_form<R: Records<Global> + Form + Drop>(clock: Clock<'_>, name: &str) -> io::Result<()> {
     for count in COUNTS {
-        let found = find_told::<R>(rt, count, has_times)?;
-        let executed = execute_told::<R>(rt, count, has_times)?;
-        let told = format!(in rt.alloc(); "find {found}, execute {executed}")?;
-        let name = format!(in rt.alloc(); "{name} {count}")?;
-        print(rt, name.as_str(), told.as_str())?;
+        let found = find_told::<R>(clock, count)?;
+        let executed = execute_told::<R>(clock, count)?;
+        let told = format!(in clock.alloc(); "find {found}, execute {executed}")?;
+        let name = format!(in clock.alloc(); "{name} {count}")?;
+        clock.print(name.as_str(), told.as_str())?;
     }
     Ok(())
 }
@@ -238,7 +229,7 @@ fn run_form<R: Records<Global> + Form + Drop>(
 ///
 /// # Errors
 /// Those of the clock and of printing, and want of memory.
-pub(crate) fn run(rt: &HostRuntime, has_times: bool) -> io::Result<()> {
-    run_form::<ListRecords<Global>>(rt, "list", has_times)?;
-    run_form::<SlabRecords<Global>>(rt, "keys", has_times)
+pub(crate) fn run(clock: Clock<'_>) -> io::Result<()> {
+    run_form::<ListRecords<Global>>(clock, "list")?;
+    run_form::<SlabRecords<Global>>(clock, "keys")
 }

@@ -15,7 +15,7 @@ use Rattle.link_site.specs.Port.{station_of, waiting_in}
 use Rattle.link_site.specs.Things.{thing_at}
 use Rattle.link_site.specs.declared.port.SitePort.{SitePort}
 use Rattle.plans.specs.relays.Laws.{SiteRelay}
-use Rattle.plans.specs.relays.declared.relay.Relay.TheVariants.{Router, Manager}
+use Rattle.plans.specs.relays.Relay.{relay_ports}
 use Rattle.site_parts.specs.declared.parts.Parts.{Parts}
 use Rattle.traffic.specs.declared.item.Item.{Item}
 
@@ -54,11 +54,6 @@ thing_of i = thing_at i.net i.from i.to i.octets i.stamp
 -- the parcels that wait in these ports, as things on their way (9.5.6)
 abbrev pub waits_in : {A : Type 0} → List (SitePort A) → List (Thing A)
 waits_in ports = flat_map (λ l. map (λ p. Waiting (station_of l).net p) (waiting_in l)) ports
-
--- the ports of a relay: a manager has none, since nothing of it waits
-abbrev pub relay_ports : {A : Type 0} → SiteRelay A → List (SitePort A)
-relay_ports (Router s) = s.ports
-relay_ports (Manager s) = []
 
 -- the frames that are known on these buses, as things on their way (9.3)
 abbrev pub frames_on : {A : Type 0} → List (BusState A) → List (Thing A)

@@ -44,7 +44,8 @@ module _ {A : Type 0} where
   none_put from among = record { each = λ s there. absurd (none_has there) }
 
   -- what is put out of a parcel carries that and nothing else
-  puts_it : (taken : Bool) (port : IpPortState A) (p : Parcel A) (s : Sent A) → length p.npdu ≤ max_npdu_at (station_of port).mac →
+  puts_it : (taken : Bool) (port : IpPortState A) (p : Parcel A) (s : Sent A) →
+      length p.npdu ≤ max_npdu_at (station_of port).mac →
       Has (put_out_if taken port p) (thing_of (station_of port) s) → Puts IsDatagramOf (station_of port).mac (p ∷ []) s
   puts_it true port p s fits there = record {
     only = (port_puts_out port.net _ (p ∷ []) p (thing_of (station_of port) s) (has 0 refl) fits there).bears;
@@ -56,7 +57,8 @@ module _ {A : Type 0} where
   carries_down now p old step new d = record {
     puts = record {
       each = λ s there. puts_it (is_taken old p) old p s d.fits
-          (subst (λ ts. Has ts (thing_of (station_of old) s)) d.puts (has_map (thing_of (station_of old)) step.out s there));
+          (subst (λ ts. Has ts (thing_of (station_of old) s)) d.puts
+          (has_map (thing_of (station_of old)) step.out s there));
     };
     kept = none_kept (p ∷ []);
     silent = d.silent;
@@ -73,7 +75,8 @@ module _ {A : Type 0} where
   is_carried from own stamp (forwarded origin npdu) p e = sym e
   is_carried from own stamp d p e = absurd (none_some p (sym e))
 
-  is_handed_up : (from own : Mac) (octets : List ℕ) (stamp : ℕ) (up : Option (Parcel A)) → IsHeard from own octets stamp up →
+  is_handed_up : (from own : Mac) (octets : List ℕ) (stamp : ℕ) (up : Option (Parcel A)) →
+      IsHeard from own octets stamp up →
       HandsUpIf IsDatagramOf from own octets stamp up
   is_handed_up from own octets stamp None h = tt
   is_handed_up (One from) own octets stamp (Some p) h = absurd (none_some p (sym h))
@@ -85,11 +88,14 @@ module _ {A : Type 0} where
       } in
       record { carried = carried; reaches = datagram_reaches 0 (Six from) own octets stamp p carried }
 
-  pub carries_up : (now : ℕ) (from : Mac) (octets : List ℕ) (stamp : ℕ) (old : IpPortState A) (step : LinkStep A) (new : IpPortState A) →
-      Hears now from octets stamp old step new → CarriesUp IsDatagramOf station_of moment_of waiting_in now from octets stamp old step new
+  pub carries_up : (now : ℕ) (from : Mac) (octets : List ℕ) (stamp : ℕ) (old : IpPortState A) (step : LinkStep A)
+      (new : IpPortState A) →
+      Hears now from octets stamp old step new →
+      CarriesUp IsDatagramOf station_of moment_of waiting_in now from octets stamp old step new
   carries_up now from octets stamp old step new h = record {
     up = is_handed_up from (station_of old).mac octets stamp step.up h.up;
-    puts = subst (λ out. PutAll IsDatagramOf (station_of old).mac [] out) (sym h.silent) (none_put (station_of old).mac []);
+    puts = subst (λ out. PutAll IsDatagramOf (station_of old).mac [] out) (sym h.silent)
+        (none_put (station_of old).mac []);
     kept = none_kept [];
     place = ap station_of h.left;
     at = ap moment_of h.left;
@@ -98,7 +104,8 @@ module _ {A : Type 0} where
   pub carries_on : (now : ℕ) (old : IpPortState A) (step : LinkStep A) (new : IpPortState A) →
       Idles now old step new → CarriesOn IsDatagramOf station_of moment_of waiting_in now old step new
   carries_on now old step new i = record {
-    puts = subst (λ (s : LinkStep A). PutAll IsDatagramOf (station_of old).mac [] s.out) (sym i.nothing) (none_put (station_of old).mac []);
+    puts = subst (λ (s : LinkStep A). PutAll IsDatagramOf (station_of old).mac [] s.out) (sym i.nothing)
+        (none_put (station_of old).mac []);
     kept = none_kept [];
     silent = ap (λ (s : LinkStep A). s.up) i.nothing;
     place = ap station_of i.left;
@@ -115,7 +122,8 @@ module _ {A : Type 0} where
   registration_puts port (Members others) now s there = absurd (none_has there)
   registration_puts port (Foreign manager seconds) now s there = ⊎_elim
       (λ (one : sent (mac_at manager) (register seconds) now ≡ s). record {
-        only = λ p carried. absurd (bears_none port.net now (station_of port).mac (mac_at manager) (register seconds) p refl
+        only = λ p carried. absurd (bears_none port.net now (station_of port).mac (mac_at manager)
+            (register seconds) p refl
             (subst (λ (x : Sent A). IsDatagramOf (station_of port).mac x.to x.octets x.stamp p) (sym one) carried));
       })
       (λ (more : Has [] s). absurd (none_has more))
@@ -131,13 +139,15 @@ module _ {A : Type 0} where
     at = ap moment_of r.left;
   }
 
-  pub forgets : (now : ℕ) (old : IpPortState A) → Restarts station_of moment_of (waiting_in {A = A}) now old (at_moment now old)
+  pub forgets : (now : ℕ) (old : IpPortState A) →
+      Restarts station_of moment_of (waiting_in {A = A}) now old (at_moment now old)
   forgets now old = record { place = refl; at = refl; none = refl }
 
   pub idles : (now : ℕ) (old : IpPortState A) (step : LinkStep A) (new : IpPortState A) → is_due now old ≡ false →
       Idles now old step new → (step ≡ nothing) × (new ≡ at_moment now old)
   idles now old step new none i = (i.nothing, i.left)
 
-  pub stays : (now : ℕ) (old : IpPortState A) → (station_of (at_moment now old) ≡ station_of old) × (moment_of (at_moment now old) ≡ now) ×
+  pub stays : (now : ℕ) (old : IpPortState A) →
+      (station_of (at_moment now old) ≡ station_of old) × (moment_of (at_moment now old) ≡ now) ×
       (waiting_in (at_moment now old) ≡ waiting_in old)
   stays now old = (refl, refl, refl)

@@ -10,7 +10,7 @@ use Rattle.relays.specs.declared.plan.RelayPlan.TheVariants as plan
 use Rattle.relays.specs.declared.relay.Relay.{Relay}
 use Rattle.relays.specs.declared.relay.Relay.TheVariants.{Router, Manager}
 
--- the ports of a relay, in order: a manager has none, since nothing of it waits (6.6, J.4)
+-- the ports in which parcels may wait, in order: the one place of a manager is none (6.6, J.4)
 abbrev pub relay_ports : {A L : Type 0} → Relay L A → List L
 relay_ports (Router s) = s.ports
 relay_ports (Manager s) = []

@@ -35,7 +35,7 @@ teaches ports [] = false
 teaches ports (a ∷ []) = false
 teaches ports (high ∷ low ∷ rest) = is_learnable ports (big_number 2 (high ∷ low ∷ [])) || teaches ports rest
 
--- a route to it may be learned, and isn't known yet
+-- a route to it may be learned, and isn't known yet (6.6.3.3)
 pub record IsNews (ports : List Station) (route : Route) (net : ℕ) (routes : List (ℕ × Route)) : Type 0 where
   pub learnable : is_learnable ports net ≡ true
   pub other : lookup (is_at (nat_cmp net)) routes ≢ Some route

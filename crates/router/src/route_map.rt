@@ -1,7 +1,5 @@
 //! Routes by their networks.
 
-ghost use Rattle.std.specs.Prelude.{◌≡◌, ◌↔◌, IsTrue};
-
 use crate::routes::Route;
 use std::alloc::{AllocError, Allocator};
 use std::marker::Model;
@@ -23,13 +21,6 @@ impl<A: Allocator> Model for RouteMap<A> {
     ghost view = { λ m. m.entries.items };
 
     ghost invariant = { λ m. AreSorted m.entries.items };
-}
-
-/// Whether two routes are one.
-fn is_same(a: Route, b: Route) -> bool
-    ensures { IsTrue result ↔ (a ≡ b) }
-{
-    a.port == b.port && a.next == b.next
 }
 
 impl<A: Allocator + Copy> RouteMap<A> {
@@ -58,7 +49,7 @@ impl<A: Allocator + Copy> RouteMap<A> {
         Ok(RouteMap { entries })
     }
 
-    /// They, in the order of their networks.
+    /// The routes, each behind its network, in the order of these.
     pub(crate) fn as_slice(&self) -> &[(u16, Route)]
         ensures { result.now ≡ self.now }
     {
@@ -89,7 +80,7 @@ impl<A: Allocator + Copy> RouteMap<A> {
         ensures kept { IsTrue result → insert_entry nat_cmp self.now net route ≡ self.now }
     {
         match self.get(net) {
-            Some(known) => is_same(known, route),
+            Some(known) => known == route,
             None => false,
         }
     }

@@ -19,5 +19,6 @@ fn main(rt: HostRuntime) -> io::Result<()> {
     run_folder::<rows_transactions::Transactions>(&rt, "transactions")?;
     run_folder::<rows_state_machines::Machines>(&rt, "state_machines")?;
     run_folder::<rows_endpoint::EndpointRows>(&rt, "endpoint")?;
-    run_folder::<rows_network::NetworkRows>(&rt, "network")
+    run_folder::<rows_network::NetworkRows>(&rt, "network")?;
+    run_folder::<rows_json::JsonRows>(&rt, "json")
 }

@@ -19,7 +19,7 @@ use tags::Fault;
 use words::parse_u64;
 
 /// The file of the rows.
-const FILE: &str = "runs.rows";
+const FILE: &str = "ladder/runs.rows";
 
 /// How many runs have an allocation refused at most.
 const MANY: u64 = 2000;
@@ -37,7 +37,7 @@ struct Run<'a> {
 ///
 /// # Errors
 /// Those of reading and of printing, and want of memory.
-pub(crate) fn run_file(rt: &HostRuntime) -> io::Result<()> {
+pub fn run_file(rt: &HostRuntime) -> io::Result<()> {
     let alloc = rt.alloc();
     let text = fs::read_to_string(rt, FILE)?;
     let mut counts = Report::new(alloc, FILE);
@@ -45,7 +45,7 @@ pub(crate) fn run_file(rt: &HostRuntime) -> io::Result<()> {
         let (front, steps) = row.asked.split_once(": ").unwrap_or((row.asked, ""));
         let (kind, words) = two_words(front);
         let (name, part) = two_words(words);
-        let file = format!(in alloc; "{name}.site")?;
+        let file = format!(in alloc; "ladder/{name}.site")?;
         let site = fs::read(rt, file.as_str())?;
         counts.add(row, run_row(alloc, kind, site.as_slice(), part, steps, row))?;
     }

@@ -64,5 +64,8 @@ fn main(rt: HostRuntime) -> io::Result<()> {
     as_json::run_objects(&rt)?;
     storms::run_storms(&rt)?;
     memory::run_file(&rt)?;
-    strays::run_file(&rt)
+    strays::run_file(&rt)?;
+    rows_search::run_file(&rt)?;
+    sheets::run_folder::<rows_ladder::LadderRows>(&rt, "ladder")?;
+    rows_ladder::run_file(&rt)
 }

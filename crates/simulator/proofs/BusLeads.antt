@@ -22,7 +22,7 @@ use Rattle.internetwork.specs.hosts.Stations.{WorldStation, clients_of, devices_
 use Rattle.internetwork.proofs.plans.Hosts.{Kept}
 use Rattle.internetwork.specs.Hearing.{Hears, HostIsTold, HostListens, HostTakes, IsTold, IsToldAs, Keeps, ListensAs, RelayIsTold, RelayTakes, TakesAs, TakesEach}
 use Rattle.internetwork.specs.Laws.{Stands}
-use Rattle.internetwork.specs.World.{WorldState, frames_on, relay_ports, thing_of, things_of, waits_in}
+use Rattle.internetwork.specs.World.{WorldState, frames_on, thing_of, things_of, waits_in}
 use Rattle.internetwork.specs.declared.listener.Listener.{Listener}
 use Rattle.internetwork.specs.declared.listener.Whom.{Whom}
 use Rattle.internetwork.specs.declared.listener.Whom.TheVariants.{Host, Relay}
@@ -40,6 +40,7 @@ use Rattle.npdu.specs.declared.parcel.Parcel.{Parcel}
 use Rattle.profile.specs.Times.{LIFE_MS}
 use Rattle.internetwork.proofs.relays.RelayLaws.{counting_relay_passes_on, relay_passes_frame_on, relay_stays_at_counting, relay_stays_at_frame}
 use Rattle.internetwork.specs.relays.Laws.{RelayStands, SiteRelay, site_places}
+use Rattle.internetwork.specs.relays.Relay.{relay_ports}
 use Rattle.internetwork.proofs.site_station.StationKeeping.{frame_keeps, octets_keep}
 use Rattle.internetwork.specs.site_station.Entity as entity
 use Rattle.internetwork.specs.site_station.declared.entity.EntityTold.{EntityTold}

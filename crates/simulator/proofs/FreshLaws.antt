@@ -15,6 +15,7 @@ use Rattle.npdu.specs.declared.mac.Station as npdu
 use Rattle.profile.specs.declared.link_kind.LinkKind.{LinkKind}
 use Rattle.profile.specs.declared.link_kind.LinkKind.TheVariants.{BacnetIp, MsTp}
 use Rattle.internetwork.specs.relays.Laws.{SiteRelay}
+use Rattle.internetwork.specs.relays.Relay.{relay_ports}
 use Rattle.site_parts.specs.declared.parts.Network.{Network}
 use Rattle.site_parts.specs.declared.parts.Station.{Station}
 use Rattle.site_parts.specs.declared.place.Foreign.{Foreign}
@@ -30,7 +31,7 @@ use Rattle.site_views.specs.Views.{host}
 use Rattle.site.specs.Sound.{IsSound}
 use Rattle.site_parts.specs.declared.parts.Parts.{Parts}
 use Rattle.simulator.specs.Laws.{IsLed}
-use Rattle.internetwork.specs.World.{frames_on, fresh_world, plain, relay_ports, things_of, waits_in}
+use Rattle.internetwork.specs.World.{frames_on, fresh_world, plain, things_of, waits_in}
 
 -- two lists that are nothing together are nothing
 both_none : {X : Type 0} (xs ys : List X) → xs ++ ys ≡ [] → (xs ≡ []) × (ys ≡ [])

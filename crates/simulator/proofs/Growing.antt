@@ -15,7 +15,7 @@ use Rattle.history.specs.Lists.{Has}
 use Rattle.internetwork.specs.hosts.Stations.{WorldStation}
 use Rattle.inside.specs.Inside.{HasInside}
 use Rattle.internetwork.proofs.plans.Hosts.{Kept}
-use Rattle.internetwork.specs.World.{WorldState, frames_on, relay_ports, thing_of, things_of, waits_in}
+use Rattle.internetwork.specs.World.{WorldState, frames_on, thing_of, things_of, waits_in}
 use Rattle.link.specs.declared.step.Sent.{Sent}
 use Rattle.link_ports.proofs.Keeping.{set_has}
 use Rattle.link_ports.specs.declared.ports.PortSent.{PortSent}
@@ -29,6 +29,7 @@ use Rattle.npdu.specs.declared.mac.Mac.TheVariants.{One, Six}
 use Rattle.npdu.specs.declared.mac.Station.{Station}
 use Rattle.npdu.specs.declared.parcel.Parcel.{Parcel}
 use Rattle.internetwork.specs.relays.Laws.{SiteRelay}
+use Rattle.internetwork.specs.relays.Relay.{relay_ports}
 use Rattle.traffic.specs.declared.frame.FramePut.{FramePut}
 use Rattle.traffic.specs.declared.item.Item.{Item}
 

@@ -21,6 +21,7 @@ use Rattle.npdu.specs.declared.parcel.Parcel.{Parcel}
 use Rattle.internetwork.proofs.relays.RelayLaws.{relay_passes_on, woken_relay_passes_on}
 use Rattle.internetwork.specs.relays.Finding.{place_from, place_of}
 use Rattle.internetwork.specs.relays.Laws.{IsMac, Passes, RelayStands, SiteRelay, Waits, WaitsAmong, site_places}
+use Rattle.internetwork.specs.relays.Relay.{relay_ports}
 use Rattle.internetwork.specs.relays.declared.relay.Relay.TheVariants.{Router, Manager}
 use Rattle.traffic.specs.declared.item.Item.{Item}
 use Rattle.simulator.proofs.ActLaws.{marked_same, plain_with}
@@ -29,7 +30,7 @@ use Rattle.internetwork.specs.Finding.{addressee_of}
 use Rattle.internetwork.specs.Laws.{Stands}
 use Rattle.internetwork.specs.Acting.{RelayActs}
 use Rattle.internetwork.specs.Step.{DeliversToRelay, RelayWakesUp, delivered}
-use Rattle.internetwork.specs.World.{WorldState, frames_on, relay_ports, thing_of, things_of}
+use Rattle.internetwork.specs.World.{WorldState, frames_on, thing_of, things_of}
 
 some_same : {X : Type 0} (x y : X) → Some x ≡ Some y → x ≡ y
 some_same x y e = cc

@@ -82,9 +82,14 @@ impl<'t> Row<'t> {
         }
     }
 
+    /// What stands under a key, if anything does.
+    fn value(self, key: &str) -> Option<&'t Value> {
+        self.table.get(key)
+    }
+
     /// The rows of an array of tables; none where it is missing.
     pub(crate) fn rows(self, key: &'t str) -> Result<&'t [Value], Stop<'t>> {
-        match self.table.get(key) {
+        match self.value(key) {
             Some(Value::Array(rows)) => Ok(rows.as_slice()),
             Some(_) => Err(self.refuse(key, KeyFault::OtherType)),
             None => Ok(&[]),
@@ -101,7 +106,7 @@ impl<'t> Row<'t> {
         let Value::Table(table) = value else {
             return Err(self.refuse(array, KeyFault::OtherType));
         };
-        let name = match table.get("name") {
+        let name = match Row::document(table).value("name") {
             Some(Value::String(name)) => Some(name.as_str()),
             _ => None,
         };
@@ -136,7 +141,7 @@ impl<'t> Row<'t> {
 
     /// Whether a key is there.
     pub(crate) fn has(self, key: &str) -> bool {
-        self.table.get(key).is_some()
+        self.value(key).is_some()
     }
 
     /// A number within a range, if there is one.
@@ -148,7 +153,7 @@ impl<'t> Row<'t> {
     where
         N::Error: Drop,
     {
-        let number = match self.table.get(key) {
+        let number = match self.value(key) {
             Some(Value::Integer(number)) => *number,
             Some(_) => return Err(self.refuse(key, KeyFault::OtherType)),
             None => return Ok(None),
@@ -177,7 +182,7 @@ impl<'t> Row<'t> {
 
     /// A text, if there is one.
     pub(crate) fn text(self, key: &'t str) -> Result<Option<&'t str>, Stop<'t>> {
-        match self.table.get(key) {
+        match self.value(key) {
             Some(Value::String(text)) => Ok(Some(text.as_str())),
             Some(_) => Err(self.refuse(key, KeyFault::OtherType)),
             None => Ok(None),
@@ -211,7 +216,7 @@ impl<'t> Row<'t> {
 
     /// A flag, if there is one.
     pub(crate) fn flag(self, key: &'t str) -> Result<Option<bool>, Stop<'t>> {
-        match self.table.get(key) {
+        match self.value(key) {
             Some(Value::Boolean(flag)) => Ok(Some(*flag)),
             Some(_) => Err(self.refuse(key, KeyFault::OtherType)),
             None => Ok(None),

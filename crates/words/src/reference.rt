@@ -6,6 +6,7 @@ ghost use Rattle.words.specs.Says.{Has, HasNo, SaysObject, SaysReference, colon}
 ghost use Rattle.words.specs.Unsaid.{NoObject, NoReference};
 
 use crate::octets::{parse_u16, parse_u32};
+use crate::parts::cut_at;
 use crate::shown::Words;
 use crate::unread::Unread;
 use primitives::PropertyReference;
@@ -23,7 +24,7 @@ pub fn parse_object(word: &str) -> Result<ObjectId, Unread>
     ensures cause { IfErr result (λ e. (HasNo colon word.now × (e ≡ Unread.Object)) ⊎
         (Has colon word.now × (e ≡ Unread.Number))) }
 {
-    let Some((object_type, instance)) = word.split_once(':') else {
+    let Some((object_type, instance)) = cut_at(word, ':') else {
         return Err(Unread::Object);
     };
     Ok(ObjectId {
@@ -54,7 +55,7 @@ pub fn parse_reference(word: &str) -> Result<PropertyReference, Unread>
     ensures read { IfOk result (SaysReference word.now) }
     ensures refused { IfErr result (λ e. (e ≡ Unread.Number) × NoReference word.now) }
 {
-    match word.split_once('/') {
+    match cut_at(word, '/') {
         Some((property, index)) => Ok(PropertyReference {
             property: parse_u32(property)?,
             index: Some(parse_u32(index)?),

@@ -12,7 +12,7 @@ ghost use Rattle.words.specs.Replies.{SaysNamedError, SaysObjects, SaysRefusal, 
 ghost use Rattle.words.specs.Replies.{SaysValuesRead};
 
 use crate::octets::parse_u32;
-use crate::parts::cut_first;
+use crate::parts::{cut_at, cut_first};
 use crate::reference::{parse_object, parse_reference};
 use crate::request::fmt_place;
 use crate::shown::Words;
@@ -76,7 +76,7 @@ fn class_and_code(words: &str) -> Result<(ErrorClass, ErrorCode), Unread>
     ensures read { IfOk result (λ e. SaysError words.now e.0 e.1) }
     ensures refused { IfErr result (λ e. NoError words.now) }
 {
-    let Some((class, code)) = words.split_once(' ') else {
+    let Some((class, code)) = cut_at(words, ' ') else {
         return Err(Unread::Reply);
     };
     let class = parse_u32(class)?;
@@ -104,7 +104,7 @@ fn named_error<A: Allocator>(front: &str, place: &str) -> Result<Reply<A>, Unrea
     ensures read { IfOk result (SaysNamedError front.now place.now) }
     ensures refused { IfErr result (λ e. NoNamedError A front.now place.now) }
 {
-    let Some((id, word)) = place.split_once(' ') else {
+    let Some((id, word)) = cut_at(place, ' ') else {
         return Err(Unread::Reply);
     };
     let (class, code) = class_and_code(front)?;

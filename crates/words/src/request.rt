@@ -17,7 +17,7 @@ ghost use Rattle.words.specs.NoRequests.{NoPlace, NoPriority, NoReferences, NoRe
 ghost use Rattle.words.specs.NoRequests.{SaysUnspelled};
 
 use crate::octets::parse_u8;
-use crate::parts::{cut_first, cut_last};
+use crate::parts::{cut_at, cut_first, cut_last};
 use crate::reference::{parse_object, parse_reference};
 use crate::shown::Words;
 use crate::unread::Unread;
@@ -60,7 +60,7 @@ pub fn parse_any_request<A: Allocator + Copy>(alloc: A, words: &str) -> Result<R
     ensures read { IfOk result (SaysRequest words.now) }
     ensures refused { IfErr result (λ e. (e ≡ Unread.Memory) ⊎ NoRequest A words.now) }
 {
-    let Some((verb, rest)) = words.split_once(' ') else {
+    let Some((verb, rest)) = cut_at(words, ' ') else {
         return Err(Unread::Request);
     };
     match verb {
@@ -127,7 +127,7 @@ fn place(words: &str) -> Result<(ObjectId, PropertyReference), Unread>
     ensures read { IfOk result (λ x. SaysPlace words.now x.0 x.1.property x.1.index) }
     ensures refused { IfErr result (λ e. NoPlace words.now) }
 {
-    let Some((id, place)) = words.split_once(' ') else {
+    let Some((id, place)) = cut_at(words, ' ') else {
         return Err(Unread::Request);
     };
     Ok((parse_object(id)?, parse_reference(place)?))
@@ -174,7 +174,7 @@ fn object_write<A: Allocator + Copy>(
     ensures read { IfOk result (SaysObjectWrite words.now) }
     ensures refused { IfErr result (λ e. (e ≡ Unread.Memory) ⊎ NoObjectWrite A words.now) }
 {
-    let Some((id, rest)) = words.split_once(' ') else {
+    let Some((id, rest)) = cut_at(words, ' ') else {
         return Err(Unread::Request);
     };
     Ok((parse_object(id)?, property_write(alloc, rest)?))
@@ -228,7 +228,7 @@ fn object_refs<A: Allocator + Copy>(
     ensures rest { IfOk result (λ x. option_map (λ w. w.now) x.1 ≡ other_refs words.entry.now) }
     ensures refused { IfErr result (λ e. (e ≡ Unread.Memory) ⊎ NoRefs A words.entry.now) }
 {
-    let Some((id, behind)) = words.split_once(' ') else {
+    let Some((id, behind)) = cut_at(words, ' ') else {
         parse_object(words)?;
         return Err(Unread::Reference);
     };

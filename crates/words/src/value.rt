@@ -11,7 +11,7 @@ ghost use Rattle.words.specs.NoRequests.{NoGiven, NoValues};
 ghost use Rattle.words.specs.Unsaid.{NoBool, NoNumbered, NoSet, NoValue, SaysUnsound};
 
 use crate::octets::{Hex, parse_i32, parse_octets, parse_u8, parse_u32};
-use crate::parts::cut_first;
+use crate::parts::{cut_at, cut_first};
 use crate::reference::parse_object;
 use crate::shown::Words;
 use crate::unread::Unread;
@@ -73,12 +73,12 @@ pub(crate) fn given_values<A: Allocator + Copy>(
 }
 
 /// The value that words say, with a spelling or without.
-#[tactic(auto, using(crate::proofs::Unsaid::value_laws))]
+#[tactic(auto, using(crate::proofs::Unsaid::no_text))]
 fn any_value<A: Allocator + Copy>(alloc: A, words: &str) -> Result<Value<A>, Unread>
     ensures read { IfOk result (SaysValue words.now) }
     ensures refused { IfErr result (λ e. (e ≡ Unread.Memory) ⊎ NoValue A words.now) }
 {
-    let Some((kind, rest)) = words.split_once(' ') else {
+    let Some((kind, rest)) = cut_at(words, ' ') else {
         return match words {
             "null" => Ok(Value::Null),
             _ => Err(Unread::Value),
@@ -124,7 +124,7 @@ fn set_of(kind: &str) -> Result<u8, Unread>
     ensures read { IfOk result (SaysSet kind.now) }
     ensures refused { IfErr result (λ e. NoSet kind.now) }
 {
-    match kind.split_once('/') {
+    match cut_at(kind, '/') {
         Some(("text", set)) => parse_u8(set),
         None if kind == "text" => Ok(0),
         _ => Err(Unread::Value),
@@ -137,7 +137,7 @@ fn numbered<A: Allocator + Copy>(alloc: A, words: &str) -> Result<(u8, Octets<A>
     ensures read { IfOk result (λ x. SaysNumbered words.now x.0 x.1) }
     ensures refused { IfErr result (λ e. (e ≡ Unread.Memory) ⊎ NoNumbered words.now) }
 {
-    let Some((number, word)) = words.split_once(' ') else {
+    let Some((number, word)) = cut_at(words, ' ') else {
         return Err(Unread::Value);
     };
     Ok((parse_u8(number)?, parse_octets(alloc, word)?))

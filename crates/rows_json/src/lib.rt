@@ -1,6 +1,4 @@
-//! The program `rows_json`: rows of text on which object of JSON (RFC 8259) each printed line becomes. It reads each
-//! file of its folder `data`, runs each row, and prints a line for each row that differs and one with the counts of
-//! each file.
+//! Rows on which object of JSON (RFC 8259) each printed line becomes. The program `rows` runs them.
 //!
 //! A row is `history LINE -> OBJECT`, `check LINE -> OBJECT` or `explain LINE -> OBJECT`. In `octets history OCTETS ->
 //! OBJECT / OBJECT` lines of any of the three stand as octets, and with `printed` in place of `octets` they are printed
@@ -12,12 +10,11 @@
 mod objects;
 
 use objects::{Way, kind_of, run};
-use sheets::{Bench, Counts, Given, Report, Row, Stop, octets, run_files, two_words};
+use sheets::{Bench, Counts, Given, Report, Row, Stop, octets, two_words};
 use std::alloc::AllocError;
-use std::io;
 
-/// What the rows of the program run on.
-struct JsonRows;
+/// What the rows of JSON run on.
+pub struct JsonRows;
 
 impl Bench for JsonRows {
     fn run(
@@ -49,8 +46,4 @@ fn run_octets(given: Given<'_>, way: Way, words: &str, wanted: &str) -> Result<C
     let (kind, word) = two_words(words);
     let lines = octets(given.alloc, word)?;
     run(given, way, kind_of(kind)?, lines.as_slice(), wanted)
-}
-
-fn main(rt: HostRuntime) -> io::Result<()> {
-    run_files::<JsonRows>(&rt)
 }

@@ -1,6 +1,5 @@
-//! The program `rows_ladder`: rows of text on ladders and reports of runs (ANSI/ASHRAE 135, clauses 5.4, 6, 9.3, 20.1
-//! and Annex J). It reads the files of its folder `data`, runs each row, and prints a line for each row that differs
-//! and one with the counts of each file.
+//! Rows on ladders and reports of runs (ANSI/ASHRAE 135, clauses 5.4, 6, 9.3, 20.1 and Annex J), in the folder
+//! `ladder`. The program `rows_sim` runs them.
 //!
 //! - `pictures`: pictures of lanes and rows that a row describes, and texts that are escaped.
 //! - `runs`: what is drawn of a script at a site, also where an allocation is refused.
@@ -13,12 +12,12 @@ mod nesting;
 mod pictures;
 mod runs;
 
+pub use runs::run_file;
 use sheets::{Bench, Counts, Given, Part, Report, Row, Stop, two_words};
 use std::alloc::AllocError;
-use std::io;
 
-/// What the rows of text run on.
-struct LadderRows;
+/// What the rows of pictures run on.
+pub struct LadderRows;
 
 impl Bench for LadderRows {
     fn run(
@@ -45,9 +44,4 @@ fn run_row(given: Given<'_>, row: &Row<'_>) -> Result<Counts, Stop> {
         "titles" => pictures::run_titles(given, words, wanted),
         _ => Err(Stop::Unread(Part::Asked)),
     }
-}
-
-fn main(rt: HostRuntime) -> io::Result<()> {
-    sheets::run_files::<LadderRows>(&rt)?;
-    runs::run_file(&rt)
 }
