@@ -14,6 +14,6 @@ mod laws;
 mod spreading;
 
 pub use bbmd_manager::{Bbmd, Outgoing};
-pub use bbmd_tables::{GRACE_SECONDS, ManagerTables, Registration};
+pub use bbmd_tables::{ManagerTables, Registration};
 pub use laws::{forwarded_stays, full_are_apart, goes_on};
 pub use spreading::{SiteTables, Subnet, reach, spread, two_subnets};

@@ -1,6 +1,6 @@
 -- What a broadcast manager says of a datagram, and what it then knows (J.4.5, J.5).
 use Rattle.std.specs.Prelude.{◌≡◌, ◌⊎◌, ℕ, nat_lt, Bool, true, false, ◌&&◌, cond}
-use Rattle.std.specs.Prelude.{List, [], ◌∷◌, ◌++◌, map, length, Option, Some, None}
+use Rattle.std.specs.Prelude.{List, [], ◌∷◌, ◌++◌, map, length, Option, Some, None, IsSome}
 use Rattle.bvll.specs.declared.address.Address.{Address}
 use Rattle.bvll.specs.declared.code.ResultCode.{ResultCode}
 use Rattle.bvll.specs.declared.code.ResultCode.TheVariants as code
@@ -151,6 +151,12 @@ pub record IsHeard {A : Type 0} (now : ℕ) (from : Address) (octets : List ℕ)
   pub fits : is_too_long (said_of now from old found) ≡ false
   pub says : out ≡ sent (said_of now from old found)
   pub leaves : new ≡ left_of now from old found
+
+-- the octets spell a datagram of which something is said: it isn't dropped
+pub record IsTaken (now : ℕ) (from : Address) (octets : List ℕ) (st : ManagerState) : Type 0 where
+  pub heard : Datagram
+  pub means : Spells octets heard
+  pub says : IsSome (said now from st heard)
 
 -- the octets spell what is too long to be forwarded
 pub record IsTooLong (now : ℕ) (from : Address) (octets : List ℕ) (st : ManagerState) : Type 0 where

@@ -1,12 +1,12 @@
 //! A broadcast manager (J.4.5, J.5).
 
-ghost use Rattle.std.specs.Prelude.{◌≡◌, ◌≤◌, ◌⊎◌, true, false, IfOk, IfErr, OnOk, OnErr, map};
+ghost use Rattle.std.specs.Prelude.{◌≡◌, ◌≤◌, ◌⊎◌, true, false, IfOk, IfErr, IsSome, OnOk, OnErr, map};
 ghost use Rattle.bvll.specs.Datagram as bvll;
 ghost use Rattle.bvll.specs.Datagram.{datagram_of};
 ghost use Rattle.profile.specs.Times.{MAX_MOMENT_MS};
 ghost use Rattle.bbmd_tables.specs.Tables.{has_few_peers, is_among, living, served, told, two_hops};
 ghost use Rattle.bbmd_manager.specs.State.{ManagerState, new_manager, woken};
-ghost use Rattle.bbmd_manager.specs.Manager.{IsCause, IsHeard, IsTooLong, back, carried_to, code_if, has_place};
+ghost use Rattle.bbmd_manager.specs.Manager.{IsCause, IsHeard, IsTaken, IsTooLong, back, carried_to, code_if, has_place};
 ghost use Rattle.bbmd_manager.specs.Manager.{is_too_long, left, result_back, said, sent};
 
 use crate::saying::{Outgoing, forward, say_to};
@@ -86,7 +86,8 @@ impl<A: Allocator + Copy> Bbmd<A> {
     }
 
     /// Hears a datagram from an address at the moment `now`, in milliseconds. Answers what is said of it, and to
-    /// whom, in order (J.2, J.4.5, J.5). Octets that spell no datagram of BACnet/IP are heard in silence.
+    /// whom, in order (J.2, J.4.5, J.5). Octets that spell no datagram of BACnet/IP are heard in silence. What is heard
+    /// in silence takes no memory, and is never refused.
     ///
     /// # Errors
     /// `TooLong` for an NPDU that would be forwarded and is longer than one may be on BACnet/IP, `Memory`. The manager
@@ -102,6 +103,7 @@ impl<A: Allocator + Copy> Bbmd<A> {
         ensures heard { IfOk result (λ out. IsHeard now from octets.now self.old self.new out) }
         ensures cause { IfErr result (λ e. (e ≡ Fault.Memory) ⊎
             ((e ≡ Fault.TooLong) × IsTooLong now from octets.now self.old)) }
+        ensures taken { OnErr result (IsTaken now from octets.now self.old) }
         ensures unchanged { OnErr result (self.new ≡ self.old) }
     {
         let Ok(heard) = Bvll::read(octets) else {
@@ -128,6 +130,7 @@ impl<A: Allocator + Copy> Bbmd<A> {
         ensures says { IfOk result (λ out. out ≡ sent (said now from self.now (datagram_of heard.now))) }
         ensures fits { OnOk result (is_too_long (said now from self.now (datagram_of heard.now)) ≡ false) }
         ensures cause { IfErr result (λ e. IsCause e (said now from self.now (datagram_of heard.now))) }
+        ensures taken { OnErr result (IsSome (said now from self.now (datagram_of heard.now))) }
     {
         match *heard {
             Bvll::OriginalBroadcastNpdu(npdu) => self.say_broadcast(from, npdu, now),
@@ -203,6 +206,7 @@ impl<A: Allocator + Copy> Bbmd<A> {
         ensures says { IfOk result (λ out. out ≡ sent (said now from self.now (bvll.broadcast npdu.now))) }
         ensures fits { OnOk result (is_too_long (said now from self.now (bvll.broadcast npdu.now)) ≡ false) }
         ensures cause { IfErr result (λ e. IsCause e (said now from self.now (bvll.broadcast npdu.now))) }
+        ensures taken { OnErr result (IsSome (said now from self.now (bvll.broadcast npdu.now))) }
     {
         match self.tables.broadcast_to(from, now)? {
             None => Ok(Items::new(self.alloc())),
@@ -221,6 +225,7 @@ impl<A: Allocator + Copy> Bbmd<A> {
         ensures says { IfOk result (λ out. out ≡ sent (said now from self.now (bvll.forwarded origin npdu.now))) }
         ensures fits { OnOk result (is_too_long (said now from self.now (bvll.forwarded origin npdu.now)) ≡ false) }
         ensures cause { IfErr result (λ e. IsCause e (said now from self.now (bvll.forwarded origin npdu.now))) }
+        ensures taken { OnErr result (IsSome (said now from self.now (bvll.forwarded origin npdu.now))) }
     {
         match self.tables.forwarded_to(from, now)? {
             None => Ok(Items::new(self.alloc())),
@@ -238,6 +243,7 @@ impl<A: Allocator + Copy> Bbmd<A> {
         ensures says { IfOk result (λ out. out ≡ sent (said now from self.now (bvll.distribute npdu.now))) }
         ensures fits { OnOk result (is_too_long (said now from self.now (bvll.distribute npdu.now)) ≡ false) }
         ensures cause { IfErr result (λ e. IsCause e (said now from self.now (bvll.distribute npdu.now))) }
+        ensures taken { OnErr result (IsSome (said now from self.now (bvll.distribute npdu.now))) }
     {
         match self.tables.distributed_to(from, now)? {
             None => {
@@ -313,6 +319,7 @@ impl<A: Allocator + Copy> Bbmd<A> {
     /// What is known behind a datagram. Where memory is wanted, it is as it was.
     fn change(&mut self, from: Address, heard: &Bvll<'_>, now: u64) -> Result<(), AllocError>
         ensures left { OnOk result (self.new ≡ left now from self.old (datagram_of heard.now)) }
+        ensures taken { OnErr result (IsSome (said now from self.old (datagram_of heard.now))) }
         ensures unchanged { OnErr result (self.new ≡ self.old) }
     {
         match *heard {

@@ -8,6 +8,7 @@ use Rattle.bvll.specs.declared.entry.DistributionEntry.{DistributionEntry}
 use Rattle.bvll.specs.declared.entry.ForeignDevice.{ForeignDevice}
 use Rattle.bbmd_tables.specs.declared.registration.Registration.{Registration}
 use Rattle.profile.specs.Limits.{MAX_FOREIGN_DEVICES, MAX_PEERS}
+use Rattle.profile.specs.Times.{GRACE_SECONDS}
 
 -- two addresses have the same octets and port (J.1.2)
 abbrev pub same_address : Address → Address → Bool
@@ -20,10 +21,6 @@ is_among a xs = list_any (λ x. same_address x a) xs
 -- these without that address
 abbrev pub others : Address → List Address → List Address
 others a xs = filter (λ x. not (same_address x a)) xs
-
--- how many seconds a registration lives on behind those that it asks for (J.5.2.3)
-abbrev pub GRACE_SECONDS : ℕ
-GRACE_SECONDS = 30
 
 -- how long a registration lives, in milliseconds: for its seconds and those of grace (J.5.2.3)
 abbrev pub life : Registration → ℕ

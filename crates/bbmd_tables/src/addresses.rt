@@ -20,6 +20,18 @@ pub fn is_among(address: Address, all: &[Address]) -> bool
     all.contains(&address)
 }
 
+/// Whether the address is one of these, and not that one.
+pub(crate) fn is_another(address: Address, without: Address, all: &[Address]) -> bool
+    ensures { result ≡ is_among address (others without all.now) }
+{
+    for other in all {
+        if !is_same(*other, without) && is_same(*other, address) {
+            return true;
+        }
+    }
+    false
+}
+
 /// Appends these addresses without that one.
 ///
 /// # Errors

@@ -1,9 +1,9 @@
 //! Whom a manager forwards a broadcast to (J.4.5).
 
-ghost use Rattle.std.specs.Prelude.{◌≡◌, ◌++◌, IfOk, option_map};
+ghost use Rattle.std.specs.Prelude.{◌≡◌, ◌++◌, true, IfOk, OnErr, option_map};
 ghost use Rattle.bbmd_tables.specs.Tables.{all_but, is_among, listed, members_of, others, peers_of, served};
 
-use crate::addresses::{append_other_devices, append_others, is_among};
+use crate::addresses::{append_other_devices, append_others, is_among, is_another};
 use crate::registration::served;
 use crate::tables::ManagerTables;
 use bvll::Address;
@@ -36,7 +36,7 @@ impl<A: Allocator + Copy> ManagerTables<A> {
     }
 
     /// To whom a broadcast goes that comes from one side of the manager, where it does: to those beyond, and to the
-    /// foreign devices that are served.
+    /// foreign devices that are served. It takes no memory where it doesn't.
     fn across(
         &self,
         from: Address,
@@ -44,11 +44,12 @@ impl<A: Allocator + Copy> ManagerTables<A> {
         beyond: &[Address],
         now: u64,
     ) -> Result<Option<Vec<Address, A>>, AllocError>
-        ensures { IfOk result (λ to. option_map (λ v. v.items) to ≡
+        ensures to { IfOk result (λ to. option_map (λ v. v.items) to ≡
             listed (is_among from (others self.now.own side.now))
             (others self.now.own beyond.now ++ served now self.now.foreign)) }
+        ensures side { OnErr result (is_among from (others self.now.own side.now) ≡ true) }
     {
-        if !is_among(from, self.without_itself(side)?.as_slice()) {
+        if !is_another(from, self.own, side) {
             return Ok(None);
         }
         Ok(Some(self.with_served(beyond, now)?))
@@ -58,14 +59,15 @@ impl<A: Allocator + Copy> ManagerTables<A> {
     /// managers and the foreign devices that are served (J.4.5).
     ///
     /// # Errors
-    /// Want of memory.
+    /// Want of memory, for the broadcast of a member alone.
     pub fn broadcast_to(
         &self,
         from: Address,
         now: u64,
     ) -> Result<Option<Vec<Address, A>>, AllocError>
-        ensures { IfOk result (λ to. option_map (λ v. v.items) to ≡
+        ensures to { IfOk result (λ to. option_map (λ v. v.items) to ≡
             listed (is_among from (members_of self.now)) (peers_of self.now ++ served now self.now.foreign)) }
+        ensures member { OnErr result (is_among from (members_of self.now) ≡ true) }
     {
         self.across(from, self.members.as_slice(), self.managers.as_slice(), now)
     }
@@ -74,14 +76,15 @@ impl<A: Allocator + Copy> ManagerTables<A> {
     /// to the members and the foreign devices that are served, whom no other manager says it to (J.4.5).
     ///
     /// # Errors
-    /// Want of memory.
+    /// Want of memory, for one from another manager alone.
     pub fn forwarded_to(
         &self,
         from: Address,
         now: u64,
     ) -> Result<Option<Vec<Address, A>>, AllocError>
-        ensures { IfOk result (λ to. option_map (λ v. v.items) to ≡
+        ensures to { IfOk result (λ to. option_map (λ v. v.items) to ≡
             listed (is_among from (peers_of self.now)) (members_of self.now ++ served now self.now.foreign)) }
+        ensures peer { OnErr result (is_among from (peers_of self.now) ≡ true) }
     {
         self.across(from, self.managers.as_slice(), self.members.as_slice(), now)
     }

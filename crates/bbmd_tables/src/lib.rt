@@ -19,5 +19,5 @@ mod registration;
 mod tables;
 
 pub use addresses::{append_others, is_among, is_same, or_nobody};
-pub use registration::{GRACE_SECONDS, Registration};
+pub use registration::Registration;
 pub use tables::ManagerTables;

@@ -6,12 +6,9 @@ ghost use Rattle.bbmd_tables.specs.Tables.{has_room, life, lives, living, second
 
 use crate::addresses::is_same;
 use bvll::{Address, ForeignDevice};
-use profile::MAX_FOREIGN_DEVICES;
+use profile::{GRACE_SECONDS, MAX_FOREIGN_DEVICES};
 use std::alloc::{AllocError, Allocator};
 use std::cmp::min;
-
-/// How many seconds a registration lives on behind those that it asks for (J.5.2.3).
-pub const GRACE_SECONDS: u64 = 30;
 
 /// A foreign device that is served, for so many seconds from a moment on, in milliseconds (J.5.2).
 #[derive(Clone, Copy, Debug, PartialEq, Eq)]

@@ -62,7 +62,9 @@ impl Hearing {
             data: data.as_slice(),
         };
         let mut octets = Vec::new(alloc);
-        if frame.data.len() > mstp_frame::MAX_DATA || write_frame(&frame, &mut octets).is_err() {
+        if frame.data.len() > profile::MAX_FRAME_DATA_OCTETS
+            || write_frame(&frame, &mut octets).is_err()
+        {
             return Err(io::Error::from(AllocError));
         }
         Ok(Hearing {

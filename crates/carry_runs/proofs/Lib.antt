@@ -4,3 +4,4 @@ pub mod Parcels
 pub mod Misnamed
 pub mod Crossing
 pub mod Distributing
+pub mod Illegal

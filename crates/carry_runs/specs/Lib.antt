@@ -1,2 +1,3 @@
 pub mod Crossing
 pub mod Distributing
+pub mod Illegal

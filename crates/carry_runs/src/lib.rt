@@ -5,6 +5,8 @@
 //!   executed once and answered; and no steps make what a router would that puts its outgoing network into SNET.
 //! - `specs/Distributing`: a client beyond its manager's subnet, and a device on that. A Who-Is goes through the
 //!   manager.
+//! - `specs/Illegal`: a history in which a device executes that the site doesn't have, and one of a world that lacks a
+//!   device, aren't legal.
 //! - `proofs/`: the steps of the runs (`Crossing`, `Distributing`), that what the router would make isn't carried
 //!   (`Misnamed`), and what they stand on: what ports and routers put out (`Puts`), the parcels (`Parcels`), where the
 //!   runs begin (`Fresh`).
@@ -12,6 +14,7 @@
 
 ghost use Rattle.carry_runs.specs.Crossing.{IsAnswered, NoneMisnames};
 ghost use Rattle.carry_runs.specs.Distributing.{IsForwarded};
+ghost use Rattle.carry_runs.specs.Illegal.{NoneIsMissing, NoneIsStrange};
 
 use std::alloc::Allocator;
 
@@ -28,4 +31,10 @@ pub fn a_manager_passes_a_broadcast_on<A: Allocator>()
 /// No list of steps makes what a router would that puts its outgoing network into SNET.
 pub fn no_router_misnames_a_network<A: Allocator>()
     ensures { NoneMisnames A }
+{}
+
+/// No history is legal in which what names no device of the site is executed, and none of a world that lacks a device.
+pub fn illegal_histories_are_refused<A: Allocator>()
+    ensures strange { NoneIsStrange A }
+    ensures missing { NoneIsMissing A }
 {}

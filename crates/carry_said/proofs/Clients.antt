@@ -27,9 +27,9 @@ use Rattle.npdu.specs.declared.mac.Way.{Way}
 use Rattle.npdu.specs.declared.parcel.Parcel.{Parcel}
 use Rattle.unitdata.specs.Hearing.{HeardContent, refuses, says}
 use Rattle.unitdata.specs.Laws.{announced_inside, spoken_inside}
-use Rattle.carry_said.specs.Laws.{ClientAsksSaid, ClientHearingHasInsides, ClientIssuesSaid, ClientSaysSaid, ClientSaysSomething, WhoIsSaysSomething}
-use Rattle.carry_said.specs.Said.{CarriesSaid, HasInsides, IsSaid, ObjectBook}
-use Rattle.carry_said.proofs.Parcels.{all_insides, announced_carries, announced_something, led_covers, spoken_carries, spoken_something}
+use Rattle.carry_said.specs.Laws.{ClientAsksSaid, ClientHearingSays, ClientIssuesSaid, ClientSaysSaid, ClientSaysSomething, WhoIsSaysSomething}
+use Rattle.carry_said.specs.Said.{CarriesSaid, IsSaid, IsSayingEach, ObjectBook}
+use Rattle.carry_said.proofs.Parcels.{announced_carries, announced_something, led_covers, saying_each, spoken_carries, spoken_something}
 
 module _ {A : Type 0} (own : Station → MaxApdu) (b : ObjectBook A) (now : ℕ) (c : ClientState A) where
   one_said : (x : ClientSaid A) → CanWrite x → Has b.said (message_of own (station_of c) now x) →
@@ -89,14 +89,14 @@ who_is_says_something now c limits = announced_something c.net c.mac now (servic
 
 -- so it is where it hears something
 module _ {A : Type 0} (now : ℕ) (c next : ClientState A) (told : ClientTold A) where
-  is_silent : told ≡ silence → HasInsides c.net told.said
-  is_silent e = all_insides c.net told.said (λ p there. absurd (none_has (subst (λ (t : ClientTold A). Has t.said p) e there)))
+  is_silent : told ≡ silence → IsSayingEach (station_of c) now told.said
+  is_silent e = saying_each (station_of c) now told.said (λ p there. absurd (none_has (subst (λ (t : ClientTold A). Has t.said p) e there)))
 
-  by_transacting : (from : Station) (a : PlainApdu) → Transacts now from a c told next → HasInsides c.net told.said
-  by_transacting from a k = all_insides c.net told.said
+  by_transacting : (from : Station) (a : PlainApdu) → Transacts now from a c told next → IsSayingEach (station_of c) now told.said
+  by_transacting from a k = saying_each (station_of c) now told.said
       (λ p there. client_says_something now c k.tsm_told.said p (subst (λ (t : ClientTold A). Has t.said p) k.told_is there))
 
-  client_content : (from : Station) (way : Way) (x : HeardContent) → Does now from way x c told next → HasInsides c.net told.said
+  client_content : (from : Station) (way : Way) (x : HeardContent) → Does now from way x c told next → IsSayingEach (station_of c) now told.said
   client_content from way (says (unconfirmed service octets)) k = is_silent k.holds.silent
   client_content from way (says (confirmed segment accepted segments size invoke service octets)) k = by_transacting from _ k
   client_content from way (says (simple_ack invoke service)) k = by_transacting from _ k
@@ -107,6 +107,6 @@ module _ {A : Type 0} (now : ℕ) (c next : ClientState A) (told : ClientTold A)
   client_content from way (says (abort_pdu server invoke reason)) k = by_transacting from _ k
   client_content from way (refuses rejected) k = is_silent k.silent
 
-pub client_hearing_has_insides : {A : Type 0} → ClientHearingHasInsides A
-client_hearing_has_insides now from to npdu c next told (inl h) = client_content now c next told h.heard.station h.heard.way h.heard.content h.does
-client_hearing_has_insides now from to npdu c next told (inr drops) = is_silent now c next told drops.silent
+pub client_hearing_says : {A : Type 0} → ClientHearingSays A
+client_hearing_says now from to npdu c next told (inl h) = client_content now c next told h.heard.station h.heard.way h.heard.content h.does
+client_hearing_says now from to npdu c next told (inr drops) = is_silent now c next told drops.silent

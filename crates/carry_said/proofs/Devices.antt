@@ -29,9 +29,9 @@ use Rattle.headline_site.specs.server_answers.declared.said.ServerSaid.{ServerSa
 use Rattle.headline_site.specs.server_tsm.Server.{ServerTsmState}
 use Rattle.unitdata.specs.Hearing.{HeardContent, refuses, says}
 use Rattle.unitdata.specs.Laws.{announced_inside, spoken_inside}
-use Rattle.carry_said.specs.Laws.{DeviceHearingHasInsides, DeviceSaysSaid, DeviceSaysSomething}
-use Rattle.carry_said.specs.Said.{CarriesSaid, HasInsides, HasSomething, IsSaid}
-use Rattle.carry_said.proofs.Parcels.{all_insides, announced_carries, announced_something, led_covers, spoken_carries, spoken_something}
+use Rattle.carry_said.specs.Laws.{DeviceHearingSays, DeviceSaysSaid, DeviceSaysSomething}
+use Rattle.carry_said.specs.Said.{CarriesSaid, IsSaid, IsSaying, IsSayingEach}
+use Rattle.carry_said.proofs.Parcels.{announced_carries, announced_something, led_covers, saying_each, spoken_carries, spoken_something}
 
 most_taken : (m : MaxApdu) → apdu_taken m < 2 ^ 32
 most_taken UpTo50 = omega arith
@@ -85,7 +85,7 @@ device_says_something now d (serves told left) p there =
     let found = flat_has (parcel_of now d.mac) told.said p there in
     spoken_something d.net d.mac now (spoken_of found.0) p found.2
 device_says_something {A} now d announces p there = ⊎_elim
-    (λ (same : i_am_parcel now d.mac (i_am_of d) ≡ p). subst (λ (z : Parcel A). HasSomething d.net z) same
+    (λ (same : i_am_parcel now d.mac (i_am_of d) ≡ p). subst (λ (z : Parcel A). IsSaying (station_of d) now z) same
     (announced_something d.net d.mac now (service_number kind.IAm) (i_am_octets (i_am_of d))))
     (λ (more : Has [] p). absurd (none_has more))
     (has_cons (i_am_parcel now d.mac (i_am_of d)) [] there)
@@ -93,18 +93,18 @@ device_says_something now d idles p there = absurd (none_has there)
 
 -- so it is where it hears something
 module _ {A : Type 0} (now : ℕ) (d left : DeviceState A) (told : DeviceTold A) where
-  by_deed : (deed : Deed A) → told ≡ told_of_deed now d deed → HasInsides d.net told.said
-  by_deed deed e = all_insides d.net told.said
+  by_deed : (deed : Deed A) → told ≡ told_of_deed now d deed → IsSayingEach (station_of d) now told.said
+  by_deed deed e = saying_each (station_of d) now told.said
       (λ p there. device_says_something now d deed p (subst (λ (t : DeviceTold A). Has t.said p) e there))
 
-  by_serving : (from : Origin) (a : PlainApdu) → Serves now from a d told left → HasInsides d.net told.said
+  by_serving : (from : Origin) (a : PlainApdu) → Serves now from a d told left → IsSayingEach (station_of d) now told.said
   by_serving from a k = by_deed (serves k.server_told k.left) k.told_is
 
-  by_asking : (service : ℕ) (octets : List ℕ) → AnswersWho now d service octets told → HasInsides d.net told.said
+  by_asking : (service : ℕ) (octets : List ℕ) → AnswersWho now d service octets told → IsSayingEach (station_of d) now told.said
   by_asking service octets (inl asks) = by_deed announces asks.1
   by_asking service octets (inr other) = by_deed idles other.1
 
-  by_content : (from : Origin) (c : HeardContent) → Does now from c d told left → HasInsides d.net told.said
+  by_content : (from : Origin) (c : HeardContent) → Does now from c d told left → IsSayingEach (station_of d) now told.said
   by_content from (says (unconfirmed service octets)) k = by_asking service octets k.0
   by_content from (says (confirmed segment accepted segments size invoke service octets)) k = by_serving from _ k
   by_content from (says (simple_ack invoke service)) k = by_serving from _ k
@@ -115,6 +115,6 @@ module _ {A : Type 0} (now : ℕ) (d left : DeviceState A) (told : DeviceTold A)
   by_content from (says (abort_pdu server invoke reason)) k = by_serving from _ k
   by_content from (refuses rejected) k = by_deed idles k.0
 
-pub device_hearing_has_insides : {A : Type 0} → DeviceHearingHasInsides A
-device_hearing_has_insides now from to npdu d left told (inl h) = by_content now d left told (origin_of h.heard) h.heard.content h.does
-device_hearing_has_insides now from to npdu d left told (inr drops) = by_deed now d left told idles drops.silent
+pub device_hearing_says : {A : Type 0} → DeviceHearingSays A
+device_hearing_says now from to npdu d left told (inl h) = by_content now d left told (origin_of h.heard) h.heard.content h.does
+device_hearing_says now from to npdu d left told (inr drops) = by_deed now d left told idles drops.silent

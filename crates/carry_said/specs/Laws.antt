@@ -34,7 +34,7 @@ use Rattle.npdu.specs.declared.parcel.Parcel.{Parcel}
 use Rattle.primitives.specs.declared.plain_data.Request.{Request}
 use Rattle.profile.specs.Times.{LIFE_MS}
 use Rattle.unitdata.specs.Hearing.{Brings, Heard, says}
-use Rattle.carry_said.specs.Said.{CarriesSaid, HasInsides, HasSomething, IsAmong, IsSaid, ObjectBook, WasSaid}
+use Rattle.carry_said.specs.Said.{CarriesSaid, IsAmong, IsSaid, IsSaying, IsSayingEach, ObjectBook, WasSaid}
 
 -- what was said stays said, whatever is said later
 abbrev pub SaidStill : Type 0 → Type 0
@@ -85,27 +85,29 @@ abbrev pub HeardWasSaid : Type 0 → Type 0
 HeardWasSaid A = (l : List Said) (net : ℕ) (p : Parcel A) (h : Heard) (a : PlainApdu) → IsAmong l net p →
     Brings net p.from p.to p.npdu h → h.content ≡ says a → WasSaid l net p h a
 
--- there is something inside each parcel that a device says, whatever it does
+-- a device says something in each of its parcels, whatever it does
 abbrev pub DeviceSaysSomething : Type 0 → Type 0
 DeviceSaysSomething A = (now : ℕ) (d : DeviceState A) (deed : Deed A) (p : Parcel A) →
-    Has (told_of_deed now d deed).said p → HasSomething d.net p
+    Has (told_of_deed now d deed).said p → IsSaying (devices.station_of d) now p
 
--- there is something inside each parcel that a client says
+-- a client says something in each of its parcels
 abbrev pub ClientSaysSomething : Type 0 → Type 0
 ClientSaysSomething A = (now : ℕ) (c : ClientState A) (says : List (ClientSaid A)) (p : Parcel A) →
-    Has (client.parcels_of now c.mac says) p → HasSomething c.net p
+    Has (client.parcels_of now c.mac says) p → IsSaying (clients.station_of c) now p
 
--- there is something inside a Who-Is
+-- it says something in a Who-Is
 abbrev pub WhoIsSaysSomething : Type 0 → Type 0
 WhoIsSaysSomething A = (now : ℕ) (c : ClientState A) (limits : Option Limits) →
-    HasSomething {A = A} c.net (client.who_is_parcel now c.mac limits)
+    IsSaying {A = A} (clients.station_of c) now (client.who_is_parcel now c.mac limits)
 
--- there is something inside each parcel that a device says where it hears something
-abbrev pub DeviceHearingHasInsides : Type 0 → Type 0
-DeviceHearingHasInsides A = (now : ℕ) (from : Mac) (to : Target) (npdu : List ℕ) (d left : DeviceState A)
-    (told : DeviceTold A) → DeviceHears now from to npdu d told left → HasInsides d.net told.said
+-- a device says something in each parcel where it hears something
+abbrev pub DeviceHearingSays : Type 0 → Type 0
+DeviceHearingSays A = (now : ℕ) (from : Mac) (to : Target) (npdu : List ℕ) (d left : DeviceState A)
+    (told : DeviceTold A) → DeviceHears now from to npdu d told left →
+    IsSayingEach (devices.station_of d) now told.said
 
--- there is something inside each parcel that a client says where it hears something
-abbrev pub ClientHearingHasInsides : Type 0 → Type 0
-ClientHearingHasInsides A = (now : ℕ) (from : Mac) (to : Target) (npdu : List ℕ) (c next : ClientState A)
-    (told : ClientTold A) → ClientHears now from to npdu c told next → HasInsides c.net told.said
+-- so does a client
+abbrev pub ClientHearingSays : Type 0 → Type 0
+ClientHearingSays A = (now : ℕ) (from : Mac) (to : Target) (npdu : List ℕ) (c next : ClientState A)
+    (told : ClientTold A) → ClientHears now from to npdu c told next →
+    IsSayingEach (clients.station_of c) now told.said

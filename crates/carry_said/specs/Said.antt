@@ -1,5 +1,6 @@
 -- What is inside a message was said: it stands in the book.
 use Rattle.std.specs.Prelude.{◌≡◌, ℕ, List}
+use Rattle.std.specs.List.{AllByRecursion}
 use Rattle.apdu.specs.Apdu.{PlainApdu, Spells}
 use Rattle.apdu.specs.declared.sizes.MaxApdu.{MaxApdu}
 use Rattle.headline.specs.Honest as honest
@@ -43,6 +44,17 @@ pub record HasSomething {A : Type 0} (net : ℕ) (p : Parcel A) : Type 0 where
 pub record HasInsides {A : Type 0} (net : ℕ) (ps : List (Parcel A)) : Type 0 where
   pub said : List inside.Said
   pub are : AreInside net ps said
+
+-- a station says something in this parcel at this moment: it is the source of whatever is inside (6.2.2)
+pub record IsSaying {A : Type 0} (x : Station) (now : ℕ) (p : Parcel A) : Type 0 where
+  pub something : HasSomething x.net p
+  pub source : (i : Inside) → HasInside x.net p.from p.to p.npdu i → i.source ≡ x
+  pub stamp : p.stamp ≡ now
+
+-- it says something in each of these
+pub record IsSayingEach {A : Type 0} (x : Station) (now : ℕ) (ps : List (Parcel A)) : Type 0 where
+  pub insides : HasInsides x.net ps
+  pub each : AllByRecursion (IsSaying x now) ps
 
 -- whatever is inside a parcel on a network is among what was said, with its stamp
 pub record IsAmong {A : Type 0} (l : List Said) (net : ℕ) (p : Parcel A) : Type 0 where

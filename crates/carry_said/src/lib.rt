@@ -9,8 +9,8 @@
 //! - `Laws`: what the functions here state.
 #![tactic(auto)]
 
-ghost use Rattle.carry_said.specs.Laws.{ClientAsksSaid, ClientHearingHasInsides, ClientHearsSaid, ClientIssuesSaid};
-ghost use Rattle.carry_said.specs.Laws.{ClientSaysSaid, ClientSaysSomething, DeviceHearingHasInsides, DeviceHearsSaid};
+ghost use Rattle.carry_said.specs.Laws.{ClientAsksSaid, ClientHearingSays, ClientHearsSaid, ClientIssuesSaid};
+ghost use Rattle.carry_said.specs.Laws.{ClientSaysSaid, ClientSaysSomething, DeviceHearingSays, DeviceHearsSaid};
 ghost use Rattle.carry_said.specs.Laws.{DeviceSaysSaid, DeviceSaysSomething, HeardWasSaid, SaidStill};
 ghost use Rattle.carry_said.specs.Laws.{WhoIsSaysSomething};
 
@@ -41,11 +41,11 @@ pub fn client_says<A: Allocator>()
     ensures asks { ClientAsksSaid A }
 {}
 
-/// There is something inside each parcel that is said.
+/// There is something inside each parcel that is said, and who says it is its source.
 pub fn says_something<A: Allocator>()
     ensures device { DeviceSaysSomething A }
     ensures client { ClientSaysSomething A }
     ensures asks { WhoIsSaysSomething A }
-    ensures device_hears { DeviceHearingHasInsides A }
-    ensures client_hears { ClientHearingHasInsides A }
+    ensures device_hears { DeviceHearingSays A }
+    ensures client_hears { ClientHearingSays A }
 {}

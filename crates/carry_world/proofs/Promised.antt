@@ -2,6 +2,7 @@
 use Rattle.std.proofs.Common.{◌≡◌, ◌∙◌, refl, sym, ap, subst, ℕ, List, [], ◌∷◌, ◌++◌, Option, Some}
 use Rattle.carry.specs.Things.{AreCarried, Thing}
 use Rattle.carry_said.specs.client.Client.{ClientState}
+use Rattle.carry_said.specs.client_tsm.Waking.{woken}
 use Rattle.carry_said.specs.client_tsm.declared.plan.TransactionOutcome.{TransactionOutcome}
 use Rattle.carry_said.specs.headline_site.headline.Happenings.{Fails, Gives, Outcome}
 use Rattle.carry_said.specs.headline_site.headline.Promised.{IsExecutedReply}
@@ -14,25 +15,39 @@ use Rattle.carry_said.specs.headline_site.headline_client.Safe as client_side
 use Rattle.carry_said.specs.headline_site.headline_client.Told.{outcome_of}
 use Rattle.carry_said.specs.headline_site.headline_device.Devices.{IsDevice, station_of}
 use Rattle.carry_said.proofs.headline_site.Hearings.{hearing_executes_issued, hearing_is_whole_issue, hearing_tells_of_issues}
+use Rattle.carry_said.proofs.headline_site.Outcomes.{woken_at}
 use Rattle.carry_said.proofs.headline_site.Reached as headline_at
 use Rattle.carry_said.proofs.headline_site.Reached.{after_issue_at, answered_at, closed_at, numbered_at, reached_by, tables_left_at}
 use Rattle.carry_said.specs.headline_site.AllStations.{AllStations}
 use Rattle.carry_said.specs.headline_site.Laws as headline_site
 use Rattle.carry_said.specs.headline_site.Laws.{IsReached}
+use Rattle.history.specs.Legal.{AnswersWereExecuted, AreClosedOnce, AreExecutedOnce, AreNumbered, IsWhatExecutionsLeave, StandAfterIssue}
 use Rattle.history.specs.Lists.{Has}
+use Rattle.services.specs.Asked.{left_by, replied}
+use Rattle.std.specs.List.{AllByRecursion}
 use Rattle.history.specs.declared.Entry.TheVariants.{Issue}
 use Rattle.inside.specs.Inside.{Said}
 use Rattle.npdu.specs.declared.mac.Mac.{Mac}
 use Rattle.npdu.specs.declared.parcel.Parcel.{Parcel}
 use Rattle.primitives.specs.declared.plain_data.Reply.{Reply}
 use Rattle.carry_world.specs.Internetwork.{Internetwork, IsDelivered}
-use Rattle.carry_world.specs.Laws.{AllHearSaid, Always, ExecutedIsIssued, IsExecuted, IsFresh, IsLegal, IsOfItsIssue, OutcomesAreOfIssues, StaysSo, StepLeads}
-use Rattle.carry_world.specs.Laws.{StepsLeadOn, WholeIsIssued}
+use Rattle.carry_world.specs.Laws.{AllHearSaid, Always, ExecutedIsIssued, IsExecuted, IsFresh, IsOfItsIssue, OutcomesAreOfIssues, StaysSo, StepLeads}
+use Rattle.carry_world.specs.Laws.{StepsLeadOn, WholeIsIssued, WokenAreOfIssues}
 use Rattle.carry_world.specs.PlainSteps.{ArePlainSteps, StepsTo, last_world}
 use Rattle.carry_world.specs.PlainWorld.{Delivers, PlainWorld}
 use Rattle.carry_world.proofs.Kept.{Inv, client_brings, device_brings, heard_as_said}
 use Rattle.carry_world.proofs.Keys.{last_same}
 use Rattle.carry_world.proofs.Seeing.{Seen, all_seen, fresh_seen, kept_of}
+
+-- what the core says of the history, with the tables as the code's object machine leaves them
+pub record IsOrdered {A : Type 0} (s : ObjectSite A) (w : PlainWorld A) : Type 0 where
+  pub numbered : AreNumbered w.history
+  pub after_issue : StandAfterIssue w.history
+  pub executed : AreExecutedOnce w.history
+  pub answered : AnswersWereExecuted w.history
+  pub closed : AreClosedOnce w.history
+  pub tables : AllByRecursion
+      (λ d. IsWhatExecutionsLeave replied left_by d.instance (s.opening (station_of d)) d.server.table w.history) w.devices
 
 same_instance : (m n : ℕ) (o : Option ℕ) → o ≡ Some m → o ≡ Some n → m ≡ n
 same_instance m n o a b = cc (a, b)
@@ -105,11 +120,16 @@ module _ {A : Type 0} where
         (hearing_tells_of_issues longest_of s w site reached inv.stands place c next p.from p.to p.npdu told there
         (client_brings s net_of_it inv place c p there (handed c.net c.mac p delivered)) hears)
 
+    wakes_at : WokenAreOfIssues (kept_of w ts l)
+    wakes_at place c there =
+        all_weaken (λ t. headline_site.IsOfItsIssue s w c t) (λ t. IsOfItsIssue (kept_of w ts l) c t)
+        (woken w.core.book.moment c.machine.open_ones).told (of_issue_at c) (woken_at longest_of s w site reached inv.stands place c there)
+
     heard_at : AllHearSaid (kept_of w ts l)
     heard_at x p h a delivered brings content = heard_as_said s net_of_it inv x p h a (handed x.net x.mac p delivered) brings content
 
-    legal_at : IsLegal s w.core.book.history w.devices
-    legal_at = record {
+    ordered_at : IsOrdered s (kept_of w ts l)
+    ordered_at = record {
       numbered = numbered_at longest_of s w site reached inv.stands;
       after_issue = after_issue_at longest_of s w site reached inv.stands;
       executed = headline_at.executed_at longest_of s w site reached inv.stands;
@@ -125,8 +145,8 @@ module _ {A : Type 0} where
       let seen = seen_of s w v fresh to in
       subst (λ (z : PlainWorld A). Holds s z) (sym seen.is) (holds s v site seen)
 
-  pub is_legal : Always A (λ s w. IsLegal s w.history w.devices)
-  is_legal = over (λ s w. IsLegal s w.history w.devices) (λ s q site seen. legal_at s seen.world q.things q.said seen.inv site)
+  pub is_ordered : Always A (λ s w. IsOrdered s w)
+  is_ordered = over (λ s w. IsOrdered s w) (λ s q site seen. ordered_at s seen.world q.things q.said seen.inv site)
 
   pub all_said : Always A (λ s w. AreCarried w.said w.things)
   all_said = over (λ s w. AreCarried w.said w.things) (λ s q site seen. seen.inv.carried)
@@ -139,6 +159,9 @@ module _ {A : Type 0} where
 
   pub outcomes_are_of_issues : Always A (λ s w. OutcomesAreOfIssues w)
   outcomes_are_of_issues = over (λ s w. OutcomesAreOfIssues w) (λ s q site seen. outcomes_at s seen.world q.things q.said seen.inv site)
+
+  pub woken_are_of_issues : Always A (λ s w. WokenAreOfIssues w)
+  woken_are_of_issues = over (λ s w. WokenAreOfIssues w) (λ s q site seen. wakes_at s seen.world q.things q.said seen.inv site)
 
   pub all_hear : Always A (λ s w. AllHearSaid w)
   all_hear = over (λ s w. AllHearSaid w) (λ s q site seen. heard_at s seen.world q.things q.said seen.inv site)

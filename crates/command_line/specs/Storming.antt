@@ -1,9 +1,9 @@
 -- What is done for the command line of a storm.
-use Rattle.std.specs.Prelude.{◌≡◌, ◌⊎◌, ℕ, List, [], ◌∷◌, ◌++◌, Option, Some, None, Bool, true, false, option_map}
+use Rattle.std.specs.Prelude.{ℕ, List, ◌++◌, Option, Some, None, Bool, true, false, option_map}
 use Rattle.std.specs.Prelude.{string_bytes}
 use Rattle.std.specs.Global.{Global}
 use Rattle.command_order.specs.declared.storming.Storming.{Storming}
-use Rattle.site_search.specs.site_storm.Lines.{Known}
+use Rattle.site_search.specs.site_storm.Lines.{Known, end_missing}
 use Rattle.site_search.specs.site_storm.Storming.{CountsStorm, Storms}
 use Rattle.words.specs.Says.{SaysUnsigned}
 
@@ -18,18 +18,12 @@ PrintsOrCounts false site script n lines_old lines_new old new = Storms Global s
 PrintsOrCounts true site script n lines_old lines_new old new =
     CountsStorm Global site script n lines_old lines_new old new
 
--- the lines of a script, of which the last one ends too
-abbrev pub AreLinesOf : (script lines : List ℕ) → Type 0
-AreLinesOf script lines = (lines ≡ script) ⊎ (lines ≡ script ++ 10 ∷ [])
-
 -- a storm of so many events at these texts was printed or counted, and its script was written where a file is named:
--- the lines of the one that was given, and behind them those of the events
+-- the one that was given, with the end that its last line lacks, and behind it the lines of the events
 pub record PrintsTexts (writes : List ℕ → List ℕ → Type 0) (s : Storming) (site script : List ℕ) (n : ℕ)
     (old new : Known) : Type 0 where
-  pub begun : List ℕ
   pub lines : List ℕ
-  pub begins : AreLinesOf script begun
-  pub printed : PrintsOrCounts s.is_counted site script n (Some begun) (Some lines) old new
+  pub printed : PrintsOrCounts s.is_counted site script n (Some (script ++ end_missing script)) (Some lines) old new
   pub written : IsWrittenIfNamed writes (option_map string_bytes s.file) lines
 
 -- the files of a storm were read, by what reads them, and what came of as many events as its word says was printed and

@@ -1,7 +1,8 @@
 //! What is done for the command line of a storm.
 
-ghost use Rattle.std.specs.Prelude.{◌≡◌, ◌≤◌, Some, IfOk, IfSome, OnOk, option_map, string_bytes};
+ghost use Rattle.std.specs.Prelude.{◌≡◌, ◌≤◌, ◌++◌, Some, IfOk, IfSome, OnOk, option_map, string_bytes};
 ghost use Rattle.std.specs.Global.{Global};
+ghost use Rattle.site_search.specs.site_storm.Lines as text;
 ghost use Rattle.words.specs.Says.{SaysUnsigned};
 ghost use Rattle.command_line.specs.Storming as spec;
 
@@ -9,7 +10,7 @@ use crate::files::Files;
 use crate::program::{say_unread, texts_of};
 use command_order::{Percents, Storming};
 use console::say_refused;
-use site_search::{Chances, Weather, storm, storm_counted};
+use site_search::{Chances, Weather, end_missing, storm, storm_counted};
 use std::alloc::{AllocError, Global};
 use std::io;
 use std::io::Write;
@@ -153,12 +154,10 @@ fn print_storm<W: Write, E: Write>(
 
 /// The lines of a script, of which the last one ends too.
 fn lines_of(alloc: Global, script: &[u8]) -> Result<Vec<u8>, AllocError>
-    ensures { IfOk result (λ lines. spec.AreLinesOf script.now lines.items) }
+    ensures { IfOk result (λ lines. lines.items ≡ script.now ++ text.end_missing script.now) }
 {
     let mut lines = Vec::from_slice(alloc, script)?;
-    if !script.is_empty() && !script.ends_with(b"\n") {
-        lines.push(b'\n')?;
-    }
+    lines.extend_from_slice(end_missing(script))?;
     Ok(lines)
 }
 

@@ -4,11 +4,10 @@
 ghost use Rattle.std.specs.Prelude.{IfOk, OnOk};
 ghost use Rattle.std.specs.List.{AllByRecursion};
 ghost use Rattle.simulator.specs.carry_world.Laws.{IsLegal};
-ghost use Rattle.simulator.specs.hosts.Opening.{object_site};
-ghost use Rattle.simulator.specs.hosts.Stations.{devices_of};
-ghost use Rattle.simulator.specs.internetwork.Refusals.{Runs};
+ghost use Rattle.simulator.specs.Judged.{instances_of, judged_of};
 ghost use Rattle.simulator.specs.internetwork.Step.{IsSoundEvent};
 ghost use Rattle.simulator.specs.internetwork.World.{fresh_world};
+ghost use Rattle.simulator.specs.Runs.{Runs};
 
 use simulator::{Event, Flow, World};
 use site::Site;
@@ -39,7 +38,7 @@ pub fn once_run<A: Allocator + Copy>(
 /// `NoSuch` where they aren't 1 to 60000; or `Memory`.
 pub fn entries_after<A: Allocator + Copy>(world: &mut World<A>, n: u64) -> Result<usize, Fault>
     ensures legal { OnOk result
-        (IsLegal (object_site world.new.site) world.new.history (devices_of world.new.stations)) }
+        (IsLegal (instances_of world.new.site) world.new.history (judged_of world.new)) }
 {
     let mut flow = Flow::new(n)?;
     while let Some(event) = world.next_of(&mut flow)? {

@@ -12,3 +12,4 @@ pub mod Laws
 pub mod Heard
 -- What the proofs above cite of those below.
 pub use Rattle.headline_bacnet.proofs as headline_bacnet
+pub use Rattle.client.proofs.client_tsm as client_tsm

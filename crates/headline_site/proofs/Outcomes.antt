@@ -24,9 +24,10 @@ use Rattle.headline_client.specs.Laws.{ClosesHonestly, IsClient}
 use Rattle.headline_client.specs.Safe.{safe_transaction, station_of}
 use Rattle.headline_client.specs.Told.{outcome_of}
 use Rattle.headline_site.specs.Fair.{Stands}
-use Rattle.headline_site.specs.Laws.{HeardIsOfIssues, IsOfItsIssue, OutcomesAreOfIssues, WokenIsOfIssues}
+use Rattle.headline_site.specs.Laws.{HeardIsOfIssues, IsOfItsIssue, OutcomesAreOfIssues, Wherever, WokenIsOfIssues}
 use Rattle.headline_site.specs.AllStations.{AllStations, heard_plan, steps}
 use Rattle.headline_site.proofs.Promised.{kept}
+use Rattle.headline_site.proofs.Reached.{kept_at}
 use Rattle.headline_site.proofs.Steps.{begins_well, steps_go}
 
 module _ {A : Type 0} (own : Station → MaxApdu) (s : ObjectSite A) (w : AllStations A) (at : Stands own s w) (inv : Inv (bacnet A) s w.core) where
@@ -69,3 +70,7 @@ outcomes_of_issues own s w es site begun fair =
     let gone = steps_go own s es w (begins_well own s w begun) fair in
     let inv = kept own s w es site begun fair in
     (heard_of_issues own s (steps own s es w) gone.stands inv, woken_of_issues own s (steps own s es w) gone.stands inv)
+
+-- wherever honest happenings led, where a client wakes
+pub woken_at : {A : Type 0} → Wherever A (λ own s w. WokenIsOfIssues own s w)
+woken_at own s w site there stands = woken_of_issues own s w stands (kept_at s w.core site there)

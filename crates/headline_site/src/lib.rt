@@ -18,7 +18,7 @@ ghost use Rattle.headline_client.specs.headline_bacnet.Protocol.{bacnet};
 ghost use Rattle.headline_site.specs.Laws.{Always, BeginsWell, ClientHearingGoes, DeviceHearingGoes, ExecutedIsIssued};
 ghost use Rattle.headline_site.specs.Laws.{IsReached, OutcomesAreOfIssues, SaidStays, StepRefines, TablesAreLeft};
 ghost use Rattle.headline_site.specs.Laws.{BeginsReached, GoesThen, HearingExecutesIssued, HearingIsWholeIssue};
-ghost use Rattle.headline_site.specs.Laws.{HearingTellsOfIssues, ReachedThen, Wherever};
+ghost use Rattle.headline_site.specs.Laws.{HearingTellsOfIssues, ReachedThen, Wherever, WokenIsOfIssues};
 ghost use Rattle.headline_site.specs.Placed.{SiteHasEach, SiteIsSite};
 
 use std::alloc::Allocator;
@@ -107,11 +107,12 @@ pub fn holds_wherever_reached<A: Allocator>()
     ensures tables { Wherever A (λ own s w. TablesAreLeft s w) }
 {}
 
-/// So is what a device executes and a client tells on an NPDU by its contract of an issue, and what they gather is the
-/// whole body of one.
+/// So is what a device executes and a client tells on an NPDU by its contract of an issue, and what a client tells where
+/// it wakes; and what they gather is the whole body of one.
 pub fn hearings_are_of_issues<A: Allocator>()
     ensures executed { Wherever A (λ own s w. HearingExecutesIssued s w) }
     ensures told { Wherever A (λ own s w. HearingTellsOfIssues own s w) }
+    ensures woken { Wherever A (λ own s w. WokenIsOfIssues own s w) }
     ensures whole { Wherever A (λ own s w. HearingIsWholeIssue s w) }
     ensures requests { Wherever A (λ own s w. RequestsAreWhole (bacnet A) s w.core) }
     ensures answers { Wherever A (λ own s w. AnswersAreWhole (bacnet A) s w.core) }

@@ -5,37 +5,31 @@ use Rattle.history.specs.declared.Entry.{Entry}
 use Rattle.history.specs.declared.Entry.TheVariants.{Issue, Executed, Answered, Ended, Restarted}
 use Rattle.history.specs.Lists.{Has, count, first_of}
 
+-- what is made of an entry by its kind: of an issue by its number, the instance and the request that it names, of what
+-- is told of an issue by the number of that, and of a restart
+abbrev pub by_kind : {S Q R X : Type 0} → (issue : ℕ → ℕ → Q → X) → (executed answered ended : ℕ → X) → (restarted : X) →
+    Entry S Q R → X
+by_kind issue executed answered ended restarted (Issue i client instance request moment) = issue i instance request
+by_kind issue executed answered ended restarted (Executed i reply moment) = executed i
+by_kind issue executed answered ended restarted (Answered i reply moment) = answered i
+by_kind issue executed answered ended restarted (Ended i why moment) = ended i
+by_kind issue executed answered ended restarted (Restarted instance moment) = restarted
+
 -- the entry is an issue
 abbrev pub is_issue : {S Q R : Type 0} → Entry S Q R → Bool
-is_issue (Issue i client instance request moment) = true
-is_issue (Executed i reply moment) = false
-is_issue (Answered i reply moment) = false
-is_issue (Ended i why moment) = false
-is_issue (Restarted instance moment) = false
+is_issue e = by_kind (λ i n q. true) (λ i. false) (λ i. false) (λ i. false) false e
 
 -- the number of the issue that the entry tells of, other than the issue itself
 abbrev pub told_of : {S Q R : Type 0} → Entry S Q R → Option ℕ
-told_of (Issue i client instance request moment) = None
-told_of (Executed i reply moment) = Some i
-told_of (Answered i reply moment) = Some i
-told_of (Ended i why moment) = Some i
-told_of (Restarted instance moment) = None
+told_of e = by_kind (λ i n q. None) (λ i. Some i) (λ i. Some i) (λ i. Some i) None e
 
 -- the entry says that the issue i was executed
 abbrev pub executes : {S Q R : Type 0} → ℕ → Entry S Q R → Bool
-executes i (Issue j client instance request moment) = false
-executes i (Executed j reply moment) = j == i
-executes i (Answered j reply moment) = false
-executes i (Ended j why moment) = false
-executes i (Restarted instance moment) = false
+executes i e = by_kind (λ j n q. false) (λ j. j == i) (λ j. false) (λ j. false) false e
 
 -- the entry says that the issue i was answered, or ended
 abbrev pub closes : {S Q R : Type 0} → ℕ → Entry S Q R → Bool
-closes i (Issue j client instance request moment) = false
-closes i (Executed j reply moment) = false
-closes i (Answered j reply moment) = j == i
-closes i (Ended j why moment) = j == i
-closes i (Restarted instance moment) = false
+closes i e = by_kind (λ j n q. false) (λ j. false) (λ j. j == i) (λ j. j == i) false e
 
 -- a. issues are numbered 0, 1, .. in order: each has as many issues before it as its number says ..
 abbrev pub AreNumbered : {S Q R : Type 0} → List (Entry S Q R) → Type 0
@@ -82,11 +76,9 @@ pub record Named (Q : Type 0) : Type 0 where
 
 -- what this entry names, if it is the issue i
 abbrev pub named_by : {S Q R : Type 0} → ℕ → Entry S Q R → Option (Named Q)
-named_by i (Issue j c n q moment) = cond (j == i) (Some (record { instance = n; request = q })) None
-named_by i (Executed j reply moment) = None
-named_by i (Answered j reply moment) = None
-named_by i (Ended j why moment) = None
-named_by i (Restarted instance moment) = None
+named_by i e =
+    by_kind (λ j n q. cond (j == i) (Some (record { instance = n; request = q })) None) (λ j. None) (λ j. None)
+    (λ j. None) None e
 
 -- what the issue i of a history names
 abbrev pub named_in : {S Q R : Type 0} → List (Entry S Q R) → ℕ → Option (Named Q)

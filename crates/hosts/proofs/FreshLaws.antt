@@ -53,7 +53,7 @@ beyond_part f o None = tt
 beyond_part f o (Some (link.Ip n k a)) = inl (refl, tt)
 beyond_part f o (Some (link.Bus n mac)) = tt
 
-no_devices : {A : Type 0} (p : Place A) (b : Bool) (q : Option (SitePort A)) →
+pub no_devices : {A : Type 0} (p : Place A) (b : Bool) (q : Option (SitePort A)) →
     devices_of (option_to_list (option_map (host_at (client_at p b)) q)) ≡ []
 no_devices p b None = refl
 no_devices p b (Some port) = refl

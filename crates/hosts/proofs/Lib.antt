@@ -4,6 +4,7 @@ pub mod HostLaws
 pub mod SiteLaws
 pub mod FreshLaws
 pub mod PlaceLaws
+pub mod DeviceLaws
 pub mod OpeningLaws
 pub mod MakingLaws
 pub mod RelayFits

@@ -32,7 +32,7 @@ use Rattle.hosts.specs.Opening.{client_at, foreign_port, host_at, opens, place_p
 use Rattle.hosts.specs.Stations.{WorldStation}
 
 -- a manager of a name, where there is one and no two have a name, is found; and it is not on a bus
-abbrev IsThere : Option Link → Type 0
+abbrev pub IsThere : Option Link → Type 0
 IsThere None = ⊥
 IsThere (Some (link.Ip n k a)) = Unit {0}
 IsThere (Some (link.Bus n mac)) = ⊥
@@ -58,7 +58,7 @@ no_other f x (s ∷ ss) e apart h =
     by_test true t rest g = apart.0.other (e ∙ sym (same_name s.name f.manager t))
     by_test false t rest g = rest g
 
-host_there : {A : Type 0} (f : Foreign A) (ss : List (Station A)) → AreApart (names ss) → AreRoles ss →
+pub host_there : {A : Type 0} (f : Foreign A) (ss : List (Station A)) → AreApart (names ss) → AreRoles ss →
     list_any (is_host f) ss ≡ true → IsThere (host f.manager ss)
 host_there f [] apart on h = absurd (cc h)
 host_there f (s ∷ ss) apart on h =

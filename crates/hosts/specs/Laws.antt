@@ -9,14 +9,16 @@ use Rattle.carry_said.specs.headline_site.headline_device.Devices as device_side
 use Rattle.carry_said.specs.headline_site.headline_device.Devices.{HasNumbers}
 use Rattle.carry_said.specs.headline_site.Fair.{IsNewClient, IsNewDevice}
 use Rattle.remembered.specs.Records.{AreDistinct}
+use Rattle.object_model.specs.declared.site.SiteObjects.{SiteObjects}
 use Rattle.site.specs.Sound.{IsSound}
 use Rattle.site_parts.specs.declared.parts.Parts.{Parts}
 use Rattle.site_station.specs.Entity as entity
+use Rattle.site_station.specs.device.Device.{DeviceState, new_device}
 use Rattle.site_views.specs.Views.{addresses_of}
 use Rattle.npdu.specs.declared.mac.Station as npdu
 use Rattle.relays.specs.Laws.{RelayStands, SiteRelay, site_places}
 use Rattle.hosts.specs.Hosts.{IsHost, IsOfSite}
-use Rattle.hosts.specs.Opening.{object_site, opening_relays, opening_stations}
+use Rattle.hosts.specs.Opening.{devices_in, object_site, opening_relays, opening_stations}
 use Rattle.hosts.specs.Stations.{WorldStation, clients_of, devices_of}
 
 -- the devices of a sound site are a site of the promise (12.11)
@@ -35,6 +37,21 @@ pub record AreFresh {A : Type 0} (s : ObjectSite A) (ss : List (WorldStation A))
 -- so are those that a sound site opens with
 abbrev pub StationsAreFresh : Type 0 → Type 0
 StationsAreFresh A = (p : Parts A) → IsSound p → AreFresh (object_site p) (opening_stations p)
+
+-- a device that opens with these objects, at some address
+pub record IsOpened {A : Type 0} (o : SiteObjects A) (d : DeviceState A) : Type 0 where
+  pub address : npdu.Station
+  pub is : d ≡ new_device o address
+
+-- so does each, in order
+abbrev pub OpenAs : {A : Type 0} → List (SiteObjects A) → List (DeviceState A) → Type 0
+OpenAs [] [] = Unit {0}
+OpenAs (o ∷ os) (d ∷ ds) = IsOpened o d × OpenAs os ds
+OpenAs os ds = ⊥
+
+-- all devices that a sound site describes open, in its order, and no others
+abbrev pub DevicesOpen : Type 0 → Type 0
+DevicesOpen A = (p : Parts A) → IsSound p → OpenAs (devices_in p.stations) (devices_of (opening_stations p))
 
 -- each of them stands as it must at the first moment, and is one of its site; and each relay stands as it must
 abbrev pub StationsStand : Type 0 → Type 0

@@ -7,6 +7,7 @@ pub mod Laws
 pub mod Finding
 -- What the layers above cite of those below.
 pub use Rattle.carry_said.specs.headline_site.headline_device as headline_device
+pub use Rattle.object_model.specs as object_model
 pub use Rattle.site_station.specs as site_station
 pub use Rattle.site_station.specs.client as client
 pub use Rattle.site_station.specs.device as device

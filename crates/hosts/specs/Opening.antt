@@ -44,6 +44,10 @@ placed p = map (λ d. record { station = d.station; objects = d.objects }) (devi
 abbrev pub object_site : {A : Type 0} → Parts A → ObjectSite A
 object_site p = site_of (placed p)
 
+-- the devices that a site describes, in its order
+abbrev pub devices_in : {A : Type 0} → List (Station A) → List (SiteObjects A)
+devices_in ss = flat_map (λ s. option_to_list (objects_in s.role)) ss
+
 -- the port at a link: on a subnet it reaches all members but itself, in their order (J.4.5), and on a bus its node is
 -- as it is made at the first moment (9.5.6, Initialize)
 abbrev pub port_at : {A : Type 0} → List (Station A) → Link → SitePort A

@@ -20,7 +20,7 @@ client_of (Client c) = c ∷ []
 -- the device that an entity is, if it is one
 abbrev pub device_of : {A : Type 0} → Entity A → List (DeviceState A)
 device_of (Device d) = d ∷ []
-device_of (Client c) = []
+device_of e = []
 
 -- the clients and the devices of these stations, in their order
 abbrev pub clients_of : {A : Type 0} → List (WorldStation A) → List (ClientState A)

@@ -1,7 +1,7 @@
 //! What holds of the stations that a site opens with, for the proofs of the layers above.
 
-ghost use Rattle.hosts.specs.Laws.{DevicesAreSite, PlacesAgree, RelaysStand, StationsAreFresh, StationsAreOfSite};
-ghost use Rattle.hosts.specs.Laws.{StationsStand};
+ghost use Rattle.hosts.specs.Laws.{DevicesAreSite, DevicesOpen, PlacesAgree, RelaysStand, StationsAreFresh};
+ghost use Rattle.hosts.specs.Laws.{StationsAreOfSite, StationsStand};
 
 use std::alloc::Allocator;
 
@@ -13,6 +13,11 @@ pub fn devices_are_site<A: Allocator>()
 /// The devices and clients that a sound site opens with are all that a fresh world asks of them.
 pub fn stations_are_fresh<A: Allocator>()
     ensures { StationsAreFresh A }
+{}
+
+/// All devices that a sound site describes open, in its order, with its objects, and no others.
+pub fn devices_open<A: Allocator>()
+    ensures { DevicesOpen A }
 {}
 
 /// Each of them has one port, which is where its entity is, and has seen no moment but the first; and each device is

@@ -25,7 +25,9 @@ mod stations;
 
 pub use buses::buses_of;
 pub use finding::station_at;
-pub use laws::{devices_are_site, places_agree, relays_stand, stations_are_fresh, stations_stand};
+pub use laws::{
+    devices_are_site, devices_open, places_agree, relays_stand, stations_are_fresh, stations_stand,
+};
 pub use opening::opening_of;
 pub use relays::{Relay, RelayPlan, place_at, relay_in};
 pub use routing::{WorldRelay, relays_of};

@@ -1,18 +1,21 @@
 -- What a station did is what it planned, and all grew by what came of it.
 use Rattle.std.proofs.Common.{◌≡◌, ◌∙◌, refl, sym, ap, subst, ℕ, zero, suc, List, [], ◌∷◌, ◌++◌, length, Option, Some, Result, Ok, Err, OnOk, OnErr}
 use Rattle.std.proofs.lemmas.List.{map-append}
+use Rattle.std.specs.List.{AllByRecursion}
 use Rattle.std.specs.Prelude.{option_to_list, slice_get, slice_set}
 use Rattle.buses.specs.Puts.{BusesState, put_on}
 use Rattle.plans.proofs.directory.StayLaws.{leads_set, stays}
 use Rattle.plans.specs.directory.Directory.{DirectoryState, Leads}
 use Rattle.chronicle.proofs.headline_client.Places.{all_at}
+use Rattle.chronicle.specs.carry_said.Said.{IsSaying}
 use Rattle.history.specs.declared.Entry.{Entry}
 use Rattle.plans.specs.hosts.Hosts.{IsHost}
 use Rattle.plans.specs.hosts.Stations.{WorldStation}
-use Rattle.inside.specs.Inside.{AreInside}
+use Rattle.inside.specs.Inside.{AreInside, Said}
 use Rattle.link_site.specs.Port.{station_of}
 use Rattle.link_site.specs.declared.port.SitePort.{SitePort}
 use Rattle.npdu.specs.declared.mac.Station.{Station}
+use Rattle.npdu.specs.declared.parcel.Parcel.{Parcel}
 use Rattle.primitives.specs.declared.plain_data.Reply.{Reply}
 use Rattle.primitives.specs.declared.plain_data.Request.{Request}
 use Rattle.site_parts.specs.declared.parts.Parts.{Parts}
@@ -26,6 +29,7 @@ use Rattle.traffic.specs.declared.item.Item.{Item}
 use Rattle.chronicle.specs.Chronicle.{IsGrown, IsSame, IsTold}
 use Rattle.internetwork.proofs.Standing.{steady_set}
 use Rattle.plans.specs.Plans.{MayBeDone}
+use Rattle.internetwork.specs.Acting.{IsSaidBy}
 use Rattle.internetwork.specs.Doing.{AtPlace, IsDone, Tells}
 use Rattle.plans.specs.relays.Laws.{SiteRelay}
 use Rattle.internetwork.specs.Laws.{ArePassing, AreSteady}
@@ -44,6 +48,17 @@ all_said_both xs ys = map-append (λ m. said_of m) xs ys
 all_keys_both : (xs ys : List kept.Key) → all_keys (xs ++ ys) ≡ all_keys xs ++ all_keys ys
 all_keys_both xs ys = map-append (λ k. key_of k) xs ys
 
+-- what is inside a station's own parcels was said by it
+said_by_it : {A : Type 0} (x : Station) (now : ℕ) (ps : List (Parcel A)) (ss : List Said) → AreInside x.net ps ss →
+    AllByRecursion (IsSaying x now) ps → AllByRecursion (IsSaidBy x now) ss
+said_by_it x now [] [] a own = tt
+said_by_it x now [] (s ∷ ss) a own = absurd a
+said_by_it x now (p ∷ ps) [] a own = absurd a
+said_by_it x now (p ∷ ps) (s ∷ ss) a own = (
+  record { source = own.0.source s.inside a.0.inside; stamp = a.0.stamp ∙ own.0.stamp },
+  said_by_it x now ps ss a.1 own.1,
+)
+
 module _ {A : Type 0} (now : ℕ) (plan : StationPlan (SitePort A) A) (key : Option kept.Key)
     (entry : Option (Entry Station (Request A) (Reply A))) (s : WorldStation A) where
   -- room was taken, all grew, and it was told
@@ -51,8 +66,12 @@ module _ {A : Type 0} (now : ℕ) (plan : StationPlan (SitePort A) A) (key : Opt
       x ≡ entity.station_of s.entity → IsSame c0 c1 → IsGrown g c1 c2 → IsTold x now told c2 c3 →
       g.items.items ≡ items_of station_of now s.ports (told_by plan).out → AreFromMacs g.items.items →
       AreInside x.net (told_by plan).told.said (all_said g.said.items) → g.key ≡ key → g.entry ≡ entry →
-      told ≡ (told_by plan).told → Tells now plan key entry s c0 c3
-  tells_so c0 c1 c2 c3 g x told at same grown tells items from insides of_key of_entry is =
+      told ≡ (told_by plan).told →
+      AllByRecursion (IsSaying (entity.station_of s.entity) now) (told_by plan).told.said →
+      Tells now plan key entry s c0 c3
+  tells_so c0 c1 c2 c3 g x told at same grown tells items from insides of_key of_entry is own =
+      let inside_here = subst (λ (y : Station). AreInside y.net (told_by plan).told.said (all_said g.said.items)) at
+      insides in
       let kept_keys : c2.keys.items ≡ c0.keys.items ++ option_to_list key =
       grown.keys ∙ ap (λ (ks : List kept.Key). ks ++ option_to_list g.key) same.keys
       ∙ ap (λ (k : Option kept.Key). c0.keys.items ++ option_to_list k) of_key in
@@ -61,7 +80,9 @@ module _ {A : Type 0} (now : ℕ) (plan : StationPlan (SitePort A) A) (key : Opt
       ∙ ap (λ (e : Option (Entry Station (Request A) (Reply A))). c0.history.items ++ option_to_list e) of_entry in
       record {
         fresh = all_said g.said.items;
-        insides = subst (λ (y : Station). AreInside y.net (told_by plan).told.said (all_said g.said.items)) at insides;
+        insides = inside_here;
+        sayer = said_by_it (entity.station_of s.entity) now (told_by plan).told.said (all_said g.said.items)
+            inside_here own;
         said = ap (λ (ms : List (SaidMessage A)). all_said ms)
             (tells.said ∙ grown.said ∙ ap (λ (ms : List (SaidMessage A)). ms ++ g.said.items) same.said)
             ∙ all_said_both c0.said.items g.said.items;
@@ -124,6 +145,7 @@ done_so {A} site moment rs ss c0 c1 b0 b1 place s next plan key entry there left
     there = there;
     fresh = tells.fresh;
     insides = tells.insides;
+    sayer = tells.sayer;
     site = refl;
     moment = refl;
     relays = refl;

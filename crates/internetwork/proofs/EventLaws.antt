@@ -18,6 +18,7 @@ use Rattle.npdu.specs.declared.mac.Station.{Station}
 use Rattle.object_model.specs.Objects.{PlainTable}
 use Rattle.primitives.specs.declared.plain_data.Reply.{Reply}
 use Rattle.primitives.specs.declared.plain_data.Request.{Request}
+use Rattle.chronicle.proofs.site_station.Planning.{issuer_is_client}
 use Rattle.chronicle.specs.site_station.Entity as entity
 use Rattle.chronicle.specs.site_station.Entity.{EntityAsks, EntityIssues, EntityRestarts, IsClient, IsDevice, says, silence}
 use Rattle.chronicle.specs.site_station.Station.{HearingIsRefused, StationAsks, StationHears, StationIssues, StationRegisters, StationRestarts, StationWakes, left_by, told_by}
@@ -35,6 +36,7 @@ use Rattle.plans.specs.hosts.Finding.{IsNoHostAt}
 use Rattle.plans.specs.relays.Laws.{SiteRelay, site_places}
 use Rattle.plans.specs.relays.Refusals as refusing
 use Rattle.plans.specs.relays.Relay as passing
+use Rattle.plans.specs.relays.Steps as relay_steps
 use Rattle.plans.specs.relays.Steps.{RelayHears, RelayWakes}
 use Rattle.plans.specs.relays.declared.plan.RelayPlan.{RelayPlan}
 use Rattle.internetwork.specs.Passing.{HasPassed}
@@ -175,6 +177,22 @@ issues_done {A} name instance request w v place s plan now id key entry e at of_
           ∙ ap (λ (y : Station). w.history ++ Issue (length w.keys) y instance request w.moment ∷ []) at;
     }
 
+-- .. or memory is wanted: a client alone issues
+pub issue_wants_memory : {A : Type 0} (name : List ℕ) (instance : ℕ) (request : Request A) (w : WorldState A) (place : ℕ)
+    (s : WorldStation A) (plan : StationPlan (SitePort A) A) (now id : ℕ) (fault : Fault) → IsNamed name w place s →
+    StationIssues site.Downs now instance request id s (told_by plan) (left_by now plan s) → fault ≡ Memory →
+    IsRefused (event.Issue name instance request) w fault
+issue_wants_memory name instance request w place s plan now id fault named issues memory = inl (
+  memory,
+  record {
+    place = place;
+    s = s;
+    named = named;
+    is = issuer_is_client now instance request s.entity (left_by now plan s).entity id (told_by plan).told
+        issues.says.does;
+  },
+)
+
 module _ {A : Type 0} (w : WorldState A) (name : List ℕ) (fault : Fault) where
   -- nobody has the name
   pub nobody : (Says : WorldStation A → Type 0) → fault ≡ NoSuch → IsNobody name w → RefusesNamed name w fault Says
@@ -183,7 +201,7 @@ module _ {A : Type 0} (w : WorldState A) (name : List ℕ) (fault : Fault) where
   -- the one that has it refuses so
   pub refuses_so : (Says : WorldStation A → Type 0) (place : ℕ) (s : WorldStation A) → IsNamed name w place s → Says s →
       RefusesNamed name w fault Says
-  refuses_so Says place s named so = inr (record { place = place; s = s; named = named; refuses = so })
+  refuses_so Says place s named so = inr (record { place = place; s = s; named = named; is = so })
 
 get_front : {X : Type 0} (xs ys : List X) (n : ℕ) (x : X) → slice_get xs n ≡ Some x → slice_get (xs ++ ys) n ≡ Some x
 get_front [] ys n x e = absurd (cc e)
@@ -231,6 +249,7 @@ delivers_done {A} number w u v item place p s plan now e there addressee young h
         there = q.acts.there;
         fresh = q.acts.fresh;
         insides = q.acts.insides;
+        sayer = q.acts.sayer;
         site = q.acts.site;
         moment = q.acts.moment;
         relays = q.acts.relays;
@@ -301,6 +320,7 @@ restarts_done {A} name w u v place s plan now opening entry x e opens is named a
         there = d.acts.there;
         fresh = d.acts.fresh;
         insides = d.acts.insides;
+        sayer = d.acts.sayer;
         site = d.acts.site;
         moment = d.acts.moment;
         relays = d.acts.relays;
@@ -353,11 +373,12 @@ only_memory site e x fault at is of (inr n) = absurd (never_none site e x at is 
 
 -- why a restart is refused where its device is there
 pub restart_refused : {A : Type 0} (w : WorldState A) (name : List ℕ) (place : ℕ) (s : WorldStation A) (fault : Fault) →
-    IsNamed name w place s → (fault ≡ Memory) ⊎ ((fault ≡ NoSuch) × IsClient s.entity) →
+    IsNamed name w place s → IsDevice s.entity → (fault ≡ Memory) ⊎ ((fault ≡ NoSuch) × IsClient s.entity) →
     IsRefused (event.Restart name) w fault
-restart_refused w name place s fault named (inl m) = inl (m, tt)
-restart_refused w name place s fault named (inr n) =
-    inr (inr (record { place = place; s = s; named = named; refuses = n }))
+restart_refused w name place s fault named device (inl m) =
+    inl (m, record { place = place; s = s; named = named; is = device })
+restart_refused w name place s fault named device (inr n) =
+    inr (inr (record { place = place; s = s; named = named; is = n }))
 
 -- an item that may still be heard goes to this port of this station
 pub record IsRecipient {A : Type 0} (number : ℕ) (w : WorldState A) (item : Item A) (place p : ℕ) (s : WorldStation A) :
@@ -522,10 +543,11 @@ wake_refused w name fault (inl n) no_relay = inl (n.0, record { station = n.1; r
 wake_refused w name fault (inr so) no_relay = inr (inl so)
 
 pub relay_wake_refused : {A : Type 0} (w : WorldState A) (name : List ℕ) (place : ℕ) (r : SiteRelay A) (fault : Fault)
-    (now : ℕ) → now ≡ w.moment → IsRelayNamed name w place r →
+    (now : ℕ) → now ≡ w.moment → IsRelayNamed name w place r → (relay_steps.IsQuiet site.is_due w.moment r → ⊥) →
     (fault ≡ Memory) ⊎ refusing.WakeIsRefused A port.station_of now r fault → IsRefused (event.Wake name) w fault
-relay_wake_refused w name place r fault now e named (inl m) = inl (m, tt)
-relay_wake_refused {A} w name place r fault now e named (inr h) = inr (inr (inr (record {
+relay_wake_refused w name place r fault now e named due (inl m) =
+    inl (m, inr (record { place = place; r = r; named = named; due = due }))
+relay_wake_refused {A} w name place r fault now e named due (inr h) = inr (inr (inr (record {
   place = place;
   r = r;
   named = named;

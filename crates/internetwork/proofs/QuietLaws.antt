@@ -25,6 +25,7 @@ pub tells_quietly : {A : Type 0} (now : ℕ) (plan : StationPlan (SitePort A) A)
 tells_quietly {A} now plan s c0 c1 c2 x told at same tells out quiet is = record {
   fresh = [];
   insides = subst (λ (ps : List _). AreInside (entity.station_of s.entity).net ps []) (sym quiet) tt;
+  sayer = tt;
   said = ap (λ (ms : List (SaidMessage A)). all_said ms) (tells.said ∙ same.said) ∙ sym (append-nil (all_said c0.said.items));
   items = tells.items ∙ same.items ∙ sym (append-nil c0.items.items)
       ∙ ap (λ (ps : List (PortSent A)). c0.items.items ++ items_of station_of now s.ports ps) (sym out);

@@ -111,6 +111,7 @@ rests_done {A} name w v place s named rested =
         there = named.there;
         fresh = [];
         insides = tt;
+        sayer = tt;
         site = ap (λ (z : WorldState A). z.site) h.is;
         moment = ap (λ (z : WorldState A). z.moment) h.is;
         relays = ap (λ (z : WorldState A). z.relays) h.is;

@@ -1,5 +1,6 @@
 -- What a station or a relay of a world does: its own step, and how items, buses and what was said grow by it.
 use Rattle.std.specs.Prelude.{◌≡◌, ℕ, List, ◌++◌, length, Some, slice_get, slice_set}
+use Rattle.std.specs.List.{AllByRecursion}
 use Rattle.buses.specs.Puts.{BusesState, put_on}
 use Rattle.chronicle.specs.Growing.{frames_at, frames_of, items_at, items_of}
 use Rattle.plans.specs.hosts.Stations.{WorldStation}
@@ -7,18 +8,25 @@ use Rattle.inside.specs.Inside.{AreInside, Said}
 use Rattle.internetwork.specs.World.{WorldState}
 use Rattle.link_ports.specs.declared.ports.PortSent.{PortSent}
 use Rattle.link_site.specs.Port as port
+use Rattle.npdu.specs.declared.mac.Station.{Station}
 use Rattle.plans.specs.relays.Laws.{SiteRelay, site_places}
 use Rattle.chronicle.specs.site_station.Entity as entity
 use Rattle.chronicle.specs.site_station.Station.{StationTold}
 use Rattle.traffic.specs.declared.item.Item.{Item}
 
+-- this was said by a station at a moment: it is the source of what is inside (6.2.2)
+pub record IsSaidBy (x : Station) (now : ℕ) (e : Said) : Type 0 where
+  pub source : e.inside.source ≡ x
+  pub stamp : e.stamp ≡ now
+
 -- the station at a place did this: what it put out stands behind these items, or goes out on these buses, and what its
--- entity said stands behind all that was said; no other station has changed, and the moment is as before
+-- entity said at this moment stands behind all that was said; no other station has changed, and the moment is as before
 pub record Acts {A : Type 0} (w v : WorldState A) (place : ℕ) (s next : WorldStation A) (t : StationTold A)
     (items : List (Item A)) (buses : BusesState A) : Type 0 where
   pub there : slice_get w.stations place ≡ Some s
   pub fresh : List Said
   pub insides : AreInside (entity.station_of s.entity).net t.told.said fresh
+  pub sayer : AllByRecursion (IsSaidBy (entity.station_of s.entity) w.moment) fresh
   pub site : v.site ≡ w.site
   pub moment : v.moment ≡ w.moment
   pub relays : v.relays ≡ w.relays

@@ -1,5 +1,6 @@
 -- A plan of a station of a world, and that it was done.
 use Rattle.std.specs.Prelude.{◌≡◌, ℕ, List, ◌++◌, Option, Some, option_to_list, slice_get, slice_set}
+use Rattle.std.specs.List.{AllByRecursion}
 use Rattle.chronicle.specs.carry_said.Said.{HasInsides}
 use Rattle.history.specs.declared.Entry.{Entry}
 use Rattle.npdu.specs.declared.mac.Station.{Station}
@@ -15,7 +16,7 @@ use Rattle.plans.specs.hosts.Hosts.{IsHost}
 use Rattle.inside.specs.Inside.{AreInside, Said}
 use Rattle.chronicle.specs.Kept.{all_keys, all_said}
 use Rattle.chronicle.specs.Growing.{AreFromMacs, items_of, told_in}
-use Rattle.internetwork.specs.Acting.{Acts}
+use Rattle.internetwork.specs.Acting.{Acts, IsSaidBy}
 use Rattle.plans.specs.hosts.Stations.{WorldStation}
 use Rattle.internetwork.specs.World.{WorldState}
 use Rattle.chronicle.specs.declared.chronicle.Chronicle.{Chronicle}
@@ -46,6 +47,7 @@ pub record Tells {A : Type 0} (now : ℕ) (plan : StationPlan (SitePort A) A) (k
     (entry : Option (Entry Station (Request A) (Reply A))) (s : WorldStation A) (old new : Chronicle A) : Type 0 where
   pub fresh : List Said
   pub insides : AreInside (entity.station_of s.entity).net (told_by plan).told.said fresh
+  pub sayer : AllByRecursion (IsSaidBy (entity.station_of s.entity) now) fresh
   pub said : all_said new.said.items ≡ all_said old.said.items ++ fresh
   pub items : new.items.items ≡ old.items.items ++ items_of station_of now s.ports (told_by plan).out
   pub from : AreFromMacs (items_of {A = A} station_of now s.ports (told_by plan).out)

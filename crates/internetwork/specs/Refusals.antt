@@ -4,10 +4,10 @@ use Rattle.link_site.specs.Port as port
 use Rattle.link_site.specs.Steps as site
 use Rattle.link_ports.specs.Ports.{IsTooLong}
 use Rattle.npdu.specs.declared.mac.Station.{Station}
-use Rattle.plans.specs.Plans.{WakeIsTooLong, places_of}
-use Rattle.profile.specs.Times.{MAX_MOMENT_MS}
-use Rattle.chronicle.specs.site_station.Entity.{IsClient, told_awake}
-use Rattle.chronicle.specs.site_station.Station.{AskingIsRefused, HearingIsRefused, ITS_PORT, IsNotForeign}
+use Rattle.plans.specs.Plans.{IsForeign, WakeIsTooLong, places_of}
+use Rattle.profile.specs.Times.{MAX_MOMENT_MS, MAX_TICK_MS}
+use Rattle.chronicle.specs.site_station.Entity.{IsClient, IsDevice, told_awake}
+use Rattle.chronicle.specs.site_station.Station.{AskingIsRefused, HearingIsRefused, ITS_PORT, IsNotForeign, IsQuiet}
 use Rattle.chronicle.specs.site_station.Station.{IssueIsRefused}
 use Rattle.tags.specs.declared.fault.Fault.{Fault}
 use Rattle.tags.specs.declared.fault.Fault.TheVariants.{Expired, Memory, NoSuch, TooLong}
@@ -15,6 +15,7 @@ use Rattle.traffic.specs.Seeking.{is_young}
 use Rattle.traffic.specs.declared.item.Item.{Item}
 use Rattle.plans.specs.relays.Laws.{SiteRelay}
 use Rattle.plans.specs.relays.Refusals as relay
+use Rattle.plans.specs.relays.Steps as relay_steps
 use Rattle.internetwork.specs.Finding.{HasNoRelay, IsAddressee, IsNamed, IsNoRelay, IsNobody, IsRelayAddressee}
 use Rattle.internetwork.specs.Finding.{IsRelayNamed, addressee_of}
 use Rattle.internetwork.specs.Hearing.{HasListener, HasNoListener, RefusesOctets, Then}
@@ -24,12 +25,12 @@ use Rattle.internetwork.specs.World.{WorldState}
 use Rattle.internetwork.specs.declared.event.Event.{Event}
 use Rattle.internetwork.specs.declared.event.Event.TheVariants as event
 
--- the station of a name refuses so
-pub record OfNamed {A : Type 0} (name : List ℕ) (w : WorldState A) (Says : WorldStation A → Type 0) : Type 0 where
+-- the device or client of a name is so, or refuses so
+pub record OfNamed {A : Type 0} (name : List ℕ) (w : WorldState A) (Is : WorldStation A → Type 0) : Type 0 where
   pub place : ℕ
   pub s : WorldStation A
   pub named : IsNamed name w place s
-  pub refuses : Says s
+  pub is : Is s
 
 -- no station has a name, or that one refuses so
 abbrev pub RefusesNamed : {A : Type 0} → (name : List ℕ) → WorldState A → Fault → (WorldStation A → Type 0) → Type 0
@@ -114,7 +115,7 @@ RefusesItem number w fault = ((fault ≡ NoSuch) × IsNowhere number w) ⊎ ((fa
 
 -- so many milliseconds don't pass at once
 abbrev pub IsNoTick : (n moment : ℕ) → Type 0
-IsNoTick n moment = (n < 1) ⊎ ((60000 < n) ⊎ (MAX_MOMENT_MS < moment + n))
+IsNoTick n moment = (n < 1) ⊎ ((MAX_TICK_MS < n) ⊎ (MAX_MOMENT_MS < moment + n))
 
 -- why an event is refused, other than for want of memory
 abbrev pub Refuses : {A : Type 0} → Event A → WorldState A → Fault → Type 0
@@ -143,13 +144,29 @@ pub record RelayMayHear {A : Type 0} (number : ℕ) (w : WorldState A) : Type 0 
   pub goes : GoesToRelay number w
   pub young : is_young w.moment goes.item ≡ true
 
--- an event may want memory: not a tick, no delivery that is refused for the item itself, and no hearing of a station
--- that isn't on that bus
+-- something is due of a device or a client where it wakes: a timer of its own, or of its port (5.4.1, 9.5.6)
+pub record HasDue {A : Type 0} (now : ℕ) (s : WorldStation A) : Type 0 where
+  pub due : IsQuiet site.is_due now s → ⊥
+
+-- something is due of the relay of a name where it wakes (6.6.2, 9.5.6)
+pub record RelayHasDue {A : Type 0} (name : List ℕ) (w : WorldState A) : Type 0 where
+  pub place : ℕ
+  pub r : SiteRelay A
+  pub named : IsRelayNamed name w place r
+  pub due : relay_steps.IsQuiet site.is_due w.moment r → ⊥
+
+-- an event may want memory: an issue and a question of a client that is there, a wake at which something is due, the
+-- restart of a device, the registration of a foreign station, a delivery that isn't refused for the item itself, and
+-- a hearing of a station that is on that bus; a tick never does
 abbrev pub MayGrow : {A : Type 0} → Event A → WorldState A → Type 0
+MayGrow (event.Issue client instance request) w = OfNamed client w (λ s. IsClient s.entity)
+MayGrow (event.WhoIs client limits) w = OfNamed client w (λ s. IsClient s.entity)
 MayGrow (event.Tick n) w = ⊥
+MayGrow (event.Wake station) w = OfNamed station w (HasDue w.moment) ⊎ RelayHasDue station w
 MayGrow (event.Deliver number) w = MayBeHeard number w ⊎ RelayMayHear number w
+MayGrow (event.Restart station) w = OfNamed station w (λ s. IsDevice s.entity)
 MayGrow (event.Hear network station octets) w = HasListener network station w
-MayGrow e w = Unit {0}
+MayGrow (event.Register station) w = OfNamed station w IsForeign
 
 -- why an event is refused
 abbrev pub IsRefused : {A : Type 0} → Event A → WorldState A → Fault → Type 0

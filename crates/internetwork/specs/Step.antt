@@ -13,7 +13,7 @@ use Rattle.npdu.specs.declared.mac.Mac.TheVariants.{One, Six}
 use Rattle.npdu.specs.declared.mac.Station.{Station}
 use Rattle.primitives.specs.Sound.{IsSoundRequest}
 use Rattle.primitives.specs.declared.plain_data.Request.{Request}
-use Rattle.profile.specs.Times.{MAX_MOMENT_MS}
+use Rattle.profile.specs.Times.{MAX_MOMENT_MS, MAX_TICK_MS}
 use Rattle.chronicle.specs.site_station.Entity as entity
 use Rattle.chronicle.specs.site_station.Station.{StationAsks, StationHears, StationIssues, StationRestarts}
 use Rattle.chronicle.specs.site_station.Station.{StationRegisters, StationTold, StationWakes}
@@ -154,10 +154,10 @@ pub record Restarts {A : Type 0} (name : List ℕ) (w v : WorldState A) : Type 0
   pub keys : v.keys ≡ w.keys
   pub history : v.history ≡ w.history ++ restarted w.moment s.entity
 
--- so many milliseconds pass at once: 1 to 60000, and not past the greatest moment
+-- so many milliseconds pass at once: at most MAX_TICK_MS, and not past the greatest moment
 pub record PassesNow (n moment : ℕ) : Type 0 where
   pub least : 1 ≤ n
-  pub most : n ≤ 60000
+  pub most : n ≤ MAX_TICK_MS
   pub greatest : moment + n ≤ MAX_MOMENT_MS
 
 -- time passes

@@ -31,7 +31,7 @@ use plans::{
     plan_relay_wakes, plan_restarts, plan_wakes,
 };
 use primitives::Request;
-use profile::MAX_MOMENT_MS;
+use profile::{MAX_MOMENT_MS, MAX_TICK_MS};
 use std::alloc::{AllocError, Allocator};
 use tags::Fault;
 use traffic::in_time;
@@ -45,7 +45,7 @@ fn may_pass(n: u64, moment: u64) -> bool
     if n < 1 {
         return false;
     }
-    if n > 60_000 {
+    if n > MAX_TICK_MS {
         return false;
     }
     n <= MAX_MOMENT_MS - moment

@@ -34,6 +34,7 @@ impl<A: Allocator + Copy> BusPort<A> {
     ghost use Rattle.link_bus.specs.Steps as spec;
     ghost use Rattle.link_bus.specs.Steps.{Counts, Downs, Hears, HearsIt, Idles, Wakes};
     ghost use Rattle.mstp_table.specs.Node.{named};
+    ghost use Rattle.profile.specs.Limits as limit;
     ghost use Rattle.profile.specs.Times.{MAX_MOMENT_MS};
 
     /// A port on the network of this number, 1 to 65534, at this address, 0 to 127, made at the moment `now`, in
@@ -160,7 +161,7 @@ impl<A: Allocator + Copy> BusPort<A> {
     /// Hears a frame of at most 501 octets of data.
     #[tactic(auto, unfolding(mstp_table::specs::Table::step))]
     fn hear(&mut self, frame: &Frame<'_>, stamp: u64, now: u64) -> Result<LinkStep<A>, Fault>
-        requires { length (named frame.now).contents ≤ 501 }
+        requires { length (named frame.now).contents ≤ limit.MAX_FRAME_DATA_OCTETS }
         ensures does { IfOk result (λ step. HearsIt now (named frame.now) stamp self.old step self.new) }
         ensures memory { IfErr result (λ fault. fault ≡ Fault.Memory) }
     {

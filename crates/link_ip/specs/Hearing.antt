@@ -1,5 +1,5 @@
 -- What a port hands up (J.2).
-use Rattle.std.specs.Prelude.{◌≡◌, ℕ, List, Option, None}
+use Rattle.std.specs.Prelude.{◌≡◌, ℕ, List, Option, None, IsSome}
 use Rattle.bvll.specs.Datagram.{Datagram, NoDatagram, Spells, distribute}
 use Rattle.bvll.specs.Refusal.{Refuses}
 use Rattle.carry.specs.Datagrams.{carried_by}
@@ -23,6 +23,17 @@ pub record HandsUp {A : Type 0} (from own : Mac) (octets : List ℕ) (stamp : �
 abbrev pub IsHeard : {A : Type 0} → (from own : Mac) → (octets : List ℕ) → (stamp : ℕ) → Option (Parcel A) → Type 0
 IsHeard (Six from) own octets stamp up = HandsUp (Six from) own octets stamp up
 IsHeard (One from) own octets stamp up = up ≡ None
+
+-- octets spell a datagram that hands a parcel up
+pub record HandsOneUp (A : Type 0) (from own : Mac) (octets : List ℕ) (stamp : ℕ) : Type 0 where
+  pub datagram : Datagram
+  pub spelled : Spells octets datagram
+  pub one : IsSome (handed_up {A = A} from own stamp datagram)
+
+-- .. where they come from an address of BACnet/IP: they aren't dropped
+abbrev pub IsTaken : (A : Type 0) → (from own : Mac) → (octets : List ℕ) → (stamp : ℕ) → Type 0
+IsTaken A (Six from) own octets stamp = HandsOneUp A (Six from) own octets stamp
+IsTaken A (One from) own octets stamp = ⊥
 
 -- octets spell no datagram, and are refused for this (J.2)
 pub record IsNotRead (fault : Fault) (octets : List ℕ) : Type 0 where

@@ -1,5 +1,5 @@
 -- A port on a network of BACnet/IP: where it is, and how it reaches all of its network (J.1.2, J.4, J.5).
-use Rattle.std.specs.Prelude.{ℕ, List, [], map}
+use Rattle.std.specs.Prelude.{ℕ, Bool, true, false, List, [], map}
 use Rattle.bvll.specs.declared.address.Address.{Address}
 use Rattle.carry.specs.Datagrams.{mac_at}
 use Rattle.carry.specs.Ports as carry
@@ -33,6 +33,11 @@ waiting_in port = []
 -- the same at a later moment
 abbrev pub at_moment : {A : Type 0} → ℕ → IpPortState A → IpPortState A
 at_moment now port = record port { moment = now }
+
+-- it is a foreign device's, which registers at a manager (J.5.2)
+abbrev pub is_foreign : {A : Type 0} → Reach A → Bool
+is_foreign (Members others) = false
+is_foreign (Foreign manager seconds_to_live) = true
 
 -- how it says a broadcast (J.4.5, J.5)
 abbrev pub port_of : {A : Type 0} → Reach A → carry.Port

@@ -1,9 +1,9 @@
 //! The message that a datagram hands up.
 
-ghost use Rattle.std.specs.Prelude.{◌≡◌, ◌⊎◌, Some, IfOk, IfErr};
+ghost use Rattle.std.specs.Prelude.{◌≡◌, ◌⊎◌, Some, IfOk, IfErr, IsSome, OnErr};
 ghost use Rattle.bvll.specs.Datagram.{datagram_of};
 ghost use Rattle.carry.specs.Datagrams.{parcel};
-ghost use Rattle.link_ip.specs.Hearing.{HandsUp, IsHeard, IsNotRead, IsRefused, handed_up};
+ghost use Rattle.link_ip.specs.Hearing.{HandsOneUp, HandsUp, IsHeard, IsNotRead, IsRefused, IsTaken, handed_up};
 
 use bvll::Bvll;
 use npdu::{Mac, Parcel, Target};
@@ -39,6 +39,7 @@ fn handed_up<A: Allocator + Copy>(
 ) -> Result<Option<Parcel<A>>, Fault>
     ensures up { IfOk result (λ up. up ≡ handed_up from own stamp (datagram_of heard.now)) }
     ensures memory { IfErr result (λ fault. fault ≡ Fault.Memory) }
+    ensures taken { OnErr result (IsSome (handed_up {A = A} from own stamp (datagram_of heard.now))) }
 {
     match heard {
         Bvll::OriginalUnicastNpdu(npdu) => parcel(alloc, from, Target::One(own), npdu, stamp),
@@ -68,7 +69,8 @@ fn read<A: Allocator + Copy>(
     stamp: u64,
 ) -> Result<Option<Parcel<A>>, Fault>
     ensures up { IfOk result (HandsUp from own octets.now stamp) }
-    ensures cause { IfErr result (λ fault. (fault ≡ Fault.Memory) ⊎ IsNotRead fault octets.now) }
+    ensures cause { IfErr result (λ fault.
+        ((fault ≡ Fault.Memory) × HandsOneUp A from own octets.now stamp) ⊎ IsNotRead fault octets.now) }
 {
     let heard = Bvll::read(octets)?;
     let up = handed_up(alloc, from, own, &heard, stamp)?;
@@ -87,7 +89,8 @@ pub(crate) fn heard_from<A: Allocator + Copy>(
     stamp: u64,
 ) -> Result<Option<Parcel<A>>, Fault>
     ensures up { IfOk result (IsHeard from own octets.now stamp) }
-    ensures cause { IfErr result (λ fault. (fault ≡ Fault.Memory) ⊎ IsRefused fault from octets.now) }
+    ensures cause { IfErr result (λ fault.
+        ((fault ≡ Fault.Memory) × IsTaken A from own octets.now stamp) ⊎ IsRefused fault from octets.now) }
 {
     match from {
         Mac::One(_) => Ok(None),

@@ -66,8 +66,8 @@ impl<A: Allocator + Copy> IpPort<A> {
     ghost use Rattle.std.specs.Prelude.{◌≡◌, ◌<◌, ◌≤◌, ◌⊎◌, IfOk, IfErr, OnErr, length};
     ghost use Rattle.link.specs.Carrying.{nothing};
     ghost use Rattle.link.specs.Limits.{max_npdu_at};
-    ghost use Rattle.link_ip.specs.Hearing.{IsRefused};
-    ghost use Rattle.link_ip.specs.Port.{at_moment, new_port, station_of};
+    ghost use Rattle.link_ip.specs.Hearing.{IsRefused, IsTaken};
+    ghost use Rattle.link_ip.specs.Port.{at_moment, is_foreign, new_port, station_of};
     ghost use Rattle.link_ip.specs.Steps.{Downs, Hears, Idles, Registers};
     ghost use Rattle.profile.specs.Times.{MAX_MOMENT_MS};
 
@@ -92,6 +92,16 @@ impl<A: Allocator + Copy> IpPort<A> {
         Station {
             net: self.net,
             mac: Mac::Six(self.address.to_octets()),
+        }
+    }
+
+    /// Whether it is a foreign device's, which registers at a broadcast manager (J.5.2).
+    pub fn is_foreign(&self) -> bool
+        ensures { result ≡ is_foreign self.now.reach }
+    {
+        match self.reach {
+            Reach::Members(_) => false,
+            Reach::Foreign { .. } => true,
         }
     }
 
@@ -143,11 +153,12 @@ impl<A: Allocator + Copy> IpPort<A> {
 
     /// Hears a datagram from an address on the network, said at the moment `stamp`, at the moment `now`, in
     /// milliseconds. An Original-Unicast-NPDU, an Original-Broadcast-NPDU and a Forwarded-NPDU hand up what they carry,
-    /// whatever is in it, and no other datagram does (J.2). What comes from an address of another kind is dropped.
+    /// whatever is in it, and no other datagram does (J.2). What comes from an address of another kind is dropped. What
+    /// hands nothing up takes no memory.
     ///
     /// # Errors
     /// `BadVersion`, `BadTag`, `Short` or `BadLength` for octets that spell no datagram, as `Bvll::read` has them; or
-    /// `Memory`. The port is then as it was.
+    /// `Memory`, for what hands a parcel up alone. The port is then as it was.
     pub fn heard(
         &mut self,
         from: Mac,
@@ -158,7 +169,9 @@ impl<A: Allocator + Copy> IpPort<A> {
         requires greatest { now ≤ MAX_MOMENT_MS }
         requires order { self.old.moment ≤ now }
         ensures step { IfOk result (λ step. Hears now from octets.now stamp self.old step self.new) }
-        ensures cause { IfErr result (λ fault. (fault ≡ Fault.Memory) ⊎ IsRefused fault from octets.now) }
+        ensures cause { IfErr result (λ fault.
+            ((fault ≡ Fault.Memory) × IsTaken A from (station_of self.old).mac octets.now stamp)
+            ⊎ IsRefused fault from octets.now) }
         ensures unchanged { OnErr result (self.new ≡ self.old) }
     {
         let up = heard_from(self.alloc, from, self.station().mac, octets, stamp)?;

@@ -1,5 +1,5 @@
 -- A port of a site, by its kind: where it is, and what waits in it (6.1).
-use Rattle.std.specs.Prelude.{ℕ, List}
+use Rattle.std.specs.Prelude.{ℕ, Bool, false, List}
 use Rattle.link_bus.specs.Port as bus
 use Rattle.link_ip.specs.Port as ip
 use Rattle.npdu.specs.declared.mac.Station.{Station}
@@ -21,6 +21,11 @@ moment_of (Bus port) = bus.moment_of port
 abbrev pub waiting_in : {A : Type 0} → SitePort A → List (Parcel A)
 waiting_in (Ip port) = ip.waiting_in port
 waiting_in (Bus port) = bus.waiting_in port
+
+-- it is a foreign device's, which registers at a manager (J.5.2): a bus has none
+abbrev pub is_foreign : {A : Type 0} → SitePort A → Bool
+is_foreign (Ip port) = ip.is_foreign port.reach
+is_foreign (Bus port) = false
 
 -- the same at a later moment
 abbrev pub at_moment : {A : Type 0} → ℕ → SitePort A → SitePort A

@@ -1,5 +1,8 @@
 //! The kinds of ports.
 
+ghost use Rattle.std.specs.Prelude.{◌≡◌};
+ghost use Rattle.link_site.specs.Port as spec;
+
 use link_bus::BusPort;
 use link_ip::IpPort;
 use std::alloc::Allocator;
@@ -11,4 +14,16 @@ pub enum SitePort<A: Allocator> {
     Ip(IpPort<A>),
     /// On a bus of MS/TP (9).
     Bus(BusPort<A>),
+}
+
+impl<A: Allocator + Copy> SitePort<A> {
+    /// Whether it is a foreign device's, which registers at a broadcast manager: a bus has none (J.5.2).
+    pub fn is_foreign(&self) -> bool
+        ensures { result ≡ spec.is_foreign self.now }
+    {
+        match self {
+            SitePort::Ip(port) => port.is_foreign(),
+            SitePort::Bus(_) => false,
+        }
+    }
 }

@@ -1,6 +1,7 @@
 -- What a frame is, and the octets that spell one (9.3).
 use Rattle.std.specs.Prelude.{◌≡◌, ℕ, ◌-◌, ◌<◌, ◌≤◌, List, [], ◌∷◌, ◌++◌, length, refl}
 use Rattle.byteorder.specs.Endian.{big_bytes, little_bytes}
+use Rattle.profile.specs.Limits.{MAX_FRAME_DATA_OCTETS}
 use Rattle.tags.specs.Number.{AreOctets}
 use Rattle.mstp_frame.specs.declared.frame.Frame.{Frame}
 use Rattle.mstp_frame.specs.FrameType.{type_number}
@@ -46,16 +47,16 @@ pub record Spells (octets : List ℕ) (f : PlainFrame) : Type 0 where
   pub parts : octets ≡ 0x55 ∷ 0xFF ∷ (header f ++ check ∷ behind)
   pub header : header_remainder (header f ++ check ∷ []) ≡ 0x55
   pub contents : SpellsData behind f.contents
-  pub size : length f.contents ≤ 501
+  pub size : length f.contents ≤ MAX_FRAME_DATA_OCTETS
   pub are_octets : AreOctets octets
 
--- the fields are octets, and the data at most 501
+-- the fields are octets, and the data no more than a frame has
 pub record IsSound (f : PlainFrame) : Type 0 where
   pub frame_type : f.frame_type < 256
   pub destination : f.destination < 256
   pub source : f.source < 256
   pub contents : AreOctets f.contents
-  pub size : length f.contents ≤ 501
+  pub size : length f.contents ≤ MAX_FRAME_DATA_OCTETS
 
 -- data and the complement of what is left of them, the low octet first (9.3)
 abbrev pub checked : List ℕ → List ℕ

@@ -1,6 +1,7 @@
 -- The frames that are heard in a stream of octets and silences (9.5.4).
 use Rattle.std.specs.Prelude.{◌≡◌, ◌≢◌, ℕ, ◌+◌, ◌*◌, ◌<◌, ◌≤◌, ◌==◌, ◌&&◌, nat_lt, if◌then◌else◌, List, [], ◌∷◌, ◌++◌}
 use Rattle.std.specs.Prelude.{length, take, drop, slice_index, ◌⊎◌}
+use Rattle.profile.specs.Limits.{MAX_FRAME_DATA_OCTETS}
 use Rattle.mstp_frame.specs.Remainder.{header_remainder}
 use Rattle.mstp_frame.specs.Frame.{PlainFrame, Spells}
 
@@ -15,9 +16,10 @@ abbrev pub size_at : List ℕ → ℕ
 size_at octets = 256 * slice_index octets 5 + slice_index octets 6
 
 -- how many octets from 55 FF on are taken together: the eight of the header, and, where its check is good and the
--- length from 1 to 501, the data and two check octets
+-- length from 1 to that of the longest data, the data and two check octets
 unfoldable pub span : List ℕ → ℕ
-span octets = if (header_remainder (take 6 (drop 2 octets)) == 0x55) && nat_lt (size_at octets) 502
+span octets =
+    if (header_remainder (take 6 (drop 2 octets)) == 0x55) && nat_lt (size_at octets) (1 + MAX_FRAME_DATA_OCTETS)
     then (if size_at octets == 0 then 8 else 10 + size_at octets) else 8
 
 -- 55 FF begins here, and all octets that are taken together are there

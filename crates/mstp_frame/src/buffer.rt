@@ -10,7 +10,7 @@ use crate::frame::{Frame, PREAMBLE};
 use crate::front::{Front, frame_from, goal, judge};
 use std::cmp::min;
 
-/// The most octets of a frame: the header, 501 of data, and their check octets (9.3).
+/// The most octets of a frame: eight of preamble and header, the longest data, and two check octets (9.3).
 pub(crate) const MAX_OCTETS: usize = 511;
 
 /// Octets from 55 FF on, or a whole frame.

@@ -2,6 +2,7 @@
 
 ghost use Rattle.std.specs.Prelude.{◌≡◌, ◌≤◌, ◌++◌, ◌∷◌, length, OnOk, OnErr, IfErr};
 ghost use Rattle.byteorder.specs.Endian.{big_bytes};
+ghost use Rattle.profile.specs.Limits as limit;
 ghost use Rattle.tags.specs.Canonical.{Extends};
 ghost use Rattle.tags.specs.Number.{AreOctets};
 ghost use Rattle.mstp_frame.specs.Frame.{canonical, checked, frame_of, header, IsSound, Spells};
@@ -14,9 +15,6 @@ use tags::{Fault, all_or_none};
 
 /// The octets that each frame begins with (9.3).
 pub const PREAMBLE: [u8; 2] = [0x55, 0xFF];
-
-/// The most octets of data in a frame (9.1.1).
-pub const MAX_DATA: usize = 501;
 
 /// A frame (9.3). Its data are the named slice of the octets that it was read from.
 #[derive(Clone, Copy, Debug)]
@@ -56,7 +54,7 @@ impl<'a> Frame<'a> {
 ///
 /// `Memory` alone.
 pub fn write_frame<B: Allocator>(frame: &Frame<'_>, out: &mut Vec<u8, B>) -> Result<(), Fault>
-    requires { length (frame_of frame.now).contents ≤ 501 }
+    requires { length (frame_of frame.now).contents ≤ limit.MAX_FRAME_DATA_OCTETS }
     ensures written { OnOk result (out.new.items ≡ out.old.items ++ canonical (frame_of frame.now)) }
     ensures spelled { OnOk result (Spells (canonical (frame_of frame.now)) (frame_of frame.now)) }
     ensures memory { IfErr result (λ e. e ≡ Fault.Memory) }
@@ -68,7 +66,7 @@ pub fn write_frame<B: Allocator>(frame: &Frame<'_>, out: &mut Vec<u8, B>) -> Res
 }
 
 fn put_frame<B: Allocator>(frame: &Frame<'_>, out: &mut Vec<u8, B>) -> Result<(), AllocError>
-    requires { length (frame_of frame.now).contents ≤ 501 }
+    requires { length (frame_of frame.now).contents ≤ limit.MAX_FRAME_DATA_OCTETS }
     ensures put { OnOk result (out.new.items ≡ out.old.items ++ canonical (frame_of frame.now)) }
     ensures sound { OnOk result (IsSound (frame_of frame.now)) }
     ensures err { OnErr result (Extends out.old.items out.new.items) }

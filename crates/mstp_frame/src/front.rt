@@ -7,9 +7,10 @@ ghost use Rattle.mstp_frame.specs.Heard.{size_at, span, IsCut};
 ghost use Rattle.mstp_frame.specs.Front.{frame_at, IsGoal, IsJudged, IsRead};
 
 use crate::check::{data_check, header_check};
-use crate::frame::{Frame, MAX_DATA, PREAMBLE};
+use crate::frame::{Frame, PREAMBLE};
 use crate::frame_type::FrameType;
 use byteorder::{BigEndian, ByteOrder};
+use profile::MAX_FRAME_DATA_OCTETS;
 
 /// The octets of a frame without data: 55 FF, the header and its check (9.3).
 pub(crate) const HEADER_OCTETS: usize = 8;
@@ -83,7 +84,7 @@ fn judge_header(octets: &[u8]) -> Front
     }
     match size_of(octets) {
         0 => Front::Whole,
-        1..=MAX_DATA => Front::Unfinished,
+        1..=MAX_FRAME_DATA_OCTETS => Front::Unfinished,
         _ => Front::Lost,
     }
 }

@@ -23,6 +23,6 @@ mod laws;
 
 pub use check::{data_check, header_check, tables_are_remainders};
 pub use deframer::{Deframer, Fed};
-pub use frame::{Frame, MAX_DATA, PREAMBLE, write_frame};
+pub use frame::{Frame, PREAMBLE, write_frame};
 pub use frame_type::FrameType;
 pub use laws::{cuts_are_one, hearing, spelling};

@@ -4,6 +4,7 @@ ghost use Rattle.std.specs.Prelude.{◌≡◌, ◌≤◌, ◌++◌, length, OnOk
 ghost use Rattle.mstp_table.specs.Node as spec;
 ghost use Rattle.mstp_table.specs.Node.{all_sent, named};
 ghost use Rattle.mstp_table.specs.Table.{after_frame, idle_hears, poll_hears, wait_hears};
+ghost use Rattle.profile.specs.Limits as limit;
 
 use crate::node::Node;
 use crate::queue::ALL_NODES;
@@ -35,7 +36,7 @@ impl<A: Allocator + Copy> Node<A> {
         out: &mut Items<Sent<A>, A>,
         now: u64,
     ) -> Result<bool, Fault>
-        requires { length (named frame.now).contents ≤ 501 }
+        requires { length (named frame.now).contents ≤ limit.MAX_FRAME_DATA_OCTETS }
         ensures up { IfOk result (λ up. up ≡ (after_frame (named frame.now) self.old now).up) }
         ensures left { OnOk result (self.new ≡ (after_frame (named frame.now) self.old now).left) }
         ensures frames { OnOk result (out.new ≡ out.old
@@ -65,7 +66,7 @@ impl<A: Allocator + Copy> Node<A> {
         out: &mut Items<Sent<A>, A>,
         now: u64,
     ) -> Result<bool, Fault>
-        requires { length (named frame.now).contents ≤ 501 }
+        requires { length (named frame.now).contents ≤ limit.MAX_FRAME_DATA_OCTETS }
         ensures up { IfOk result (λ up. up ≡ (idle_hears self.old (named frame.now) frame.now.frame_type to now).up) }
         ensures left { OnOk result (self.new
             ≡ (idle_hears self.old (named frame.now) frame.now.frame_type to now).left) }

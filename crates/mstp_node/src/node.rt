@@ -69,6 +69,7 @@ impl<A: Allocator + Copy> Node<A> {
     ghost use Rattle.mstp_table.specs.Node.{IsForBus, all_sent, named};
     ghost use Rattle.mstp_table.specs.Table.{after_frame, after_octets, after_queued, after_tick, made};
     ghost use Rattle.mstp_table.specs.Table as table;
+    ghost use Rattle.profile.specs.Limits as limit;
 
     /// A node at the address `ts`, 0 to 127, made at the moment `now`, in milliseconds (9.5.2).
     pub fn new(alloc: A, ts: u8, now: u64) -> Self
@@ -170,7 +171,7 @@ impl<A: Allocator + Copy> Node<A> {
     /// # Errors
     /// `Memory` alone.
     pub fn on_frame(&mut self, frame: &Frame<'_>, now: u64) -> Result<NodeStep<A>, Fault>
-        requires size { length (named frame.now).contents ≤ 501 }
+        requires size { length (named frame.now).contents ≤ limit.MAX_FRAME_DATA_OCTETS }
         ensures up { IfOk result (λ step. step.hands_up ≡ (after_frame (named frame.now) self.old now).up) }
         ensures out { IfOk result (λ step. step.out ≡ all_sent (after_frame (named frame.now) self.old now).frames) }
         ensures left { OnOk result (self.new ≡ (after_frame (named frame.now) self.old now).left) }

@@ -4,6 +4,7 @@ ghost use Rattle.std.specs.Prelude.{◌≡◌, ◌≤◌, ◌++◌, ◌∷◌, [
 ghost use Rattle.mstp_table.specs.Node.{all_sent, named};
 ghost use Rattle.mstp_table.specs.Table.{data_of, gives_token, polls, says};
 ghost use Rattle.mstp_node.specs.Queue.{Fits};
+ghost use Rattle.profile.specs.Limits as limit;
 
 use crate::node::Node;
 use link::Sent;
@@ -20,7 +21,7 @@ fn put<A: Allocator + Copy>(
     stamp: u64,
     out: &mut Items<Sent<A>, A>,
 ) -> Result<(), Fault>
-    requires { length (named frame.now).contents ≤ 501 }
+    requires { length (named frame.now).contents ≤ limit.MAX_FRAME_DATA_OCTETS }
     ensures put { OnOk result (out.new ≡ out.old ++ all_sent (record { frame = named frame.now; stamp = stamp } ∷ [])) }
     ensures memory { IfErr result (λ fault. fault ≡ Fault.Memory) }
 {
@@ -44,7 +45,7 @@ impl<A: Allocator + Copy> Node<A> {
         out: &mut Items<Sent<A>, A>,
         now: u64,
     ) -> Result<(), Fault>
-        requires { length «data».now ≤ 501 }
+        requires { length «data».now ≤ limit.MAX_FRAME_DATA_OCTETS }
         ensures left { OnOk result (self.new ≡ (says frame_type destination «data».now self.old now).left) }
         ensures frames { OnOk result (out.new ≡ out.old
             ++ all_sent (says frame_type destination «data».now self.old now).frames) }

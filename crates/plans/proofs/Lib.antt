@@ -1,3 +1,4 @@
+pub mod Foreign
 pub mod Hosts
 pub mod Standing
 pub mod PlanLaws

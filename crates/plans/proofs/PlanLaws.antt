@@ -1,11 +1,11 @@
 -- What a station of a world plans may be done: what it says can be told, and it stands once it is done.
-use Rattle.std.proofs.Common.{◌≡◌, ◌∙◌, refl, sym, ap, subst, arith, ℕ, ◌≤◌, List, [], ◌∷◌, map, Option, Some, None, Result, Ok, Err, IfOk}
+use Rattle.std.proofs.Common.{◌≡◌, ◌∙◌, ⊎_elim, refl, sym, ap, subst, arith, ℕ, ◌≤◌, List, [], ◌∷◌, map, Option, Some, None, Result, Ok, Err, IfOk}
 use Rattle.std.specs.List.{AllByRecursion}
 use Rattle.apdu.specs.declared.unconfirmed.Limits.{Limits}
-use Rattle.directory.proofs.carry_said.Clients.{client_hearing_has_insides, client_says_something, who_is_says_something}
-use Rattle.directory.proofs.carry_said.Devices.{device_hearing_has_insides, device_says_something}
-use Rattle.directory.proofs.carry_said.Parcels.{all_insides}
-use Rattle.directory.specs.carry_said.Said.{HasInsides}
+use Rattle.directory.proofs.carry_said.Clients.{client_hearing_says, client_says_something, who_is_says_something}
+use Rattle.directory.proofs.carry_said.Devices.{device_hearing_says, device_says_something}
+use Rattle.directory.proofs.carry_said.Parcels.{saying_each}
+use Rattle.directory.specs.carry_said.Said.{IsSaying, IsSayingEach}
 use Rattle.directory.specs.client.Client.{ClientState}
 use Rattle.directory.specs.client.Saying as client_saying
 use Rattle.directory.specs.client.Saying.{who_is_parcel}
@@ -14,6 +14,7 @@ use Rattle.directory.specs.client_tsm.Steps as client_tsm_steps
 use Rattle.directory.specs.client_tsm.Waking as client_waking
 use Rattle.directory.specs.device.Device.{DeviceState}
 use Rattle.directory.specs.hosts.headline_device.Devices.{serves}
+use Rattle.history.proofs.Lists.{has_cons, none_has}
 use Rattle.history.specs.Lists.{Has}
 use Rattle.link_site.specs.CarryLaws.{carries_counting, carries_down, carries_on, carries_registering, carries_up}
 use Rattle.link_site.specs.Port.{moment_of, restarted, station_of, waiting_in}
@@ -62,45 +63,48 @@ ports_before {A} now s host =
     subst (λ (ps : List (SitePort A)). AreBefore moment_of now ps) (sym host.one) (host.port_before, tt)
 
 -- what is said of no parcel can be told
-silent_insides : {A : Type 0} (net : ℕ) (said : List (Parcel A)) → said ≡ [] → HasInsides net said
-silent_insides {A} net said e = subst (λ (ps : List (Parcel A)). HasInsides net ps) (sym e) (record { said = []; are = tt })
+says_nothing : {A : Type 0} (x : Station) (now : ℕ) (said : List (Parcel A)) → said ≡ [] → IsSayingEach x now said
+says_nothing {A} x now said e = subst (λ (ps : List (Parcel A)). IsSayingEach x now ps) (sym e)
+    (record { insides = record { said = []; are = tt }; each = tt })
 
 -- what an entity says where it hears something can be told
-hearing_insides : {A : Type 0} (now : ℕ) (p : Parcel A) (e f : Entity A) (told : EntityTold A) →
-    EntityHears now p e told f → HasInsides (entity.station_of e).net told.said
-hearing_insides now p (Device e) (Device f) told of = subst (λ (t : EntityTold _). HasInsides e.net t.said) (sym of.told_is)
-    (device_hearing_has_insides now p.from p.to p.npdu e f of.by of.hears)
-hearing_insides now p (Client e) (Client f) told of = subst (λ (t : EntityTold _). HasInsides e.net t.said) (sym of.told_is)
-    (client_hearing_has_insides now p.from p.to p.npdu e f of.by of.hears)
-hearing_insides now p (Device e) (Client f) told of = absurd of
-hearing_insides now p (Client e) (Device f) told of = absurd of
+hearing_says : {A : Type 0} (now : ℕ) (p : Parcel A) (e f : Entity A) (told : EntityTold A) →
+    EntityHears now p e told f → IsSayingEach (entity.station_of e) now told.said
+hearing_says now p (Device e) (Device f) told of = subst (λ (t : EntityTold _). IsSayingEach (entity.station_of (Device e)) now t.said) (sym of.told_is)
+    (device_hearing_says now p.from p.to p.npdu e f of.by of.hears)
+hearing_says now p (Client e) (Client f) told of = subst (λ (t : EntityTold _). IsSayingEach (entity.station_of (Client e)) now t.said) (sym of.told_is)
+    (client_hearing_says now p.from p.to p.npdu e f of.by of.hears)
+hearing_says now p (Device e) (Client f) told of = absurd of
+hearing_says now p (Client e) (Device f) told of = absurd of
 
 -- .. where it wakes
-waking_insides : {A : Type 0} (now : ℕ) (e : Entity A) → HasInsides (entity.station_of e).net (told_awake now e).said
-waking_insides now (Device d) = all_insides d.net (told_awake now (Device d)).said (λ p there.
+waking_says : {A : Type 0} (now : ℕ) (e : Entity A) → IsSayingEach (entity.station_of e) now (told_awake now e).said
+waking_says now (Device d) = saying_each (entity.station_of (Device d)) now (told_awake now (Device d)).said (λ p there.
     device_says_something now d (serves (server_tsm_steps.told_of_plan (server_waking.woken now d.server.records)) d.server)
     p there)
-waking_insides now (Client c) = all_insides c.net (told_awake now (Client c)).said (λ p there.
+waking_says now (Client c) = saying_each (entity.station_of (Client c)) now (told_awake now (Client c)).said (λ p there.
     client_says_something now c (client_waking.woken now c.machine.open_ones).said p there)
 
 -- .. where it issues a request
-issuing_insides : {A : Type 0} (now instance : ℕ) (request : Request A) (e f : Entity A) (id : ℕ) (told : EntityTold A) →
-    EntityIssues now instance request e id told f → HasInsides (entity.station_of e).net told.said
-issuing_insides {A} now instance request (Client c) (Client f) id told of = all_insides c.net told.said (λ p there.
+issuing_says : {A : Type 0} (now instance : ℕ) (request : Request A) (e f : Entity A) (id : ℕ) (told : EntityTold A) →
+    EntityIssues now instance request e id told f → IsSayingEach (entity.station_of e) now told.said
+issuing_says {A} now instance request (Client c) (Client f) id told of = saying_each (entity.station_of (Client c)) now told.said (λ p there.
     client_says_something now c (issued now request of.issues.binding.bound c.machine).said p
     (subst (λ (ps : List (Parcel A)). Has ps p) of.issues.said there))
-issuing_insides now instance request (Client c) (Device f) id told of = absurd of
-issuing_insides now instance request (Device d) f id told of = absurd of
+issuing_says now instance request (Client c) (Device f) id told of = absurd of
+issuing_says now instance request (Device d) f id told of = absurd of
 
 -- .. where it asks who is there
-asking_insides : {A : Type 0} (now : ℕ) (limits : Option Limits) (e f : Entity A) (told : EntityTold A) →
-    EntityAsks now limits e told f → HasInsides (entity.station_of e).net told.said
-asking_insides {A} now limits (Client c) f told of = subst (λ (t : EntityTold A). HasInsides c.net t.said) (sym of.0)
-    (record {
-      said = record { inside = (who_is_says_something now c limits).inside; stamp = now } ∷ [];
-      are = (record { inside = (who_is_says_something now c limits).has; stamp = refl }, tt);
-    })
-asking_insides now limits (Device d) f told of = absurd of
+asking_says : {A : Type 0} (now : ℕ) (limits : Option Limits) (e f : Entity A) (told : EntityTold A) →
+    EntityAsks now limits e told f → IsSayingEach (entity.station_of e) now told.said
+asking_says {A} now limits (Client c) f told of =
+    subst (λ (t : EntityTold A). IsSayingEach (entity.station_of (Client c)) now t.said) (sym of.0)
+    (saying_each (entity.station_of (Client c)) now (who_is_parcel now c.mac limits ∷ []) (λ p there. ⊎_elim
+    (λ (same : who_is_parcel now c.mac limits ≡ p).
+    subst (λ (q : Parcel A). IsSaying (entity.station_of (Client c)) now q) same (who_is_says_something now c limits))
+    (λ (more : Has [] p). absurd (none_has more))
+    (has_cons (who_is_parcel now c.mac limits) [] there)))
+asking_says now limits (Device d) f told of = absurd of
 
 module _ {A : Type 0} (now : ℕ) (s : WorldStation A) (host : IsHost now s) (plan : StationPlan (SitePort A) A)
     (planned : IsPlanned now s plan) where
@@ -110,11 +114,12 @@ module _ {A : Type 0} (now : ℕ) (s : WorldStation A) (host : IsHost now s) (pl
   abbrev next : WorldStation A
   next = left_by now plan s
 
-  may : HasInsides (entity.station_of s.entity).net told.told.said →
+  may : IsSayingEach (entity.station_of s.entity) now told.told.said →
       Kept AnyThing now (entity.station_of s.entity) next.ports told.out → MayBeDone now plan s
-  may insides only = record {
+  may says only = record {
     planned = planned;
-    insides = insides;
+    insides = says.insides;
+    own = says.each;
     stands = stands_then AnyThing now s.entity plan.entity next.ports told.out host.entity_before only;
   }
 
@@ -127,10 +132,10 @@ module _ {A : Type 0} (now : ℕ) (s : WorldStation A) (host : IsHost now s) (pl
       (λ p there y e. tt) h)
     where
       by_up : (up : Option (Parcel A)) → AnswersIf Downs now up h.middle s.entity h.middle_out told next →
-          HasInsides (entity.station_of s.entity).net told.told.said
-      by_up None a = silent_insides (entity.station_of s.entity).net told.told.said
+          IsSayingEach (entity.station_of s.entity) now told.told.said
+      by_up None a = says_nothing (entity.station_of s.entity) now told.told.said
           (ap (λ (t : StationTold A). t.told.said) (a.0))
-      by_up (Some p) a = hearing_insides now p s.entity next.entity told.told a.does
+      by_up (Some p) a = hearing_says now p s.entity next.entity told.told a.does
 
   -- .. on a frame of its bus
   pub may_take : (port count : ℕ) (from : Mac) (octets : List ℕ) (stamp : ℕ) →
@@ -141,22 +146,22 @@ module _ {A : Type 0} (now : ℕ) (s : WorldStation A) (host : IsHost now s) (pl
       (λ p there y e. tt) h)
     where
       by_up : (up : Option (Parcel A)) → AnswersIf Downs now up h.heard.middle s.entity h.heard.middle_out told next →
-          HasInsides (entity.station_of s.entity).net told.told.said
-      by_up None a = silent_insides (entity.station_of s.entity).net told.told.said
+          IsSayingEach (entity.station_of s.entity) now told.told.said
+      by_up None a = says_nothing (entity.station_of s.entity) now told.told.said
           (ap (λ (t : StationTold A). t.told.said) (a.0))
-      by_up (Some p) a = hearing_insides now p s.entity next.entity told.told a.does
+      by_up (Some p) a = hearing_says now p s.entity next.entity told.told a.does
 
   -- .. on octets that end no frame
   pub may_be_told : (port count : ℕ) → StationCounts Counts now port count s told next → MayBeDone now plan s
   may_be_told port count c = may
-      (silent_insides (entity.station_of s.entity).net told.told.said (ap (λ (t : EntityTold A). t.said) c.silent))
+      (says_nothing (entity.station_of s.entity) now told.told.said (ap (λ (t : EntityTold A). t.said) c.silent))
       (octets_keep Carries station_of moment_of waiting_in Downs Hears Wakes carries_down carries_up carries_on AnyThing
       Counts carries_counting (entity.station_of s.entity ∷ []) now port count s told next (quiet now s host) c)
 
   -- where it wakes
   pub may_wake : StationWakes is_due Wakes Downs now s told next → MayBeDone now plan s
-  may_wake h = may (subst (λ (t : EntityTold A). HasInsides (entity.station_of s.entity).net t.said) (sym h.told)
-      (waking_insides now s.entity)) (station_wakes_keep Carries station_of moment_of waiting_in Downs Hears
+  may_wake h = may (subst (λ (t : EntityTold A). IsSayingEach (entity.station_of s.entity) now t.said) (sym h.told)
+      (waking_says now s.entity)) (station_wakes_keep Carries station_of moment_of waiting_in Downs Hears
       Wakes carries_down carries_up carries_on AnyThing is_due (entity.station_of s.entity ∷ []) now s
       told next (quiet now s host) (λ p there y e. tt) h)
 
@@ -170,17 +175,17 @@ module _ {A : Type 0} (now : ℕ) (s : WorldStation A) (host : IsHost now s) (pl
   pub may_issue : (instance : ℕ) (request : Request A) (id : ℕ) →
       StationIssues Downs now instance request id s told next → MayBeDone now plan s
   may_issue instance request id h = may
-      (issuing_insides now instance request s.entity next.entity id told.told h.says.does)
+      (issuing_says now instance request s.entity next.entity id told.told h.says.does)
       (only_said (λ told left. EntityIssues now instance request s.entity id told left) h.says)
 
   pub may_ask : (limits : Option Limits) → StationAsks Downs now limits s told next → MayBeDone now plan s
-  may_ask limits h = may (asking_insides now limits s.entity next.entity told.told h.says.does)
+  may_ask limits h = may (asking_says now limits s.entity next.entity told.told h.says.does)
       (only_said (λ told left. EntityAsks now limits s.entity told left) h.says)
 
   -- where it registers
   pub may_register : StationRegisters Registers now s told next → MayBeDone now plan s
   may_register h = may
-      (silent_insides (entity.station_of s.entity).net told.told.said (ap (λ (t : EntityTold A). t.said) h.silent))
+      (says_nothing (entity.station_of s.entity) now told.told.said (ap (λ (t : EntityTold A). t.said) h.silent))
       (registers_keep Carries station_of moment_of waiting_in Downs Hears Wakes carries_down
       carries_up carries_on AnyThing Registers carries_registering
       (entity.station_of s.entity ∷ []) now ITS_PORT s.ports next.ports [] told.out
@@ -194,7 +199,7 @@ module _ {A : Type 0} (now : ℕ) (s : WorldStation A) (host : IsHost now s) (pl
 
   pub may_restart : (opening : PlainTable A) → StationRestarts restarted now opening s told next → MayBeDone now plan s
   may_restart opening h = may
-      (silent_insides (entity.station_of s.entity).net told.told.said
+      (says_nothing (entity.station_of s.entity) now told.told.said
       (restart_is_silent opening s.entity next.entity told.told h.entity))
       (subst (λ (o : List (PortSent A)). Kept AnyThing now (entity.station_of s.entity) next.ports o)
       (sym h.silent) (subst (λ (ps : List (SitePort A)).

@@ -1,10 +1,10 @@
 //! What a station of a world plans on each input, so that it may be done.
 
-ghost use Rattle.std.specs.Prelude.{◌≡◌, ◌≤◌, ◌⊎◌, IfOk, IfErr};
+ghost use Rattle.std.specs.Prelude.{◌≡◌, ◌≤◌, ◌⊎◌, false, IfOk, IfErr, IsTrue};
 ghost use Rattle.directory.specs.hosts.Hosts.{IsHost};
 ghost use Rattle.link_site.specs.Port as ports;
 ghost use Rattle.link_site.specs.Steps as site;
-ghost use Rattle.plans.specs.Plans.{MayBeDone, WakeIsTooLong, places_of};
+ghost use Rattle.plans.specs.Plans.{IsForeign, MayBeDone, WakeIsTooLong, places_of};
 ghost use Rattle.primitives.specs.Sound.{IsSoundRequest};
 ghost use Rattle.profile.specs.Times.{MAX_MOMENT_MS};
 ghost use Rattle.directory.specs.site_station.Entity.{IsClient};
@@ -122,8 +122,8 @@ pub fn plan_wakes<A: Allocator + Copy>(
 /// What a client plans where it issues a request, and the invoke ID that it gives.
 ///
 /// # Errors
-/// `Memory`; as `Client::issue` refuses, `NoSuch` for a device among them; `TooLong` where the request is too long for
-/// the port.
+/// `Memory`, of a client alone; as `Client::issue` refuses, `NoSuch` for a device among them; `TooLong` where the
+/// request is too long for the port.
 #[tactic(auto, using(crate::proofs::PlanLaws::issuing_rules))]
 pub fn plan_issues<A: Allocator + Copy>(
     station: &WorldStation<A>,
@@ -137,7 +137,7 @@ pub fn plan_issues<A: Allocator + Copy>(
     ensures issues { IfOk result (λ p. StationIssues site.Downs now instance request.now p.0 station.now (told_by p.1)
         (left_by now p.1 station.now)) }
     ensures may { IfOk result (λ p. MayBeDone now p.1 station.now) }
-    ensures cause { IfErr result (λ fault. (fault ≡ Fault.Memory) ⊎
+    ensures cause { IfErr result (λ fault. ((fault ≡ Fault.Memory) × IsClient station.now.entity) ⊎
         IssueIsRefused (places_of station.now) now instance request.now station.now.entity fault) }
 {
     station.plan_issues(instance, request, now)
@@ -146,7 +146,7 @@ pub fn plan_issues<A: Allocator + Copy>(
 /// What a client plans where it asks who is there.
 ///
 /// # Errors
-/// `Memory`; as `Client::who_is` refuses, `NoSuch` for a device among them.
+/// `Memory`, of a client alone; as `Client::who_is` refuses, `NoSuch` for a device among them.
 #[tactic(auto, using(crate::proofs::PlanLaws::asking_rules))]
 pub fn plan_asks<A: Allocator + Copy>(
     station: &WorldStation<A>,
@@ -158,7 +158,7 @@ pub fn plan_asks<A: Allocator + Copy>(
     ensures asks { IfOk result (λ plan. StationAsks site.Downs now limits station.now (told_by plan)
         (left_by now plan station.now)) }
     ensures may { IfOk result (λ plan. MayBeDone now plan station.now) }
-    ensures cause { IfErr result (λ fault. (fault ≡ Fault.Memory) ⊎
+    ensures cause { IfErr result (λ fault. ((fault ≡ Fault.Memory) × IsClient station.now.entity) ⊎
         AskingIsRefused (places_of station.now) now limits station.now.entity fault) }
 {
     station.plan_asks(limits, now)
@@ -185,10 +185,21 @@ pub fn plan_restarts<A: Allocator + Copy>(
     station.plan_restarts(opening, now)
 }
 
+/// Whether a station's port is a foreign device's: another says nothing where it registers (J.5.2).
+#[tactic(auto, using(crate::proofs::Foreign::foreign_rules))]
+fn is_foreign<A: Allocator + Copy>(station: &WorldStation<A>, now: u64) -> bool
+    requires host { IsHost now station.now }
+    ensures foreign { IsTrue result → IsForeign station.now }
+    ensures other { (result ≡ false) → IsNotForeign site.Registers now station.now }
+{
+    let _ = now;
+    SitePort::is_foreign(&station.ports()[0])
+}
+
 /// What a foreign station plans where it registers.
 ///
 /// # Errors
-/// `Memory`; `NoSuch` for one that isn't foreign.
+/// `Memory`, of a foreign station alone; `NoSuch` for one that isn't foreign.
 #[tactic(auto, using(crate::proofs::PlanLaws::registering_rules))]
 pub fn plan_registers<A: Allocator + Copy>(
     station: &WorldStation<A>,
@@ -199,8 +210,11 @@ pub fn plan_registers<A: Allocator + Copy>(
     ensures registers { IfOk result (λ plan. StationRegisters site.Registers now station.now (told_by plan)
         (left_by now plan station.now)) }
     ensures may { IfOk result (λ plan. MayBeDone now plan station.now) }
-    ensures cause { IfErr result (λ fault. (fault ≡ Fault.Memory) ⊎
+    ensures cause { IfErr result (λ fault. ((fault ≡ Fault.Memory) × IsForeign station.now) ⊎
         ((fault ≡ Fault.NoSuch) × IsNotForeign site.Registers now station.now)) }
 {
+    if !is_foreign(station, now) {
+        return Err(Fault::NoSuch);
+    }
     station.plan_registers(now)
 }

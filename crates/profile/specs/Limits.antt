@@ -61,6 +61,14 @@ MAX_TEXT_OCTETS = 128
 abbrev pub MAX_DATAGRAM_OCTETS : ℕ
 MAX_DATAGRAM_OCTETS = 2048
 
+-- the greatest number of octets of data in a frame on MS/TP (9.3)
+abbrev pub MAX_FRAME_DATA_OCTETS : ℕ
+MAX_FRAME_DATA_OCTETS = 501
+
+-- the longest name of a station, in octets
+abbrev pub MAX_NAME_OCTETS : ℕ
+MAX_NAME_OCTETS = 32
+
 -- how many tokens a master node has before it polls for others (9.5.6)
 abbrev pub N_POLL : ℕ
 N_POLL = 50

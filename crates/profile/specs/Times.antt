@@ -33,6 +33,14 @@ REUSE_MS = 27001
 abbrev pub MAX_MOMENT_MS : ℕ
 MAX_MOMENT_MS = 2 ^ 62
 
+-- how many pass at once at most
+abbrev pub MAX_TICK_MS : ℕ
+MAX_TICK_MS = 60000
+
+-- for how many seconds more than it asked for a foreign device stays registered (J.5.2.3)
+abbrev pub GRACE_SECONDS : ℕ
+GRACE_SECONDS = 30
+
 -- how long a master node hears nothing before it takes the token for lost (9.5.6)
 abbrev pub T_NO_TOKEN_MS : ℕ
 T_NO_TOKEN_MS = 500

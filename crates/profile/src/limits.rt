@@ -49,6 +49,12 @@ pub const MAX_TEXT_OCTETS: usize = 128;
 /// The room for a datagram that is received, in octets: one that fills it isn't whole.
 pub const MAX_DATAGRAM_OCTETS: usize = 2048;
 
+/// The greatest number of octets of data in a frame on MS/TP (9.3).
+pub const MAX_FRAME_DATA_OCTETS: usize = 501;
+
+/// The longest name of a station, in octets.
+pub const MAX_NAME_OCTETS: usize = 32;
+
 /// How many tokens a master node has before it polls for others (9.5.6, Npoll).
 pub const N_POLL: u8 = 50;
 
@@ -101,6 +107,14 @@ pub fn counts() -> (usize, usize, usize, usize, usize, usize, usize, usize)
         MAX_TEXT_OCTETS,
         MAX_DATAGRAM_OCTETS,
     )
+}
+
+/// The most octets of a frame's data and of a station's name: each is that of its definition.
+pub fn sizes() -> (usize, usize)
+    ensures frame_data { result.0 ≡ spec.MAX_FRAME_DATA_OCTETS }
+    ensures name { result.1 ≡ spec.MAX_NAME_OCTETS }
+{
+    (MAX_FRAME_DATA_OCTETS, MAX_NAME_OCTETS)
 }
 
 /// The counts of a master node (9.5.6): each is that of its definition.

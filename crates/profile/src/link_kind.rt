@@ -3,6 +3,8 @@
 ghost use Rattle.std.specs.Prelude.{◌≡◌};
 ghost use Rattle.profile.specs.LinkKind as spec;
 
+use crate::limits::MAX_FRAME_DATA_OCTETS;
+
 /// What a network's messages go over.
 #[derive(Clone, Copy, Debug, PartialEq, Eq)]
 pub enum LinkKind {
@@ -32,7 +34,7 @@ impl LinkKind {
     {
         match self {
             LinkKind::BacnetIp => 1497,
-            LinkKind::MsTp => 501,
+            LinkKind::MsTp => MAX_FRAME_DATA_OCTETS as u16,
         }
     }
 }

@@ -29,6 +29,12 @@ pub const REUSE_MS: u64 = 27_001;
 /// The greatest moment.
 pub const MAX_MOMENT_MS: u64 = 1 << 62;
 
+/// How many pass at once at most.
+pub const MAX_TICK_MS: u64 = 60_000;
+
+/// For how many seconds more than it asked for a foreign device stays registered (J.5.2.3).
+pub const GRACE_SECONDS: u64 = 30;
+
 /// How long a master node hears nothing before it takes the token for lost (9.5.6, Tno_token).
 pub const T_NO_TOKEN_MS: u64 = 500;
 
@@ -68,6 +74,14 @@ pub fn transaction_times() -> (u64, u64, u64, u64, u64, u64, u64, u64)
         REUSE_MS,
         MAX_MOMENT_MS,
     )
+}
+
+/// The longest tick, and the seconds of grace of a registration: each is that of its definition.
+pub fn event_times() -> (u64, u64)
+    ensures tick { result.0 ≡ spec.MAX_TICK_MS }
+    ensures grace { result.1 ≡ spec.GRACE_SECONDS }
+{
+    (MAX_TICK_MS, GRACE_SECONDS)
 }
 
 /// The times of a master node (9.5.6): each is that of its definition.

@@ -10,7 +10,8 @@ use crate::hearers::{Speaker, say_to_all};
 use crate::texts::{Kind, read_text};
 use crate::watched::{Hearer, Watched};
 use bvll::HEADER_OCTETS;
-use mstp_frame::{Frame, FrameType, MAX_DATA, write_frame};
+use mstp_frame::{Frame, FrameType, write_frame};
+use profile::MAX_FRAME_DATA_OCTETS;
 use rand_core::{Rng, SeedableRng};
 use rand_xoshiro::Xoshiro256PlusPlus;
 use sheets::{Counts, Part, Row, Stop, octets, two_words};
@@ -176,8 +177,8 @@ fn put_length(datagram: &mut Vec<u8>) {
 
 /// A frame with these data, or as many of them as a frame may have.
 fn framed(alloc: Global, random: &mut Xoshiro256PlusPlus, data: &[u8]) -> Result<Vec<u8>, Stop> {
-    let data = data.get(..MAX_DATA).unwrap_or(data);
-    if data.len() > MAX_DATA {
+    let data = data.get(..MAX_FRAME_DATA_OCTETS).unwrap_or(data);
+    if data.len() > MAX_FRAME_DATA_OCTETS {
         return Err(Stop::Unread(Part::Octets));
     }
     let [frame_type, destination, source, _] = random.next_u32().to_be_bytes();

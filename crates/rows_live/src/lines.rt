@@ -137,6 +137,16 @@ const NO_SITE: &str = "network = []\n";
 /// The device is found, and written.
 const SCRIPT: &str = "whois c\nflow 50\nissue c 10 write 5:1 85 enum 1\nflow 50\n";
 
+/// The same, and its last line has no end.
+const UNENDED_SCRIPT: &str = "whois c\nflow 50\nissue c 10 write 5:1 85 enum 1\nflow 50";
+
+/// The device restarts twice.
+const RESTARTS: &str = "restart d\nrestart d\n";
+
+/// .. behind the script.
+const SCRIPT_AND_RESTARTS: &str =
+    "whois c\nflow 50\nissue c 10 write 5:1 85 enum 1\nflow 50\nrestart d\nrestart d\n";
+
 /// The third line asks for nothing.
 const NO_SCRIPT: &str = "whois c\nflow 50\ndeliver x\n";
 
@@ -153,8 +163,9 @@ const CAPTURE: &[u8] = &[
 /// What a file of pcapng begins with: the type of its first block.
 const SECTION: &[u8] = &[0x0A, 0x0D, 0x0D, 0x0A];
 
-/// Five files, `p.toml`, `none.toml`, `live.script`, `bad.script` and `one.pcap`, and four that may be written:
-/// `storm.script`, and `live.pcapng`, `live.svg` and `live.html` if they begin as such files do.
+/// Seven files, `p.toml`, `none.toml`, `live.script`, `unended.script`, `empty.script`, `bad.script` and `one.pcap`,
+/// and six that may be written: `storm.script`; `restarts.script` and `behind.script` if they hold just these texts;
+/// and `live.pcapng`, `live.svg` and `live.html` if they begin as such files do.
 #[derive(Clone, Copy)]
 struct Texts;
 
@@ -171,6 +182,8 @@ impl Files for Texts {
             "p.toml" => SITE.as_bytes(),
             "none.toml" => NO_SITE.as_bytes(),
             "live.script" => SCRIPT.as_bytes(),
+            "unended.script" => UNENDED_SCRIPT.as_bytes(),
+            "empty.script" => b"",
             "bad.script" => NO_SCRIPT.as_bytes(),
             "one.pcap" => CAPTURE,
             _ => return Err(io::ErrorKind::NotFound.into()),
@@ -182,6 +195,8 @@ impl Files for Texts {
     fn write(&self, name: &str, octets: &[u8]) -> io::Result<()> {
         match name {
             "storm.script" => Ok(()),
+            "restarts.script" if octets == RESTARTS.as_bytes() => Ok(()),
+            "behind.script" if octets == SCRIPT_AND_RESTARTS.as_bytes() => Ok(()),
             "live.pcapng" if octets.starts_with(SECTION) => Ok(()),
             "live.svg" if octets.starts_with(b"<svg ") => Ok(()),
             "live.html" if octets.starts_with(b"<!DOCTYPE html>") => Ok(()),

@@ -161,7 +161,7 @@ struct Written {
 
 impl<'a> Trial<'a> for Written {
     fn answer(&self, given: Given<'a>, octets: &[u8]) -> Result<String, Stop> {
-        if octets.len() > mstp_frame::MAX_DATA {
+        if octets.len() > profile::MAX_FRAME_DATA_OCTETS {
             return Err(Stop::Unread(Part::Octets));
         }
         let frame = Frame {

@@ -160,7 +160,7 @@ octets_of {A} network name octets w of = elim of.why [
 naming : {A : Type 0} (name : List ℕ) (w : WorldState A) (Says : WorldStation A → Type 0) →
     ((s : WorldStation A) → Says s → ⊥) → RefusesNamed name w Wire Says → ⊥
 naming name w Says never (inl why) = subst IsWire (why.0) tt
-naming name w Says never (inr of) = never of.s of.refuses
+naming name w Says never (inr of) = never of.s of.is
 
 refusing : {A : Type 0} (e : Event A) (w : WorldState A) → IsRefused e w Wire → ⊥
 refusing e w (inl memory) = subst IsWire (memory.0) tt
@@ -170,7 +170,7 @@ refusing (event.WhoIs client limits) w (inr why) =
     naming client w _ (λ s x. elim x [ inl a ↦ subst IsWire (a.0) tt | inr b ↦ subst IsWire (b.0) tt ]) why
 refusing (event.Tick n) w (inr why) = subst IsWire (why.0) tt
 refusing (event.Wake station) w (inr (inl why)) = subst IsWire (why.0) tt
-refusing (event.Wake station) w (inr (inr (inl of))) = subst IsWire (of.refuses.0) tt
+refusing (event.Wake station) w (inr (inr (inl of))) = subst IsWire (of.is.0) tt
 refusing (event.Wake station) w (inr (inr (inr of))) = waking w.moment of.r of.refuses
 refusing (event.Deliver number) w (inr (inl (inl why))) = subst IsWire (why.0) tt
 refusing (event.Deliver number) w (inr (inl (inr old))) = subst IsWire (old.0) tt

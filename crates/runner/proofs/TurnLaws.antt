@@ -1,7 +1,7 @@
 -- What turns leave is what events leave, where no stray was heard.
 use Rattle.std.proofs.Common.{◌≡◌, ◌∙◌, inl, inr, refl, sym, ap, subst, Bool, true, false, List, [], ◌∷◌, Option, Some, None, Result, Ok, Err}
 use Rattle.std.specs.List.{AllByRecursion}
-use Rattle.simulator.specs.internetwork.Refusals.{Comes}
+use Rattle.simulator.specs.Runs.{Happens}
 use Rattle.simulator.specs.internetwork.Step.{IsSoundEvent, IsSoundIfAny}
 use Rattle.simulator.specs.internetwork.World.{WorldState}
 use Rattle.simulator.specs.internetwork.declared.event.Event.{Event}
@@ -18,7 +18,7 @@ use Rattle.wire.specs.Datagrams.{Datagram}
 -- what a turn does it does whatever the latest one did
 pub turned_anew : {A : Type 0} (next : Option (Event A)) (latest : Option Datagram) (old new : RunnerState A)
     (t : Turned) → HasTurned next latest (record old { strayed = false }) new t → HasTurned next latest old new t
-turned_anew (Some e) latest old new turned.Stepped h = record { steps = h.steps; rest = h.rest }
+turned_anew (Some e) latest old new turned.Stepped h = record { steps = h.steps; brought = h.brought; rest = h.rest }
 turned_anew (Some e) latest old new turned.Stray h = absurd h
 turned_anew (Some e) latest old new turned.Dropped h = absurd h
 turned_anew (Some e) latest old new turned.Nothing h = absurd h
@@ -26,7 +26,7 @@ turned_anew None (Some d) old new turned.Stepped h = record {
   number = h.number;
   whole = h.whole;
   item = h.item;
-  made = record { steps = h.made.steps; rest = h.made.rest };
+  made = record { steps = h.made.steps; brought = h.made.brought; rest = h.made.rest };
 }
 turned_anew None (Some d) old new turned.Stray h = record {
   whole = h.whole;
@@ -73,7 +73,7 @@ pub ruleset turn_rules = (turned_anew, undone_turn, unsent_turn)
 
 -- one event and others
 module _ {A : Type 0} where
-  one_more : (e : Event A) (w u v : WorldState A) → IsSoundEvent e → Comes e w u → AreEvents u v → AreEvents w v
+  one_more : (e : Event A) (w u v : WorldState A) → IsSoundEvent e → Happens e w u → AreEvents u v → AreEvents w v
   one_more e w u v sound comes more = record {
     events = e ∷ more.events;
     sound = (sound, more.sound);
@@ -92,10 +92,12 @@ module _ {A : Type 0} where
   )
 
   made_leads : (e : Event A) (old new : RunnerState A) → IsSoundEvent e → HasMade e old new → Leads old new
-  made_leads e old new sound made led = (
-    sym (ap (λ (r : RunnerState A). r.is_led) made.rest) ∙ led,
-    λ v more. one_more e old.world new.world v sound (inl made.steps) more,
-  )
+  made_leads e old new sound made led =
+      let was : old.is_led ≡ true = sym (ap (λ (r : RunnerState A). r.is_led) made.rest) ∙ led in (
+        was,
+        λ v more. one_more e old.world new.world v sound
+            (record { comes = inl made.steps; brought = made.brought was }) more,
+      )
 
   stray_leads : (old new : RunnerState A) → new.is_led ≡ false → Leads old new
   stray_leads old new strayed led = absurd (differ (sym strayed ∙ led))

@@ -1,7 +1,7 @@
 -- What any number of turns leaves.
 use Rattle.std.specs.Prelude.{◌≡◌, true, List, [], ◌∷◌, Option, Result}
 use Rattle.std.specs.List.{AllByRecursion}
-use Rattle.simulator.specs.internetwork.Refusals.{Runs}
+use Rattle.simulator.specs.Runs.{Runs}
 use Rattle.simulator.specs.internetwork.Step.{IsSoundEvent, IsSoundIfAny}
 use Rattle.simulator.specs.internetwork.World.{WorldState}
 use Rattle.simulator.specs.internetwork.declared.event.Event.{Event}

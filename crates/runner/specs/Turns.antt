@@ -1,5 +1,6 @@
 -- What a turn of a runner leaves.
 use Rattle.std.specs.Prelude.{◌≡◌, ◌⊎◌, ℕ, true, false, Option, Some, None, Result, Ok, Err}
+use Rattle.simulator.specs.Heard.{HasBrought}
 use Rattle.simulator.specs.internetwork.Refusals.{IsRefused}
 use Rattle.simulator.specs.internetwork.Step.{Steps}
 use Rattle.simulator.specs.internetwork.declared.event.Event.{Event}
@@ -18,9 +19,10 @@ use Rattle.runner.specs.declared.turned.Turned.TheVariants.{Stepped, Stray, Drop
 abbrev pub IsIdle : {A : Type 0} → (old new : RunnerState A) → Type 0
 IsIdle old new = new ≡ record old { strayed = false }
 
--- the step of an event was made
+-- the step of an event was made; where no stray was heard so far, what it brought was said, issued and whole
 pub record HasMade {A : Type 0} (e : Event A) (old new : RunnerState A) : Type 0 where
   pub steps : Steps e old.world new.world
+  pub brought : old.is_led ≡ true → HasBrought e old.world new.world
   pub rest : new ≡ record old { world = new.world; strayed = false }
 
 -- a datagram came that is an item, which was delivered

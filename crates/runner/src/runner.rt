@@ -40,8 +40,7 @@ impl<A: Allocator + Copy> Model for Runner<A> {
 impl<A: Allocator + Copy> Runner<A> {
     ghost use Rattle.std.specs.Prelude.{◌≡◌, ◌≢◌, true, false, Some, None, IfErr, IfNone, IfOk, IfSome, OnErr, OnOk};
     ghost use Rattle.simulator.specs.carry_world.Laws.{IsLegal};
-    ghost use Rattle.simulator.specs.hosts.Opening.{object_site};
-    ghost use Rattle.simulator.specs.hosts.Stations.{devices_of};
+    ghost use Rattle.simulator.specs.Judged.{instances_of, judged_of};
     ghost use Rattle.simulator.specs.internetwork.Refusals.{IsRefused};
     ghost use Rattle.simulator.specs.internetwork.Step.{IsSoundEvent, IsSoundIfAny};
     ghost use Rattle.runner.specs.Runner.{put_out};
@@ -81,7 +80,7 @@ impl<A: Allocator + Copy> Runner<A> {
     pub fn history(&self) -> &[WorldEntry<A>]
         ensures history { result.now ≡ self.now.world.history }
         ensures legal { self.now.is_led ≡ true →
-            IsLegal (object_site self.now.world.site) result.now (devices_of self.now.world.stations) }
+            IsLegal (instances_of self.now.world.site) result.now (judged_of self.now.world) }
     {
         self.world.history()
     }

@@ -5,6 +5,7 @@ use Rattle.std.specs.List.{flat_map}
 use Rattle.buses.specs.Laws.{known_as}
 use Rattle.carry.specs.Things.{SentFrame, Thing}
 use Rattle.internetwork.proofs.carry_world.Promised.{stays_so}
+use Rattle.internetwork.proofs.hosts.DeviceLaws.{devices_open}
 use Rattle.internetwork.proofs.hosts.FreshLaws.{stations_are_fresh}
 use Rattle.internetwork.proofs.hosts.SiteLaws.{devices_are_site}
 use Rattle.internetwork.specs.hosts.Buses.{bus_of_kind}
@@ -126,6 +127,7 @@ led_new {A} p sound =
         devices_apart = fresh.devices_apart;
         numbers = fresh.numbers;
       };
+      devices = devices_open p sound;
       leads = stays_so (object_site p) (plain (fresh_world p));
     }
 

@@ -1,18 +1,23 @@
--- What a device or a client hears was said, what is executed on it was issued, and what is told of it is of its issue:
--- on a delivery, and on each frame that octets on a bus end.
+-- What a device or a client hears was said, what is executed on it was issued, what is told of it is of its issue, and
+-- what comes whole is the whole of one: on a delivery, on each frame that octets on a bus end, and at a wake.
 use Rattle.std.proofs.Common.{◌≡◌, ◌∙◌, refl, sym, ap, subst, ℕ, List, [], ◌∷◌, Option, Some, None}
 use Rattle.std.specs.List.{AllByRecursion}
 use Rattle.bus_traffic.specs.declared.hearing.HeardFrame.{HeardFrame}
 use Rattle.buses.specs.Puts.{BusesState}
 use Rattle.carry.specs.Things.{Thing}
-use Rattle.internetwork.proofs.carry_world.Promised.{all_hear, executed_is_issued, outcomes_are_of_issues, steps_lead_on}
-use Rattle.internetwork.specs.carry_world.Laws.{IsExecuted, IsFresh, IsIssuedTo, IsOfItsIssue}
+use Rattle.internetwork.proofs.carry_world.Executed.{whole_is_executed}
+use Rattle.internetwork.proofs.carry_world.Promised.{all_hear, executed_is_issued, outcomes_are_of_issues, steps_lead_on, whole_is_issued, woken_are_of_issues}
+use Rattle.internetwork.specs.carry_world.Answers.{AnswerComesWhole, IsOfExecution}
+use Rattle.internetwork.specs.carry_world.Laws.{IsExecuted, IsFresh, IsIssuedTo, IsOfItsIssue, IsWholeIssue}
 use Rattle.internetwork.specs.carry_world.PlainSteps.{StepsTo}
 use Rattle.internetwork.specs.carry_world.PlainWorld as plain_world
 use Rattle.internetwork.specs.carry_world.PlainWorld.{PlainWorld}
+use Rattle.internetwork.specs.carry_world.carry_said.headline_site.Laws.{ComesWhole}
 use Rattle.internetwork.specs.client.Client.{ClientState}
+use Rattle.internetwork.specs.client_tsm.Hearing as client_tsm
 use Rattle.internetwork.specs.client_tsm.declared.plan.TransactionOutcome.{TransactionOutcome}
 use Rattle.internetwork.specs.device.Device.{DeviceState}
+use Rattle.internetwork.specs.device.server_tsm.Hearing as server_tsm
 use Rattle.headline.specs.Happenings.{Fails, Gives, Outcome}
 use Rattle.headline.specs.Protocol.{IsSite}
 use Rattle.internetwork.specs.headline_bacnet.Protocol.{bacnet}
@@ -27,7 +32,7 @@ use Rattle.internetwork.specs.hosts.Stations.{WorldStation}
 use Rattle.internetwork.specs.Acting.{Acts}
 use Rattle.internetwork.specs.Hearing.{Hears, TakesAs, TakesEach}
 use Rattle.internetwork.specs.Laws.{Stands}
-use Rattle.internetwork.specs.Step.{Delivers, delivered}
+use Rattle.internetwork.specs.Step.{Delivers, Wakes, delivered}
 use Rattle.internetwork.specs.World.{WorldState, plain}
 use Rattle.internetwork.specs.declared.event.Event.{Event}
 use Rattle.internetwork.specs.declared.event.Event.TheVariants as event
@@ -42,7 +47,7 @@ use Rattle.npdu.specs.declared.parcel.Parcel.{Parcel}
 use Rattle.primitives.specs.declared.plain_data.Reply.{Reply}
 use Rattle.internetwork.specs.server_answers.declared.plan.Executed.{Executed}
 use Rattle.internetwork.specs.site_station.Entity as entity
-use Rattle.internetwork.specs.site_station.Entity.{EntityHears}
+use Rattle.internetwork.specs.site_station.Entity.{EntityHears, awake, told_awake}
 use Rattle.internetwork.specs.site_station.Station.{AnswersIf, StationTold}
 use Rattle.internetwork.specs.site_station.declared.entity.Entity.{Entity}
 use Rattle.internetwork.specs.site_station.declared.entity.Entity.TheVariants.{Device, Client}
@@ -53,7 +58,8 @@ use Rattle.simulator.proofs.BusLeads as bus
 use Rattle.simulator.proofs.BusLeads.{Here, IsComing, all_pass, begins, comes, takes_as}
 use Rattle.simulator.proofs.LeadLaws as item
 use Rattle.simulator.proofs.LeadLaws.{host, with_nothing}
-use Rattle.simulator.specs.Heard.{AreOfIssues, ExecutedWasIssued, HeardWasSaid, HoldsAtEach, HoldsAtFrame, HoldsBy, OutcomesHaveIssues, WasIssued, WasSaid}
+use Rattle.simulator.specs.Heard.{AnswersAreWhole, AreOfIssues, ExecutedWasIssued, HasBrought, HeardWasSaid, HoldsAtEach, HoldsAtFrame, HoldsBy}
+use Rattle.simulator.specs.Heard.{IsWholeAnswer, IsWholeRequest, OutcomesHaveIssues, RequestsAreWhole, WasIssued, WasSaid}
 use Rattle.simulator.specs.Laws.{IsLed}
 
 -- this world came about from a fresh one of a site
@@ -75,12 +81,20 @@ comes_further s0 q r came steps = record {
   leads = steps_lead_on s0 came.fresh q r came.leads steps;
 }
 
+none_some : {X : Type 0} (x : X) → None ≡ Some x → ⊥
+none_some x e = cc
+
+some_same : {X : Type 0} (x y : X) → Some x ≡ Some y → x ≡ y
+some_same x y e = cc
+
 -- all that is promised where an entity hears
 record IsPromised {A : Type 0} (w : WorldState A) (e : Entity A) (up : Option (Parcel A)) (told : EntityTold A) :
     Type 0 where
   said : WasSaid w e up told
   issued : WasIssued w e up told
   of_issues : AreOfIssues w e up told
+  request : IsWholeRequest w e up told
+  answer : IsWholeAnswer w e up told
 
 -- a device or a client of a world that came about so, with more on its way, hears what is delivered to it
 module _ {A : Type 0} (s0 : ObjectSite A) (extra : List (Thing A)) (w v : WorldState A)
@@ -112,10 +126,7 @@ module _ {A : Type 0} (s0 : ObjectSite A) (extra : List (Thing A)) (w v : WorldS
   executed_so : (up : Option (Parcel A)) → AnswersIf Downs w.moment up ports s.entity so_far t next → Brought up →
       (e : DeviceState A) (y : Executed A) → s.entity ≡ Device e → t.told.executed ≡ Some y → IsIssuedTo (plain w) e y
   executed_so None a brought e y is some =
-      absurd (no_some y (sym (ap (λ (u : StationTold A). u.told.executed) (a.0)) ∙ some))
-    where
-      no_some : (z : Executed A) → None ≡ Some z → ⊥
-      no_some z q = cc
+      absurd (none_some y (sym (ap (λ (u : StationTold A). u.told.executed) (a.0)) ∙ some))
   executed_so (Some p) a brought e y is some = executed_by p e next.entity y is refl (brought p refl)
       (subst (λ (n : Entity A). EntityHears w.moment p n t.told next.entity) is a.does) some
 
@@ -158,6 +169,63 @@ module _ {A : Type 0} (s0 : ObjectSite A) (extra : List (Thing A)) (w v : WorldS
   told_so (Some p) a brought c is = told_by p c next.entity is refl (brought p refl)
       (subst (λ (n : Entity A). EntityHears w.moment p n t.told next.entity) is a.does)
 
+  request_by : (p : Parcel A) (e : DeviceState A) (f : Entity A) (y : server_tsm.Whole A) → s.entity ≡ Device e →
+      next.entity ≡ f → plain_world.Delivers old x.net x.mac p → EntityHears w.moment p (Device e) t.told f →
+      ComesWhole w.moment p.from p.to p.npdu e y → IsWholeIssue (plain w) e y
+  request_by p e (Device f) y is then delivers of comes =
+      let part = device_acts w v place s next t items buses acts host e f is then in
+      let at : x ≡ record { net = e.net; mac = e.mac } = ap (λ (n : Entity A). entity.station_of n) is in
+      let k : IsWholeIssue old e y = whole_is_issued s0 came.fresh old came.is_site came.begun came.leads part.1.place e p
+      y part.1.there (subst (λ (z : Station). plain_world.Delivers old z.net z.mac p) at delivers) comes in
+      record {
+        i = k.i;
+        request = k.request;
+        moment = k.moment;
+        last = k.last;
+        issue = k.issue;
+        service = k.service;
+        octets = k.octets;
+      }
+  request_by p e (Client f) y is then delivers of comes = absurd of
+
+  request_so : (up : Option (Parcel A)) → AnswersIf Downs w.moment up ports s.entity so_far t next → Brought up →
+      (e : DeviceState A) (p : Parcel A) (y : server_tsm.Whole A) → s.entity ≡ Device e → up ≡ Some p →
+      ComesWhole w.moment p.from p.to p.npdu e y → IsWholeIssue (plain w) e y
+  request_so None a brought e p y is came_up comes = absurd (none_some p came_up)
+  request_so (Some q) a brought e p y is came_up comes = request_by q e next.entity y is refl (brought q refl)
+      (subst (λ (n : Entity A). EntityHears w.moment q n t.told next.entity) is a.does)
+      (subst (λ (r : Parcel A). ComesWhole w.moment r.from r.to r.npdu e y) (sym (some_same q p came_up)) comes)
+
+  answer_by : (p : Parcel A) (c : ClientState A) (f : Entity A) (y : client_tsm.Whole A) → s.entity ≡ Client c →
+      next.entity ≡ f → plain_world.Delivers old x.net x.mac p → EntityHears w.moment p (Client c) t.told f →
+      AnswerComesWhole w.moment p.from p.to p.npdu c y → IsOfExecution (plain w) c y
+  answer_by p c (Client f) y is then delivers of comes =
+      let part = client_acts w v place s next t items buses acts host c f is then in
+      let at : x ≡ record { net = c.net; mac = c.mac } = ap (λ (n : Entity A). entity.station_of n) is in
+      let k : IsOfExecution old c y = whole_is_executed s0 came.fresh old came.is_site came.begun came.leads part.1.place
+      c p y part.1.there (subst (λ (z : Station). plain_world.Delivers old z.net z.mac p) at delivers) comes in
+      record {
+        there = k.there;
+        i = k.i;
+        instance = k.instance;
+        issued = k.issued;
+        last = k.last;
+        issue = k.issue;
+        reply = k.reply;
+        done = k.done;
+        executed = k.executed;
+        contents = k.contents;
+      }
+  answer_by p c (Device f) y is then delivers of comes = absurd of
+
+  answer_so : (up : Option (Parcel A)) → AnswersIf Downs w.moment up ports s.entity so_far t next → Brought up →
+      (c : ClientState A) (p : Parcel A) (y : client_tsm.Whole A) → s.entity ≡ Client c → up ≡ Some p →
+      AnswerComesWhole w.moment p.from p.to p.npdu c y → IsOfExecution (plain w) c y
+  answer_so None a brought c p y is came_up comes = absurd (none_some p came_up)
+  answer_so (Some q) a brought c p y is came_up comes = answer_by q c next.entity y is refl (brought q refl)
+      (subst (λ (n : Entity A). EntityHears w.moment q n t.told next.entity) is a.does)
+      (subst (λ (r : Parcel A). AnswerComesWhole w.moment r.from r.to r.npdu c y) (sym (some_same q p came_up)) comes)
+
   is_promised : (up : Option (Parcel A)) → AnswersIf Downs w.moment up ports s.entity so_far t next → Brought up →
       IsPromised w s.entity up t.told
   is_promised up a brought = record {
@@ -167,6 +235,34 @@ module _ {A : Type 0} (s0 : ObjectSite A) (extra : List (Thing A)) (w v : WorldS
     };
     issued = record { issued = λ e y is some. executed_so up a brought e y is some };
     of_issues = record { issues = λ c is. told_so up a brought c is };
+    request = record { whole = λ e p y is came_up comes. request_so up a brought e p y is came_up comes };
+    answer = record { whole = λ c p y is came_up comes. answer_so up a brought c p y is came_up comes };
+  }
+
+-- a device or a client wakes: nothing comes up to it, and a device executes nothing
+module _ {A : Type 0} (w v : WorldState A) (stands : Stands w) (led : IsLed w) (name : List ℕ) (d : Wakes name w v) where
+  awake_executes : (e : DeviceState A) (y : Executed A) → d.s.entity ≡ Device e → d.told.told.executed ≡ Some y → ⊥
+  awake_executes e y is some = none_some y
+      (sym (ap (λ (u : EntityTold A). u.executed) (d.wakes.told ∙ ap (λ (n : Entity A). told_awake w.moment n) is)) ∙ some)
+
+  awake_tells : (c : ClientState A) → d.s.entity ≡ Client c →
+      AllByRecursion (λ o. IsOfItsIssue (plain w) c o) d.told.told.outcomes
+  awake_tells c is =
+      let part = client_acts w v d.place d.s d.next d.told w.items w.buses d.acts
+      (item.waking w v stands [] (object_site w.site) name d) c _ is
+      (d.wakes.entity ∙ ap (λ (n : Entity A). awake w.moment n) is) in
+      subst (λ (os : List (TransactionOutcome A)). AllByRecursion (λ o. IsOfItsIssue (plain w) c o) os)
+      (sym (ap (λ (u : EntityTold A). u.outcomes) (d.wakes.told ∙ ap (λ (n : Entity A). told_awake w.moment n) is)))
+      (woken_are_of_issues (object_site w.site) led.fresh (plain w) led.is_site led.begun led.leads part.1.place c
+      part.1.there)
+
+  awake_is_promised : IsPromised w d.s.entity None d.told.told
+  awake_is_promised = record {
+    said = record { said = λ p h a e brings content. absurd (none_some p e) };
+    issued = record { issued = λ e y is some. absurd (awake_executes e y is some) };
+    of_issues = record { issues = awake_tells };
+    request = record { whole = λ e p y is came_up comes. absurd (none_some p came_up) };
+    answer = record { whole = λ c p y is came_up comes. absurd (none_some p came_up) };
   }
 
 -- what is promised holds wherever an entity hears
@@ -222,7 +318,8 @@ module _ {A : Type 0} (Holds : WorldState A → Entity A → Option (Parcel A) �
   by_event (event.Issue client instance request) w v stands led = tt
   by_event (event.WhoIs client limits) w v stands led = tt
   by_event (event.Tick n) w v stands led = tt
-  by_event (event.Wake station) w v stands led = tt
+  by_event (event.Wake name) w v stands led =
+      record { holds = λ d. so w d.s.entity None d.told.told (awake_is_promised w v stands led name d) }
   by_event (event.Restart station) w v stands led = tt
   by_event (event.Register station) w v stands led = tt
 
@@ -234,3 +331,19 @@ executed_was_issued e w v stands led = by_event WasIssued (λ w e up told all. a
 
 pub outcomes_have_issues : {A : Type 0} (e : Event A) (w v : WorldState A) → Stands w → IsLed w → OutcomesHaveIssues e w v
 outcomes_have_issues e w v stands led = by_event AreOfIssues (λ w e up told all. all.of_issues) e w v stands led
+
+pub requests_are_whole : {A : Type 0} (e : Event A) (w v : WorldState A) → Stands w → IsLed w → RequestsAreWhole e w v
+requests_are_whole e w v stands led = by_event IsWholeRequest (λ w e up told all. all.request) e w v stands led
+
+pub answers_are_whole : {A : Type 0} (e : Event A) (w v : WorldState A) → Stands w → IsLed w → AnswersAreWhole e w v
+answers_are_whole e w v stands led = by_event IsWholeAnswer (λ w e up told all. all.answer) e w v stands led
+
+-- all of it
+pub has_brought : {A : Type 0} (e : Event A) (w v : WorldState A) → Stands w → IsLed w → HasBrought e w v
+has_brought e w v stands led = record {
+  heard = heard_was_said e w v stands led;
+  executed = executed_was_issued e w v stands led;
+  outcomes = outcomes_have_issues e w v stands led;
+  requests = requests_are_whole e w v stands led;
+  answers = answers_are_whole e w v stands led;
+}

@@ -138,7 +138,7 @@ module _ {A : Type 0} (w v : WorldState A) (stands : Stands w) (extra : List (Th
 
   -- a station wakes
   module _ (s0 : ObjectSite A) (name : List ℕ) (d : Wakes name w v) where
-    waking : IsHost w.moment d.s
+    pub waking : IsHost w.moment d.s
     waking = host_of d.place d.s d.acts.there
 
     abbrev woken_at : Station

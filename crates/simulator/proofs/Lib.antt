@@ -5,6 +5,7 @@ pub mod PassLeads
 pub mod HearLeads
 pub mod BusLeads
 pub mod LeadLaws
+pub mod JudgedLaws
 pub mod LedLaws
 pub mod FreshLaws
 pub mod HeardLaws

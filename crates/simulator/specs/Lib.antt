@@ -1,5 +1,7 @@
 pub mod Laws
 pub mod Heard
+pub mod Judged
+pub mod Runs
 pub mod Flows
 pub mod Quiet
 -- What the layers above cite of those below.

@@ -4,13 +4,15 @@
 ghost use Rattle.std.specs.Prelude.{◌≡◌, ◌≤◌, ◌<◌, ◌⊎◌, ◌+◌, ◌-◌, ◌*◌, ◌^◌, Some, IfOk, IfErr, OnOk, OnErr, slice_get};
 ghost use Rattle.bus_traffic.specs.Telling.{IsBehind};
 ghost use Rattle.bus_traffic.specs.declared.telling.Telling.{Telling};
-ghost use Rattle.simulator.specs.Flows.{IsLess, left_in, left_of};
+ghost use Rattle.profile.specs.Times as times;
+ghost use Rattle.simulator.specs.Flows.{Gives, IsLess, TakesNoTime, left_in, left_of};
 ghost use Rattle.simulator.specs.declared.flow.Part.TheVariants.{Delivers};
 ghost use Rattle.internetwork.specs.Step.{IsSoundIfAny};
 
 use bus_traffic::{NextTold, Sending, Telling};
 use internetwork::{Event, Internetwork};
 use npdu::{Mac, Station};
+use profile::MAX_TICK_MS;
 use site_views::at_address;
 use std::alloc::{AllocError, Allocator};
 use tags::{Fault, Octets};
@@ -54,11 +56,12 @@ impl Flow {
     /// # Errors
     /// `NoSuch` for any other number.
     pub fn new(n: u64) -> Result<Self, Fault>
-        ensures range { OnOk result ((1 ≤ n) × (n ≤ 60000)) }
+        ensures range { OnOk result ((1 ≤ n) × (n ≤ times.MAX_TICK_MS)) }
+        ensures left { IfOk result (λ flow. flow.left ≡ n) }
         ensures cause { IfErr result (λ fault. fault ≡ Fault.NoSuch) }
-        ensures outside { OnErr result ((n < 1) ⊎ (60000 < n)) }
+        ensures outside { OnErr result ((n < 1) ⊎ (times.MAX_TICK_MS < n)) }
     {
-        if n < 1 || n > 60_000 {
+        if n < 1 || n > MAX_TICK_MS {
             return Err(Fault::NoSuch);
         }
         Ok(Flow {
@@ -93,6 +96,7 @@ fn first_told<A: Allocator + Copy>(net: &Internetwork<A>, from: Telling) -> Tell
 /// The next millisecond, if one is left.
 fn next_tick<A: Allocator + Copy>(net: &Internetwork<A>, flow: &mut Flow) -> Option<Event<A>>
     ensures sound { IsSoundIfAny result }
+    ensures gives { Gives flow.old flow.new result }
     ensures less { IsLess (flow.old.left * 2 ^ 130) flow.new result }
 {
     if flow.left == 0 {
@@ -124,6 +128,7 @@ fn next_wake<A: Allocator + Copy>(
     flow: &mut Flow,
 ) -> Result<Option<Event<A>>, Fault>
     ensures sound { IfOk result IsSoundIfAny }
+    ensures gives { IfOk result (Gives flow.old flow.new) }
     ensures less { IfOk result (IsLess (flow.old.left * 2 ^ 130 + (before - from)) flow.new) }
     ensures most { IfOk result (IsLess (flow.old.left * 2 ^ 130 + 2 ^ 64) flow.new) }
     ensures cause { IfErr result (λ fault. fault ≡ Fault.Memory) }
@@ -151,6 +156,7 @@ fn hear_event<A: Allocator + Copy>(
     octets: &Octets<A>,
 ) -> Result<Option<Event<A>>, AllocError>
     ensures sound { IfOk result IsSoundIfAny }
+    ensures no_time { IfOk result TakesNoTime }
 {
     let mac = Mac::One(address);
     let Some(station) = at_address(Station { net: network, mac }, net.site().stations()) else {
@@ -176,6 +182,7 @@ fn next_frame<A: Allocator + Copy>(
     requires there { slice_get next.bus.now.ears.items next.ear_place ≡ Some next.ear.now }
     requires ahead { next.recent.now.sending.place.frames < frames }
     ensures sound { IfOk result IsSoundIfAny }
+    ensures gives { IfOk result (Gives flow.old flow.new) }
     ensures less { (told : Telling) → IsBehind told next.entry.recent.now.sending.place.frames next.entry.ear_place →
         IfOk result (IsLess (flow.old.left * 2 ^ 130 + left_in (Delivers from before told frames)) flow.new) }
     ensures cause { IfErr result (λ fault. fault ≡ Fault.Memory) }
@@ -209,6 +216,7 @@ fn next_delivery<A: Allocator + Copy>(
     flow: &mut Flow,
 ) -> Result<Option<Event<A>>, Fault>
     ensures sound { IfOk result IsSoundIfAny }
+    ensures gives { IfOk result (Gives flow.old flow.new) }
     ensures less { IfOk result
         (IsLess (flow.old.left * 2 ^ 130 + left_in (Delivers from before told frames)) flow.new) }
     ensures cause { IfErr result (λ fault. fault ≡ Fault.Memory) }
@@ -239,6 +247,7 @@ pub(crate) fn next_of<A: Allocator + Copy>(
     flow: &mut Flow,
 ) -> Result<Option<Event<A>>, Fault>
     ensures sound { IfOk result IsSoundIfAny }
+    ensures gives { IfOk result (Gives flow.old flow.new) }
     ensures less { IfOk result (IsLess (left_of flow.old) flow.new) }
     ensures cause { IfErr result (λ fault. fault ≡ Fault.Memory) }
     ensures unchanged { OnErr result (flow.new ≡ flow.old) }

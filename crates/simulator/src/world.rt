@@ -1,18 +1,20 @@
 //! The world: what came about from a site's opening by events.
 
-ghost use Rattle.std.specs.Prelude.{◌≡◌, IfOk, IfErr, IfNone, IfSome, OnOk, OnErr};
+ghost use Rattle.std.specs.Prelude.{◌≡◌, [], IfOk, IfErr, IfNone, IfSome, OnOk, OnErr};
 ghost use Rattle.std.specs.List.{AllByRecursion};
 ghost use Rattle.buses.specs.Buses.{buses_of};
 ghost use Rattle.carry.specs.Things.{AreCarried};
+ghost use Rattle.internetwork.specs.carry_world.Answers.{WholeIsExecuted};
 ghost use Rattle.internetwork.specs.carry_world.Laws.{IsLegal, WholeIsIssued};
-ghost use Rattle.simulator.specs.Heard.{ExecutedWasIssued, HeardWasSaid, OutcomesHaveIssues};
+ghost use Rattle.simulator.specs.Heard.{AnswersAreWhole, ExecutedWasIssued, HeardWasSaid, OutcomesHaveIssues};
+ghost use Rattle.simulator.specs.Heard.{RequestsAreWhole};
+ghost use Rattle.simulator.specs.Runs.{Runs};
 ghost use Rattle.internetwork.specs.Finding.{HasNoTable, HasTable};
-ghost use Rattle.simulator.specs.Flows.{IsLess, left_of};
+ghost use Rattle.simulator.specs.Flows.{Gives, IsLess, left_of};
+ghost use Rattle.simulator.specs.Judged.{instances_of, judged_of};
 ghost use Rattle.internetwork.specs.chronicle.Kept.{all_said};
-ghost use Rattle.internetwork.specs.hosts.Opening.{object_site};
-ghost use Rattle.internetwork.specs.Refusals.{IsRefused, Runs};
+ghost use Rattle.internetwork.specs.Refusals.{IsRefused};
 ghost use Rattle.internetwork.specs.Step.{IsSoundEvent, IsSoundIfAny, Steps};
-ghost use Rattle.internetwork.specs.hosts.Stations.{devices_of};
 ghost use Rattle.internetwork.specs.World.{fresh_world, plain};
 
 use crate::flow::{Flow, next_of};
@@ -55,6 +57,7 @@ impl<A: Allocator + Copy> World<A> {
     #[tactic(auto, using(crate::proofs::FreshLaws::fresh_rules))]
     pub fn new(alloc: A, site: Site<A>) -> Result<Self, Fault>
         ensures fresh { IfOk result (λ world. world ≡ fresh_world site) }
+        ensures opens { IfOk result (λ world. (world.site ≡ site) × ((world.moment ≡ 0) × (world.history ≡ []))) }
         ensures cause { IfErr result (λ fault. fault ≡ Fault.Memory) }
     {
         let internetwork = Internetwork::new(alloc, site)?;
@@ -95,10 +98,9 @@ impl<A: Allocator + Copy> World<A> {
     /// What was issued, executed, answered and ended, in order. It is legal: each answer is the reply of one execution
     /// of that very issue at the device that it names, no issue is executed twice, and the objects of each device are
     /// what its executions leave.
-    #[tactic(auto, using(crate::proofs::LedLaws::legal_rules))]
     pub fn history(&self) -> &[WorldEntry<A>]
         ensures history { result.now ≡ self.now.history }
-        ensures legal { IsLegal (object_site self.now.site) result.now (devices_of self.now.stations) }
+        ensures legal { IsLegal (instances_of self.now.site) result.now (judged_of self.now) }
     {
         self.internetwork.history()
     }
@@ -119,7 +121,9 @@ impl<A: Allocator + Copy> World<A> {
     }
 
     /// An event happens: the station that it is for makes its own step, no other changes, and what is on its way, what
-    /// was said and the history grow by exactly what comes of it. Its request, where it has one, must be sound.
+    /// was said and the history grow by exactly what comes of it. What is heard by it was said, what is executed was
+    /// issued, what is told is of its issue, and what comes whole, now or later, is the whole of one. Its request,
+    /// where it has one, must be sound.
     ///
     /// # Errors
     /// `NoSuch` for a name, an item or a tick that isn't there; `Expired` for an item that is too old; what the station
@@ -134,16 +138,22 @@ impl<A: Allocator + Copy> World<A> {
         ensures heard { HeardWasSaid event.now self.old self.new }
         ensures executed { ExecutedWasIssued event.now self.old self.new }
         ensures outcomes { OutcomesHaveIssues event.now self.old self.new }
+        ensures requests { RequestsAreWhole event.now self.old self.new }
+        ensures answers { AnswersAreWhole event.now self.old self.new }
+        ensures whole { WholeIsIssued (plain self.new) }
+        ensures whole_answers { WholeIsExecuted (plain self.new) }
     {
         self.internetwork.step(event)
     }
 
-    /// The next event of a flow, or none where it is over. It is made by `step` before the next one is asked for.
+    /// The next event of a flow, or none where all of its milliseconds have passed. It is made by `step` before the
+    /// next one is asked for.
     ///
     /// # Errors
     /// `Memory` alone. The flow is then as it was.
     pub fn next_of(&self, flow: &mut Flow) -> Result<Option<Event<A>>, Fault>
         ensures sound { IfOk result IsSoundIfAny }
+        ensures gives { IfOk result (Gives flow.old flow.new) }
         ensures less { IfOk result (IsLess (left_of flow.old) flow.new) }
         ensures cause { IfErr result (λ fault. fault ≡ Fault.Memory) }
         ensures unchanged { OnErr result (flow.new ≡ flow.old) }
@@ -152,13 +162,14 @@ impl<A: Allocator + Copy> World<A> {
     }
 
     /// Events happen, one after another: none is left out but those that are refused, and these change nothing.
-    /// Whatever they are, the history is legal then: the promise.
+    /// Whatever they are, what each brings was said, issued and whole, and the history is legal then: the promise.
     pub fn run(&mut self, events: &[Event<A>])
         requires sound { AllByRecursion IsSoundEvent events.now }
         ensures runs { Runs events.now self.old self.new }
-        ensures legal { IsLegal (object_site self.new.site) self.new.history (devices_of self.new.stations) }
+        ensures legal { IsLegal (instances_of self.new.site) self.new.history (judged_of self.new) }
         ensures carried { AreCarried self.new.said (plain self.new).things }
         ensures whole { WholeIsIssued (plain self.new) }
+        ensures whole_answers { WholeIsExecuted (plain self.new) }
     {
         for event in events {
             let _ = self.step(event);
@@ -193,9 +204,10 @@ impl<A: Allocator + Copy> World<A> {
 
     /// What the promise says of every world, for the proofs of others: it does nothing.
     fn promised(&self)
-        ensures legal { IsLegal (object_site self.now.site) self.now.history (devices_of self.now.stations) }
+        ensures legal { IsLegal (instances_of self.now.site) self.now.history (judged_of self.now) }
         ensures carried { AreCarried self.now.said (plain self.now).things }
         ensures whole { WholeIsIssued (plain self.now) }
+        ensures whole_answers { WholeIsExecuted (plain self.now) }
     {
         let _ = &self.internetwork;
     }

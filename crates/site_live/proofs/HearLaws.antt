@@ -1,15 +1,16 @@
 -- Frames are heard, one after another.
-use Rattle.std.proofs.Common.{subst, [], Some}
+use Rattle.std.proofs.Common.{◌≡◌, inl, inr, subst, [], Some, Err}
 use Rattle.runner.proofs.HearingLaws.{next_less, passed_less}
-use Rattle.runner.specs.Hearing.{HearsNext}
+use Rattle.runner.specs.Hearing.{HearsNext, IsNextHear}
 use Rattle.runner.specs.declared.hearing.Heard.{Heard}
 use Rattle.runner.specs.internetwork.World.{WorldState}
 use Rattle.runner.specs.internetwork.declared.event.Event.{Event}
 use Rattle.runner.specs.Runner.{RunnerState}
 use Rattle.site_history.specs.Printed.{Known}
-use Rattle.site_live.proofs.LiveLaws.{lives_none, lives_on}
-use Rattle.site_live.specs.Running.{Lives}
+use Rattle.site_live.proofs.LiveLaws.{lives_none, lives_on, memory_refused, one_refusal}
+use Rattle.site_live.specs.Running.{HasEmptyEar, Lives, PrintsNothing, meets_nobody}
 use Rattle.site_live.specs.Steps.{asked_in}
+use Rattle.tags.specs.declared.fault.Fault.{Fault}
 
 -- that a station hears a frame, nobody asked for
 pub hears_unasked : {A : Type 0} (e : Event A) (w : WorldState A) (h i : Heard) (old new : RunnerState A)
@@ -18,4 +19,15 @@ pub hears_unasked : {A : Type 0} (e : Event A) (w : WorldState A) (h i : Heard) 
 hears_unasked e w h i old new before after next p =
     subst (λ (d : Event _). Lives (asked_in (Some d)) old new before after) next.hears.event p
 
-pub ruleset hear_laws = (lives_none, lives_on, next_less, passed_less, hears_unasked)
+-- why no frame is heard, is a cause
+pub hearing_refused : {A : Type 0} (fault : Fault) (w : WorldState A) (h i : Heard) (old new : RunnerState A)
+    (before after : Known) → w ≡ old.world → IsNextHear w h i (Err fault) →
+    PrintsNothing fault old new before after → Lives [] old new before after
+hearing_refused fault w h i old new before after is (inl memory) p =
+    memory_refused old new before after (subst (λ (f : Fault). PrintsNothing f old new before after) memory.0 p)
+hearing_refused {A} fault w h i old new before after is (inr nobody) p =
+    one_refusal meets_nobody old new before after
+    (subst (λ (x : WorldState A). HasEmptyEar x) is (record { heard = h; next = i; nobody = nobody.1 }))
+    (subst (λ (f : Fault). PrintsNothing f old new before after) nobody.0 p)
+
+pub ruleset hear_laws = (lives_none, lives_on, next_less, passed_less, hears_unasked, hearing_refused)

@@ -1,8 +1,10 @@
 -- Turns of a live run, one after another.
-use Rattle.std.proofs.Common.{arith, ◌≡◌, ◌∙◌, refl, sym, ap, subst, append_assoc, Bool, ℕ, List, [], ◌∷◌, ◌++◌, Option, None, Some, Result, Ok, Err, OnOk, length}
+use Rattle.std.proofs.Common.{arith, ◌≡◌, ◌≤◌, ◌∙◌, inl, inr, refl, sym, ap, subst, append_assoc, Bool, ℕ, List, [], ◌∷◌, ◌++◌, Option, Result, Ok, Err, OnOk, length}
+use Rattle.std.proofs.lemmas.Grind.{common_steps}
 use Rattle.std.proofs.lemmas.List.{append-nil}
 use Rattle.std.specs.List.{AllByRecursion}
 use Rattle.std.specs.Io.KnownBytes.{Appends}
+use Rattle.profile.specs.Times.{MAX_TICK_MS}
 use Rattle.runner.specs.internetwork.Step.{IsSoundIfAny}
 use Rattle.runner.specs.internetwork.World.{WorldState}
 use Rattle.runner.specs.internetwork.declared.event.Event.{Event}
@@ -12,13 +14,15 @@ use Rattle.runner.specs.Runner.{RunnerState}
 use Rattle.runner.specs.Turns.{IsTurn}
 use Rattle.runner.specs.declared.turned.Turned.{Turned}
 use Rattle.site_live.specs.Printed.{turn_text}
-use Rattle.site_live.specs.Running.{AreEventsIfLed, Lives, PrintsTurns, asked_among}
+use Rattle.site_live.specs.Running.{AreEventsIfLed, Cause, IsThere, Lives, PrintsNothing, PrintsTurns, asked_among, asked_for, fault_of, has_no_time, wants_memory}
 use Rattle.site_live.specs.Runs.{IsLegalIfLed, PrintsLiveRun, begun}
-use Rattle.site_live.specs.Steps.{asked_at, asked_in, asked_of}
+use Rattle.site_live.specs.Steps.{IsNoTime, asked_at, asked_in, asked_of, refused_at}
 use Rattle.site_live.specs.declared.step.LiveStep.{LiveStep}
+use Rattle.site_live.specs.declared.step.LiveStep.TheVariants.{Passes}
 use Rattle.site_history.specs.Counting.{counts_of}
 use Rattle.site_history.specs.Printed.{Known, end_text, line, refused_text}
 use Rattle.tags.specs.declared.fault.Fault.{Fault}
+use Rattle.tags.specs.declared.fault.Fault.TheVariants.{Memory, NoSuch}
 use Rattle.wire.specs.Datagrams.{Datagram}
 
 -- a list without an element
@@ -27,11 +31,21 @@ none_left [] e = refl
 none_left (x ∷ xs) e = absurd (omega (arith, e))
 
 module _ {A : Type 0} where
+  -- a time that doesn't pass for a step is refused, and no other
+  none_refused : (n : ℕ) → IsNoTime n → refused_at {A = A} n ≡ Passes n ∷ []
+  none_refused n none = elim none [
+    | inl few ↦ grind (arith, common_steps)
+    | inr many ↦ grind (arith, common_steps)
+  ]
+
+  time_unrefused : (n : ℕ) → 1 ≤ n → n ≤ MAX_TICK_MS → refused_at {A = A} n ≡ []
+  time_unrefused n least most = grind (arith, common_steps)
+
   -- nothing was done
   pub lives_none : (r : RunnerState A) (k : Known) → Lives [] r r k k
-  lives_none r k = record { turns = []; printed = (refl, refl); asked = refl }
+  lives_none r k = record { turns = []; printed = (refl, refl); just_these = refl }
 
-  join : (ts us : List (Option (Turn A))) (old mid new : RunnerState A) (before at after : Known) →
+  join : (ts us : List (Result (Turn A) Cause)) (old mid new : RunnerState A) (before at after : Known) →
       PrintsTurns ts old mid before at → PrintsTurns us mid new at after → PrintsTurns (ts ++ us) old new before after
   join [] us old mid new before at after p q =
       subst (λ (r : RunnerState A). PrintsTurns us r new before after) (p.0)
@@ -43,21 +57,23 @@ module _ {A : Type 0} where
     rest = join ts us p.middle mid new p.at_middle at after p.rest q;
   }
 
-  among_both : (ts us : List (Option (Turn A))) → asked_among (ts ++ us) ≡ asked_among ts ++ asked_among us
+  among_both : (ts us : List (Result (Turn A) Cause)) → asked_among (ts ++ us) ≡ asked_among ts ++ asked_among us
   among_both [] us = refl
-  among_both (Some t ∷ ts) us =
-      ap (λ (l : List (Event A)). asked_in t.next ++ l) (among_both ts us)
+  among_both (Ok t ∷ ts) us =
+      ap (λ (l : List (LiveStep A)). asked_in t.next ++ l) (among_both ts us)
       ∙ sym (append_assoc (asked_in t.next) (asked_among ts) (asked_among us))
-  among_both (None ∷ ts) us = among_both ts us
+  among_both (Err c ∷ ts) us =
+      ap (λ (l : List (LiveStep A)). asked_for c ++ l) (among_both ts us)
+      ∙ sym (append_assoc (asked_for c) (asked_among ts) (asked_among us))
 
   -- some turns, and others
-  pub lives_both : (es fs : List (Event A)) (old mid new : RunnerState A) (before at after : Known) →
+  pub lives_both : (es fs : List (LiveStep A)) (old mid new : RunnerState A) (before at after : Known) →
       Lives es old mid before at → Lives fs mid new at after → Lives (es ++ fs) old new before after
   lives_both es fs old mid new before at after p q = record {
     turns = p.turns ++ q.turns;
     printed = join p.turns q.turns old mid new before at after p.printed q.printed;
-    asked = among_both p.turns q.turns ∙ ap (λ (l : List (Event A)). l ++ asked_among q.turns) p.asked
-        ∙ ap (λ (l : List (Event A)). es ++ l) q.asked;
+    just_these = among_both p.turns q.turns ∙ ap (λ (l : List (LiveStep A)). l ++ asked_among q.turns) p.just_these
+        ∙ ap (λ (l : List (LiveStep A)). es ++ l) q.just_these;
   }
 
   -- some turns that nobody asked for, and others
@@ -78,7 +94,7 @@ module _ {A : Type 0} where
       entries ≡ length old.world.history → Appends before after (turn_text answer entries new) →
       Lives (asked_in next) old new before after
   one_turn next latest answer entries old new before after sound turned count p = record {
-    turns = Some (record { next = next; latest = latest; result = answer }) ∷ [];
+    turns = Ok (record { next = next; latest = latest; result = answer }) ∷ [];
     printed = record {
       middle = new;
       at_middle = after;
@@ -89,62 +105,85 @@ module _ {A : Type 0} where
       };
       rest = (refl, refl);
     };
-    asked = append-nil (asked_in next);
+    just_these = append-nil (asked_in next);
+  }
+
+  -- a refusal is printed, and nothing else
+  pub nothing_printed : (fault : Fault) (moment : ℕ) (r : RunnerState A) (before after : Known) →
+      moment ≡ r.world.moment → Appends before after (line (refused_text fault moment)) →
+      PrintsNothing fault r r before after
+  nothing_printed fault moment r before after at p = record {
+    same = refl;
+    printed = subst (λ (n : ℕ). Appends before after (line (refused_text fault n))) at p;
   }
 
   -- one refusal
-  pub one_refusal : (fault : Fault) (moment : ℕ) (r : RunnerState A) (before after : Known) → moment ≡ r.world.moment →
-      Appends before after (line (refused_text fault moment)) → Lives [] r r before after
-  one_refusal fault moment r before after at p = record {
-    turns = None ∷ [];
+  pub one_refusal : (c : Cause) (old new : RunnerState A) (before after : Known) → IsThere c old.world →
+      PrintsNothing (fault_of c) old new before after → Lives (asked_for c) old new before after
+  one_refusal c old new before after there p = record {
+    turns = Err c ∷ [];
     printed = record {
-      middle = r;
+      middle = new;
       at_middle = after;
-      first = record {
-        fault = fault;
-        same = refl;
-        printed = subst (λ (n : ℕ). Appends before after (line (refused_text fault n))) at p;
-      };
+      first = record { there = there; printed = p };
       rest = (refl, refl);
     };
-    asked = refl;
+    just_these = append-nil (asked_for c);
   }
 
-  -- the turns among them
-  abbrev taken : List (Option (Turn A)) → List (Turn A)
-  taken [] = []
-  taken (Some t ∷ ts) = t ∷ taken ts
-  taken (None ∷ ts) = taken ts
+  -- want of memory is one
+  pub memory_refused : (old new : RunnerState A) (before after : Known) → PrintsNothing Memory old new before after →
+      Lives [] old new before after
+  memory_refused old new before after p = one_refusal wants_memory old new before after tt p
 
-  are_turns : (ts : List (Option (Turn A))) (old new : RunnerState A) (before after : Known) →
+  -- .. and a time that doesn't pass for a step
+  pub time_refused : (n : ℕ) (old new : RunnerState A) (before after : Known) → IsNoTime n →
+      PrintsNothing NoSuch old new before after → Lives (asked_at (Passes n)) old new before after
+  time_refused n old new before after none p =
+      subst (λ (l : List (LiveStep A)). Lives l old new before after) (sym (none_refused n none))
+      (one_refusal (has_no_time n) old new before after none p)
+
+  -- another passes
+  pub time_passes : (n : ℕ) (old new : RunnerState A) (before after : Known) → 1 ≤ n → n ≤ MAX_TICK_MS →
+      Lives [] old new before after → Lives (asked_at (Passes n)) old new before after
+  time_passes n old new before after least most p =
+      subst (λ (l : List (LiveStep A)). Lives l old new before after) (sym (time_unrefused n least most)) p
+
+  -- the turns among them
+  abbrev taken : List (Result (Turn A) Cause) → List (Turn A)
+  taken [] = []
+  taken (Ok t ∷ ts) = t ∷ taken ts
+  taken (Err c ∷ ts) = taken ts
+
+  are_turns : (ts : List (Result (Turn A) Cause)) (old new : RunnerState A) (before after : Known) →
       PrintsTurns ts old new before after →
       AllByRecursion (λ t. IsSoundIfAny t.next) (taken ts) × Turns (taken ts) old new
   are_turns [] old new before after p = (tt, p.0)
-  are_turns (Some t ∷ ts) old new before after p =
+  are_turns (Ok t ∷ ts) old new before after p =
       let rest = are_turns ts p.middle new p.at_middle after p.rest in
       ((p.first.sound, rest.0), record { middle = p.middle; first = p.first.turned; rest = rest.1 })
-  are_turns (None ∷ ts) old new before after p =
+  are_turns (Err c ∷ ts) old new before after p =
       let rest = are_turns ts p.middle new p.at_middle after p.rest in
-      (rest.0, subst (λ (r : RunnerState A). Turns (taken ts) r new) p.first.same rest.1)
+      (rest.0, subst (λ (r : RunnerState A). Turns (taken ts) r new) p.first.printed.same rest.1)
 
   -- what they leave is what events leave
-  pub lives_led : (es : List (Event A)) (old new : RunnerState A) (before after : Known) → Lives es old new before after →
-      AreEventsIfLed old new
+  pub lives_led : (es : List (LiveStep A)) (old new : RunnerState A) (before after : Known) →
+      Lives es old new before after → AreEventsIfLed old new
   lives_led es old new before after p led =
       let all = are_turns p.turns old new before after p.printed in
       turns_lead (taken p.turns) old new (all.0) (all.1) led
 
   -- some turns, those that were asked for, and some more
-  pub three_times : {T E : Type 0} (r : Result T E) (es : List (Event A)) (old mid next new : RunnerState A)
+  pub three_times : {T E : Type 0} (r : Result T E) (es : List (LiveStep A)) (old mid next new : RunnerState A)
       (k0 k1 k2 k3 : Known) → Lives [] old mid k0 k1 → Lives es mid next k1 k2 → OnOk r (Lives [] next new k2 k3) →
       OnOk r (Lives es old new k0 k3)
   three_times (Ok x) es old mid next new k0 k1 k2 k3 p q s =
-      subst (λ (l : List (Event A)). Lives l old new k0 k3) (append-nil es)
+      subst (λ (l : List (LiveStep A)). Lives l old new k0 k3) (append-nil es)
       (lives_both es [] old next new k0 k2 k3 (lives_both [] es old mid next k0 k1 k2 p q) s)
   three_times (Err e) es old mid next new k0 k1 k2 k3 p q s = tt
 
   -- what they leave is what events leave
-  pub led_on_ok : {T E : Type 0} (r : Result T E) (es : List (Event A)) (old new : RunnerState A)
+  pub led_on_ok : {T E : Type 0} (r : Result T E) (es : List (LiveStep A)) (old new : RunnerState A)
       (before after : Known) → OnOk r (Lives es old new before after) → OnOk r (AreEventsIfLed old new)
   led_on_ok (Ok x) es old new before after p = lives_led es old new before after p
   led_on_ok (Err e) es old new before after p = tt
@@ -170,8 +209,8 @@ pub ruleset run_laws = (run_printed)
 
 pub ruleset turn_laws = (one_turn)
 
-pub ruleset refusal_laws = (one_refusal)
+pub ruleset refusal_laws = (nothing_printed)
 
-pub ruleset live_laws = (lives_none, lives_on)
+pub ruleset live_laws = (lives_none, lives_on, memory_refused, time_passes, time_refused)
 
 pub ruleset step_laws = (lives_none, step_before)

@@ -1,15 +1,20 @@
 -- What is printed of the turns of a live run, one after another.
-use Rattle.std.specs.Prelude.{◌≡◌, ◌++◌, true, List, [], ◌∷◌, Option, None, Some, length}
+use Rattle.std.specs.Prelude.{◌≡◌, ◌++◌, ℕ, true, List, [], ◌∷◌, Result, Ok, Err, length}
 use Rattle.std.specs.Io.KnownBytes.{Appends}
 use Rattle.runner.specs.internetwork.Step.{IsSoundIfAny}
-use Rattle.runner.specs.internetwork.declared.event.Event.{Event}
+use Rattle.runner.specs.internetwork.World.{WorldState}
+use Rattle.runner.specs.Hearing.{MeetsNobody}
 use Rattle.runner.specs.Laws.{AreEvents, Turn}
 use Rattle.runner.specs.Runner.{RunnerState}
 use Rattle.runner.specs.Turns.{IsTurn}
+use Rattle.runner.specs.declared.hearing.Heard.{Heard}
 use Rattle.site_history.specs.Printed.{Known, line, refused_text}
 use Rattle.site_live.specs.Printed.{turn_text}
-use Rattle.site_live.specs.Steps.{asked_in}
+use Rattle.site_live.specs.Steps.{IsNoTime, asked_in}
+use Rattle.site_live.specs.declared.step.LiveStep.{LiveStep}
+use Rattle.site_live.specs.declared.step.LiveStep.TheVariants.{Passes}
 use Rattle.tags.specs.declared.fault.Fault.{Fault}
+use Rattle.tags.specs.declared.fault.Fault.TheVariants.{Memory, NoSuch}
 
 -- a turn was taken, and what came of it is printed
 pub record PrintsTurn {A : Type 0} (t : Turn A) (old new : RunnerState A) (before after : Known) : Type 0 where
@@ -17,11 +22,39 @@ pub record PrintsTurn {A : Type 0} (t : Turn A) (old new : RunnerState A) (befor
   pub turned : IsTurn t.next t.latest old new t.result
   pub printed : Appends before after (turn_text t.result (length old.world.history) new)
 
--- no turn was taken, and why not is printed
-pub record PrintsRefusal {A : Type 0} (old new : RunnerState A) (before after : Known) : Type 0 where
-  pub fault : Fault
+-- nothing was done, and this refusal is printed
+pub record PrintsNothing {A : Type 0} (fault : Fault) (old new : RunnerState A) (before after : Known) : Type 0 where
   pub same : new ≡ old
   pub printed : Appends before after (line (refused_text fault old.world.moment))
+
+-- why no turn was taken: want of memory for its event; an ear of a bus at which the site has no station has its turn to
+-- hear a frame; or the script asks for so many milliseconds that don't pass for a step
+pub data Cause : Type 0 where
+  wants_memory : Cause
+  meets_nobody : Cause
+  has_no_time : (n : ℕ) → Cause
+
+abbrev pub fault_of : Cause → Fault
+fault_of wants_memory = Memory
+fault_of meets_nobody = NoSuch
+fault_of (has_no_time n) = NoSuch
+
+-- an ear has its turn at which the site has no station (9.5)
+pub record HasEmptyEar {A : Type 0} (w : WorldState A) : Type 0 where
+  pub heard : Heard
+  pub next : Heard
+  pub nobody : MeetsNobody w heard next
+
+-- a cause is there; that there was no memory, nothing shows
+abbrev pub IsThere : {A : Type 0} → Cause → WorldState A → Type 0
+IsThere wants_memory w = Unit {0}
+IsThere meets_nobody w = HasEmptyEar w
+IsThere (has_no_time n) w = IsNoTime n
+
+-- no turn was taken, and why not is printed
+pub record PrintsRefusal {A : Type 0} (c : Cause) (old new : RunnerState A) (before after : Known) : Type 0 where
+  pub there : IsThere c old.world
+  pub printed : PrintsNothing (fault_of c) old new before after
 
 -- one thing was done and is printed, and then others
 pub record Then {A : Type 0} (First Rest : RunnerState A → Known → Type 0) : Type 0 where
@@ -30,29 +63,38 @@ pub record Then {A : Type 0} (First Rest : RunnerState A → Known → Type 0) :
   pub first : First middle at_middle
   pub rest : Rest middle at_middle
 
--- a turn, or none
-abbrev pub PrintsOne : {A : Type 0} → Option (Turn A) → (old new : RunnerState A) → (before after : Known) → Type 0
-PrintsOne (Some t) old new before after = PrintsTurn t old new before after
-PrintsOne None old new before after = PrintsRefusal old new before after
+-- a turn, or none, for this cause
+abbrev pub PrintsOne : {A : Type 0} → Result (Turn A) Cause → (old new : RunnerState A) → (before after : Known) →
+    Type 0
+PrintsOne (Ok t) old new before after = PrintsTurn t old new before after
+PrintsOne (Err c) old new before after = PrintsRefusal c old new before after
 
 -- so these, one after another
-abbrev pub PrintsTurns : {A : Type 0} → List (Option (Turn A)) → (old new : RunnerState A) → (before after : Known) →
-    Type 0
+abbrev pub PrintsTurns : {A : Type 0} → List (Result (Turn A) Cause) → (old new : RunnerState A) →
+    (before after : Known) → Type 0
 PrintsTurns [] old new before after = (new ≡ old) × (after ≡ before)
 PrintsTurns (t ∷ ts) old new before after =
     Then (λ r at. PrintsOne t old r before at) (λ r at. PrintsTurns ts r new at after)
 
--- the events of turns that a live run makes only where its script asks for them, in their order
-abbrev pub asked_among : {A : Type 0} → List (Option (Turn A)) → List (Event A)
-asked_among [] = []
-asked_among (Some t ∷ ts) = asked_in t.next ++ asked_among ts
-asked_among (None ∷ ts) = asked_among ts
+-- the step that is refused for this cause, if it is one of a script
+abbrev pub asked_for : {A : Type 0} → Cause → List (LiveStep A)
+asked_for wants_memory = []
+asked_for meets_nobody = []
+asked_for (has_no_time n) = Passes n ∷ []
 
--- turns were taken, one after another, each is printed, and nothing else; just these events among them were asked for
-pub record Lives {A : Type 0} (events : List (Event A)) (old new : RunnerState A) (before after : Known) : Type 0 where
-  pub turns : List (Option (Turn A))
+-- the steps that a live run takes or refuses only where its script asks for them, in their order
+abbrev pub asked_among : {A : Type 0} → List (Result (Turn A) Cause) → List (LiveStep A)
+asked_among [] = []
+asked_among (Ok t ∷ ts) = asked_in t.next ++ asked_among ts
+asked_among (Err c ∷ ts) = asked_for c ++ asked_among ts
+
+-- turns were taken or not, one after another, each is printed, and nothing else; just these steps among them were asked
+-- for
+pub record Lives {A : Type 0} (asked : List (LiveStep A)) (old new : RunnerState A) (before after : Known) :
+    Type 0 where
+  pub turns : List (Result (Turn A) Cause)
   pub printed : PrintsTurns turns old new before after
-  pub asked : asked_among turns ≡ events
+  pub just_these : asked_among turns ≡ asked
 
 -- what a live run leaves is what events leave, as long as no stray was heard
 abbrev pub AreEventsIfLed : {A : Type 0} → (old new : RunnerState A) → Type 0

@@ -2,8 +2,7 @@
 use Rattle.std.specs.Prelude.{◌≡◌, ℕ, Bool, true, false, List}
 use Rattle.std.specs.Io.KnownBytes.{Appends}
 use Rattle.runner.specs.carry_world.Laws.{IsLegal}
-use Rattle.runner.specs.hosts.Opening.{object_site}
-use Rattle.runner.specs.hosts.Stations.{devices_of}
+use Rattle.runner.specs.simulator.Judged.{instances_of, judged_of}
 use Rattle.runner.specs.internetwork.World.{WorldState, fresh_world}
 use Rattle.runner.specs.Runner.{RunnerState}
 use Rattle.site.specs.Sound.{IsSound}
@@ -28,11 +27,11 @@ begun is_open fresh = record { world = fresh; is_open = is_open; strayed = false
 
 -- the history of a runner is legal, as long as no stray was heard (5.4)
 abbrev pub IsLegalIfLed : {A : Type 0} → RunnerState A → Type 0
-IsLegalIfLed r = r.is_led ≡ true → IsLegal (object_site r.world.site) r.world.history (devices_of r.world.stations)
+IsLegalIfLed r = r.is_led ≡ true → IsLegal (instances_of r.world.site) r.world.history (judged_of r.world)
 
--- turns were taken from a world on, with just the requests, Who-Is and restarts that the steps ask for, in their order;
--- each is printed, and at last what there was of all; as long as no stray was heard, what they leave is what events
--- leave, and the history that was printed is legal
+-- turns were taken from a world on, with just the requests, Who-Is and restarts that the steps ask for, in their order,
+-- and just those of their times refused that can't pass; each is printed, and at last what there was of all; as long as
+-- no stray was heard, what they leave is what events leave, and the history that was printed is legal
 pub record PrintsLiveRun {A : Type 0} (is_open : Bool) (steps : List (LiveStep A)) (fresh : WorldState A)
     (old new : Known) : Type 0 where
   pub left : RunnerState A

@@ -1,5 +1,7 @@
 -- What a line of a script asks of a live run.
-use Rattle.std.specs.Prelude.{◌≡◌, ◌++◌, ℕ, List, [], ◌∷◌, Option, None, Some}
+use Rattle.std.specs.Prelude.{◌≡◌, ◌⊎◌, ◌<◌, ℕ, List, [], ◌∷◌, ◌++◌, Option, None, Some, ◌||◌, nat_lt}
+use Rattle.std.specs.Prelude.{if◌then◌else◌}
+use Rattle.profile.specs.Times.{MAX_TICK_MS}
 use Rattle.runner.specs.internetwork.Step.{IsSoundEvent}
 use Rattle.runner.specs.internetwork.declared.event.Event.{Event}
 use Rattle.runner.specs.internetwork.declared.event.Event.TheVariants as event
@@ -41,23 +43,31 @@ pub record SaysLive {A : Type 0} (script : List ℕ) (steps : List (LiveStep A))
 
 -- an event that a live run makes only where its script asks for it: a request, a Who-Is or a restart (5.4.4, 16.4,
 -- 16.10). Time passes, stations wake, hear and register besides
-abbrev pub asked_by : {A : Type 0} → Event A → List (Event A)
-asked_by (event.Issue client instance request) = event.Issue client instance request ∷ []
-asked_by (event.WhoIs client limits) = event.WhoIs client limits ∷ []
-asked_by (event.Restart name) = event.Restart name ∷ []
+abbrev pub asked_by : {A : Type 0} → Event A → List (LiveStep A)
+asked_by (event.Issue client instance request) = Happens (event.Issue client instance request) ∷ []
+asked_by (event.WhoIs client limits) = Happens (event.WhoIs client limits) ∷ []
+asked_by (event.Restart name) = Happens (event.Restart name) ∷ []
 asked_by e = []
 
 -- .. if there is one
-abbrev pub asked_in : {A : Type 0} → Option (Event A) → List (Event A)
+abbrev pub asked_in : {A : Type 0} → Option (Event A) → List (LiveStep A)
 asked_in (Some e) = asked_by e
 asked_in None = []
 
--- such an event of a step
-abbrev pub asked_at : {A : Type 0} → LiveStep A → List (Event A)
-asked_at (Happens e) = asked_by e
-asked_at (Passes n) = []
+-- so many milliseconds don't pass for a step: fewer than 1, or more than 60000
+abbrev pub IsNoTime : ℕ → Type 0
+IsNoTime n = (n < 1) ⊎ (MAX_TICK_MS < n)
 
--- those of steps, in their order
-abbrev pub asked_of : {A : Type 0} → List (LiveStep A) → List (Event A)
+-- .. which a live run refuses only where its script asks for them
+abbrev pub refused_at : {A : Type 0} → ℕ → List (LiveStep A)
+refused_at n = if nat_lt n 1 || nat_lt MAX_TICK_MS n then Passes n ∷ [] else []
+
+-- a step that a live run takes or refuses only where its script asks for it
+abbrev pub asked_at : {A : Type 0} → LiveStep A → List (LiveStep A)
+asked_at (Happens e) = asked_by e
+asked_at (Passes n) = refused_at n
+
+-- those among steps, in their order
+abbrev pub asked_of : {A : Type 0} → List (LiveStep A) → List (LiveStep A)
 asked_of [] = []
 asked_of (s ∷ ss) = asked_at s ++ asked_of ss

@@ -7,6 +7,7 @@ use crate::observer::Observer;
 use crate::step::LiveStep;
 use crate::timer::Timer;
 use crate::turning::print_turn;
+use profile::MAX_TICK_MS;
 use runner::{Event, Heard, Internetwork, Runner, World, next_hear};
 use site_history::print_refusal;
 use std::alloc::{AllocError, Allocator};
@@ -15,9 +16,6 @@ use std::io::Write;
 use std::marker::Model;
 use tags::{Fault, Items, Octets};
 use wire::{Got, Wire};
-
-/// The milliseconds that pass at once, at most.
-const MAX_TICK_MS: u64 = 60_000;
 
 /// A site at a wire, and the clock that its time comes from. It is not dropped, but closed.
 pub struct Live<W: Wire + Drop, T: Timer + Drop, S: Observer<A> + Drop, A: Allocator + Copy> {
@@ -79,7 +77,7 @@ impl<W: Wire + Drop, T: Timer + Drop, S: Observer<A> + Drop, A: Allocator + Copy
     ghost use Rattle.std.specs.Prelude.{◌≡◌, ◌<◌, [], true, false, IfOk, OnOk};
     ghost use Rattle.runner.specs.Hearing.{left_to_hear};
     ghost use Rattle.runner.specs.Runner.{RunnerState};
-    ghost use Rattle.site_live.specs.Running.{Lives};
+    ghost use Rattle.site_live.specs.Running.{Lives, PrintsNothing};
     ghost use Rattle.site_live.specs.Steps.{IsSoundLiveStep, asked_at, asked_in};
 
     /// A world at a wire, which is open or not. The clock begins with it, and the observer sees each turn.
@@ -157,7 +155,7 @@ impl<W: Wire + Drop, T: Timer + Drop, S: Observer<A> + Drop, A: Allocator + Copy
     /// Prints that something is refused that is no turn.
     #[tactic(auto, using(crate::proofs::LiveLaws::refusal_laws))]
     fn refuse<O: Write>(&mut self, fault: Fault, out: &mut O) -> io::Result<()>
-        ensures { OnOk result (Lives [] self.old self.new (O.contents out.old) (O.contents out.new)) }
+        ensures { OnOk result (PrintsNothing fault self.old self.new (O.contents out.old) (O.contents out.new)) }
     {
         print_refusal(fault, self.world().moment(), out)
     }

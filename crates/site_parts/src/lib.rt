@@ -17,7 +17,7 @@ mod parts;
 mod place;
 mod role;
 
-pub use name::{MAX_NAME_OCTETS, is_name};
+pub use name::is_name;
 pub use parts::{Network, Parts, Station};
 pub use place::{Foreign, Link, Place};
 pub use role::Role;

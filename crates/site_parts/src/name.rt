@@ -4,8 +4,7 @@ ghost use Rattle.std.specs.Prelude.{◌↔◌, IsTrue};
 ghost use Rattle.std.specs.List.{AllByRecursion};
 ghost use Rattle.site_parts.specs.Names.{IsName, IsSign};
 
-/// The number of octets that a name has at most.
-pub const MAX_NAME_OCTETS: usize = 32;
+use profile::MAX_NAME_OCTETS;
 
 /// Whether octets are the name of a station: 1 to 32 letters and digits.
 pub fn is_name(octets: &[u8]) -> bool

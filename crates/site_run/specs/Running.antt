@@ -1,17 +1,16 @@
 -- What is printed of the steps of a script, one after another.
-use Rattle.std.specs.Prelude.{◌≡◌, ◌⊎◌, ◌<◌, ◌≤◌, ◌+◌, ℕ, List, [], ◌∷◌, ◌++◌, Option, None, Some, Result, Ok, Err}
-use Rattle.std.specs.Prelude.{drop, length}
+use Rattle.std.specs.Prelude.{◌≡◌, ◌⊎◌, ◌<◌, ◌≤◌, ◌+◌, ℕ, List, [], ◌∷◌, ◌++◌, drop, length}
 use Rattle.std.specs.Io.KnownBytes.{Appends}
 use Rattle.std.specs.List.{AllByRecursion}
+use Rattle.profile.specs.Times.{MAX_MOMENT_MS, MAX_TICK_MS}
 use Rattle.script.specs.declared.step.Step.{Step}
 use Rattle.script.specs.declared.step.Step.TheVariants as step
-use Rattle.simulator.specs.Flows.{left_of}
+use Rattle.simulator.specs.Flows.{IsOfFlow, ticks_in}
 use Rattle.simulator.specs.internetwork.Refusals.{IsRefused}
-use Rattle.simulator.specs.internetwork.Step.{IsSoundEvent, Steps}
+use Rattle.simulator.specs.internetwork.Step.{Steps}
 use Rattle.simulator.specs.internetwork.World.{WorldState}
 use Rattle.simulator.specs.internetwork.declared.event.Event.{Event}
 use Rattle.simulator.specs.internetwork.declared.event.Event.TheVariants as event
-use Rattle.simulator.specs.declared.flow.Flow.{Flow}
 pub use Rattle.site_history.specs.Printed.{Known}
 use Rattle.site_history.specs.Printed.{entries_text, line, refused_text}
 use Rattle.site_run.specs.declared.running.Telling.{Telling}
@@ -71,29 +70,34 @@ pub record PrintsNothing {A : Type 0} (fault : Fault) (w v : WorldState A) (old 
   pub same : v ≡ w
   pub printed : Appends old new (line (refused_text fault w.moment))
 
--- a flow ended with its last event, or for want of memory
-abbrev pub EndsFlow : {A : Type 0} → WorldState A → WorldState A → Known → Known → Type 0
-EndsFlow w v old new = ((v ≡ w) × (new ≡ old)) ⊎ PrintsNothing Memory w v old new
-
--- some sound events were made or refused, one after another
-pub record PrintsSound {A : Type 0} (t : Telling) (w v : WorldState A) (old new : Known) : Type 0 where
+-- so did events of a flow, one after another, that ask for so many milliseconds in all; these pass, but not beyond the
+-- greatest moment
+pub record PrintsTicks {A : Type 0} (t : Telling) (n : ℕ) (w v : WorldState A) (old new : Known) : Type 0 where
   pub events : List (Event A)
-  pub sound : AllByRecursion IsSoundEvent events
+  pub of_flow : AllByRecursion IsOfFlow events
+  pub ticks : ticks_in events ≡ n
   pub printed : PrintsEvents t events w v old new
+  pub passes : w.moment + n ≤ MAX_MOMENT_MS → v.moment ≡ w.moment + n
 
--- so many, and then a flow ended
-abbrev pub PrintsAll : {A : Type 0} → Telling → WorldState A → WorldState A → Known → Known → Type 0
-PrintsAll t w v old new = Then (λ u at. PrintsSound t w u old at) (λ u at. EndsFlow u v at new)
+-- a flow was cut short: there was no memory for its next event, and that is printed
+pub record PrintsShort {A : Type 0} (t : Telling) (n : ℕ) (w v : WorldState A) (old new : Known) : Type 0 where
+  pub passed : ℕ
+  pub few : passed ≤ n
+  pub printed : Then (λ u at. PrintsTicks t passed w u old at) (λ u at. PrintsNothing Memory u v at new)
+
+-- a flow came to its end with the last of its milliseconds, or was cut short
+abbrev pub PrintsAll : {A : Type 0} → Telling → (n : ℕ) → WorldState A → WorldState A → Known → Known → Type 0
+PrintsAll t n w v old new = PrintsTicks t n w v old new ⊎ PrintsShort t n w v old new
 
 -- a flow of 1 to 60000 ms
 pub record PrintsFlow {A : Type 0} (t : Telling) (n : ℕ) (w v : WorldState A) (old new : Known) : Type 0 where
   pub least : 1 ≤ n
-  pub most : n ≤ 60000
-  pub all : PrintsAll t w v old new
+  pub most : n ≤ MAX_TICK_MS
+  pub all : PrintsAll t n w v old new
 
 -- a flow of so many milliseconds is none
 pub record PrintsNoFlow {A : Type 0} (n : ℕ) (w v : WorldState A) (old new : Known) : Type 0 where
-  pub outside : (n < 1) ⊎ (60000 < n)
+  pub outside : (n < 1) ⊎ (MAX_TICK_MS < n)
   pub refused : PrintsNothing NoSuch w v old new
 
 -- a step of a script was taken
@@ -114,9 +118,3 @@ PrintsStep t (step.Flow n) w v old new = PrintsFlow t n w v old new ⊎ PrintsNo
 abbrev pub PrintsSteps : {A : Type 0} → Telling → List (Step A) → WorldState A → WorldState A → Known → Known → Type 0
 PrintsSteps t [] w v old new = (v ≡ w) × (new ≡ old)
 PrintsSteps t (s ∷ ss) w v old new = Then (λ u at. PrintsStep t s w u old at) (λ u at. PrintsSteps t ss u v at new)
-
--- what is left of a flow that gave this (for private functions alone)
-abbrev pub left_behind : {A : Type 0} → Result (Option (Event A)) Fault → Flow → ℕ
-left_behind (Ok (Some e)) f = left_of f + 1
-left_behind (Ok None) f = 0
-left_behind (Err fault) f = 0

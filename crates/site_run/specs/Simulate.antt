@@ -6,8 +6,7 @@ use Rattle.simulator.specs.carry_world.Laws.{IsLegal}
 use Rattle.script.specs.Lines.{SaysSteps}
 use Rattle.script.specs.Steps.{IsSoundStep}
 use Rattle.script.specs.declared.step.Step.{Step}
-use Rattle.simulator.specs.hosts.Opening.{object_site}
-use Rattle.simulator.specs.hosts.Stations.{devices_of}
+use Rattle.simulator.specs.Judged.{instances_of, judged_of}
 use Rattle.simulator.specs.internetwork.World.{WorldState, fresh_world}
 use Rattle.site.specs.Sound.{IsSound}
 use Rattle.site_parts.specs.declared.parts.Parts.{Parts}
@@ -34,7 +33,7 @@ pub record PrintsRun {A : Type 0} (t : Telling) (steps : List (Step A)) (fresh :
   pub at_end : Known
   pub taken : PrintsSteps t steps fresh left old at_end
   pub end_printed : Appends at_end new (line (end_text (counts_of left.history) left.moment))
-  pub legal : IsLegal (object_site left.site) left.history (devices_of left.stations)
+  pub legal : IsLegal (instances_of left.site) left.history (judged_of left)
 
 -- the texts are those of a sound site and of a script, and its steps were taken there
 pub record Simulates (A : Type 0) (t : Telling) (site script : List ℕ) (old new : Known) : Type 0 where

@@ -122,7 +122,7 @@ fn make_all<A: Allocator + Copy, W: Write>(
     out: &mut W,
 ) -> io::Result<()>
     ensures { OnOk result
-        (PrintsAll telling world.old world.new (W.contents out.old) (W.contents out.new)) }
+        (PrintsAll telling flow.left world.old world.new (W.contents out.old) (W.contents out.new)) }
 {
     let mut flow = flow;
     let mut next = world.next_of(&mut flow);

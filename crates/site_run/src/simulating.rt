@@ -5,8 +5,7 @@ ghost use Rattle.std.specs.Io.KnownBytes.{Appends};
 ghost use Rattle.std.specs.List.{AllByRecursion};
 ghost use Rattle.simulator.specs.carry_world.Laws.{IsLegal};
 ghost use Rattle.script.specs.Steps.{IsSoundStep};
-ghost use Rattle.simulator.specs.hosts.Opening.{object_site};
-ghost use Rattle.simulator.specs.hosts.Stations.{devices_of};
+ghost use Rattle.simulator.specs.Judged.{instances_of, judged_of};
 ghost use Rattle.site_history.specs.Counting.{counts_of};
 ghost use Rattle.site_history.specs.Printed.{end_text, line};
 ghost use Rattle.site_run.specs.Simulate.{IsOpened, PrintsRun, Simulates};
@@ -160,7 +159,7 @@ fn print_all<A: Allocator + Copy, W: Write>(
 pub fn print_end<A: Allocator + Copy, W: Write>(world: &World<A>, out: &mut W) -> io::Result<()>
     ensures printed { OnOk result (Appends (W.contents out.old) (W.contents out.new)
         (line (end_text (counts_of world.now.history) world.now.moment))) }
-    ensures legal { IsLegal (object_site world.now.site) world.now.history (devices_of world.now.stations) }
+    ensures legal { IsLegal (instances_of world.now.site) world.now.history (judged_of world.now) }
 {
     let moment = world.moment();
     let counts = counted(world.history());

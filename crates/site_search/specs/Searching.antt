@@ -1,11 +1,10 @@
 -- What is written of a search behind a script at a site, as their texts describe them.
-use Rattle.std.specs.Prelude.{◌≡◌, ◌≤◌, ◌⊎◌, ℕ, List, [], ◌∷◌, ◌++◌, Some, length}
+use Rattle.std.specs.Prelude.{◌≡◌, ◌≤◌, ℕ, List, [], ◌∷◌, ◌++◌, Some, length}
 use Rattle.std.specs.Io.KnownBytes.{Appends}
 use Rattle.std.specs.List.{AllByRecursion}
 use Rattle.site_storm.specs.site_run.script.declared.step.Step.{Step}
 use Rattle.site_storm.specs.site_run.simulator.carry_world.Laws.{IsLegal}
-use Rattle.site_storm.specs.site_run.simulator.hosts.Opening.{object_site}
-use Rattle.site_storm.specs.site_run.simulator.hosts.Stations.{devices_of}
+use Rattle.site_storm.specs.site_run.simulator.Judged.{instances_of, judged_of}
 use Rattle.site_storm.specs.site_run.simulator.internetwork.Hearing.{Then}
 use Rattle.site_storm.specs.site_run.simulator.internetwork.Step.{IsSoundEvent, Steps}
 use Rattle.site_storm.specs.site_run.simulator.internetwork.World.{WorldState}
@@ -17,7 +16,7 @@ use Rattle.site_storm.specs.site_run.declared.running.Telling.TheVariants.{Entri
 use Rattle.site_search.specs.declared.searching.Found.{Found}
 use Rattle.site_search.specs.declared.searching.Found.TheVariants.{Written, NoneWithin}
 use Rattle.site_search.specs.Words.{HasNewEntry}
-use Rattle.site_storm.specs.Lines.{events_text}
+use Rattle.site_storm.specs.Lines.{end_missing, events_text}
 
 -- events happened in a world, one after another, and none was refused
 abbrev pub Happen : {A : Type 0} → List (Event A) → WorldState A → WorldState A → Type 0
@@ -32,13 +31,11 @@ pub record Leads {A : Type 0} (words : List ℕ) (depth : ℕ) (events : List (E
   pub sound : AllByRecursion IsSoundEvent events
   pub happen : Happen events begun left
   pub entry : HasNewEntry words (length begun.history) left
-  pub legal : IsLegal (object_site left.site) left.history (devices_of left.stations)
+  pub legal : IsLegal (instances_of left.site) left.history (judged_of left)
 
--- a script is written, with an end of its last line where that has none, and lines behind it
-pub record IsWritten (script lines : List ℕ) (old new : Known) : Type 0 where
-  pub end_of_line : List ℕ
-  pub one_at_most : (end_of_line ≡ []) ⊎ (end_of_line ≡ 10 ∷ [])
-  pub written : Appends old new (script ++ (end_of_line ++ lines))
+-- a script is written, with the end that its last line lacks, and lines behind it
+abbrev pub IsWritten : (script lines : List ℕ) → (old new : Known) → Type 0
+IsWritten script lines old new = Appends old new (script ++ (end_missing script ++ lines))
 
 -- nothing is written where there are no such events
 abbrev pub WritesNothingIfNone : (old new : Known) → Found → Type 0

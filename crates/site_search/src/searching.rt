@@ -1,6 +1,6 @@
 //! The texts of a site and a script, and the script that is written.
 
-ghost use Rattle.std.specs.Prelude.{◌≡◌, ◌⊎◌, ◌++◌, ◌∷◌, [], Some, true, IfOk, OnOk, length};
+ghost use Rattle.std.specs.Prelude.{◌≡◌, true, IfOk, OnOk};
 ghost use Rattle.std.specs.Io.KnownBytes.{Appends};
 ghost use Rattle.std.specs.List.{AllByRecursion};
 ghost use Rattle.site_storm.specs.site_run.script.Steps.{IsSoundStep};
@@ -12,7 +12,7 @@ ghost use Rattle.site_storm.specs.Lines.{event_text, events_text, line};
 use crate::failure::Failure;
 use crate::until::{Until, behind_moment, has_entry, has_words};
 use search::Outcome;
-use site_storm::{Event, EventLine, Opened, Step, Telling, World, open, take_steps};
+use site_storm::{Event, EventLine, Opened, Step, Telling, World, end_missing, open, take_steps};
 use std::alloc::{Allocator, Global};
 use std::io;
 use std::io::Write;
@@ -169,7 +169,7 @@ fn make_all<A: Allocator + Copy>(world: &mut World<A>, events: &[Event<A>]) -> R
     Ok(())
 }
 
-/// Writes a script, with an end of its last line, and a line for each of these events.
+/// Writes a script, with the end that its last line lacks, and a line for each of these events.
 fn write_script<A: Allocator, W: Write>(
     script: &[u8],
     events: &[Event<A>],
@@ -177,21 +177,9 @@ fn write_script<A: Allocator, W: Write>(
 ) -> io::Result<()>
     ensures { OnOk result (IsWritten script.now (events_text events.now) (W.contents out.old) (W.contents out.new)) }
 {
-    let line_end = end_missing(script);
     out.write_all(script)?;
-    out.write_all(line_end)?;
+    out.write_all(end_missing(script))?;
     write_events(events, out)
-}
-
-/// The end that the last line of a text wants.
-fn end_missing(text: &[u8]) -> &'static [u8]
-    ensures { (result.now ≡ []) ⊎ (result.now ≡ 10 ∷ []) }
-{
-    if text.is_empty() || text.ends_with(b"\n") {
-        b""
-    } else {
-        b"\n"
-    }
 }
 
 /// Writes a line for each of these events.

@@ -9,10 +9,11 @@ use Rattle.npdu.specs.declared.mac.Mac.{Mac}
 use Rattle.npdu.specs.declared.mac.Station.{Station}
 use Rattle.npdu.specs.declared.parcel.Parcel.{Parcel}
 use Rattle.primitives.specs.declared.plain_data.Request.{Request}
-use Rattle.site_station.specs.Entity.{EntityAsks, EntityHears, EntityIssues, RefusesParcel}
+use Rattle.site_station.specs.Entity.{EntityAsks, EntityHears, EntityIssues, IsClient, RefusesParcel}
 use Rattle.site_station.specs.Station.{AskingIsRefused, FrameIsRefused, HearingIsRefused, HearsOn, ITS_PORT}
 use Rattle.site_station.specs.Station.{IssueIsRefused, StationHears, StationHearsFrame, StationState, StationTold, UpIsRefused}
 use Rattle.site_station.specs.declared.entity.Entity.{Entity}
+use Rattle.site_station.specs.declared.entity.Entity.TheVariants.{Client, Device}
 use Rattle.site_station.specs.declared.entity.EntityTold.{EntityTold}
 use Rattle.tags.specs.declared.fault.Fault.{Fault}
 use Rattle.tags.specs.declared.fault.Fault.TheVariants.{Memory, TableFull, TooLong}
@@ -120,12 +121,25 @@ module _ {A L : Type 0} (hears : ℕ → Mac → List ℕ → ℕ → L → Link
     frame_refused_there fault (inr refused) =
         inr (record { counted = counted; so_far = so_far; told = told_there; refused = refused })
 
+-- what issues a request is a client
+pub issuer_is_client : {A : Type 0} (now instance : ℕ) (request : Request A) (e left : Entity A) (id : ℕ)
+    (told : EntityTold A) → EntityIssues now instance request e id told left → IsClient e
+issuer_is_client now instance request (Client c) left id told does = tt
+issuer_is_client now instance request (Device d) left id told does = absurd does
+
+-- .. and what asks who is there
+pub asker_is_client : {A : Type 0} (now : ℕ) (limits : Option Limits) (e left : Entity A) (told : EntityTold A) →
+    EntityAsks now limits e told left → IsClient e
+asker_is_client now limits (Client c) left told does = tt
+asker_is_client now limits (Device d) left told does = absurd does
+
 -- what is said of an issue can't go down
 pub issue_is_stopped : {A : Type 0} (places : List Station) (now instance : ℕ) (request : Request A) (e left : Entity A)
     (id : ℕ) (told : EntityTold A) (said : List (Parcel A)) (fault : Fault) → said ≡ told.said →
     EntityIssues now instance request e id told left → IsStopped places said fault →
-    (fault ≡ Memory) ⊎ IssueIsRefused places now instance request e fault
-issue_is_stopped places now instance request e left id told said fault saying does (inl memory) = inl memory
+    ((fault ≡ Memory) × IsClient e) ⊎ IssueIsRefused places now instance request e fault
+issue_is_stopped places now instance request e left id told said fault saying does (inl memory) =
+    inl (memory, issuer_is_client now instance request e left id told does)
 issue_is_stopped {A} places now instance request e left id told said fault saying does (inr long) =
     inr (inr (
       long.0,
@@ -142,8 +156,9 @@ issue_is_stopped {A} places now instance request e left id told said fault sayin
 pub asking_is_stopped : {A : Type 0} (places : List Station) (now : ℕ) (limits : Option Limits) (e left : Entity A)
     (told : EntityTold A) (said : List (Parcel A)) (fault : Fault) → said ≡ told.said →
     EntityAsks now limits e told left → IsStopped places said fault →
-    (fault ≡ Memory) ⊎ AskingIsRefused places now limits e fault
-asking_is_stopped places now limits e left told said fault saying does (inl memory) = inl memory
+    ((fault ≡ Memory) × IsClient e) ⊎ AskingIsRefused places now limits e fault
+asking_is_stopped places now limits e left told said fault saying does (inl memory) =
+    inl (memory, asker_is_client now limits e left told does)
 asking_is_stopped {A} places now limits e left told said fault saying does (inr long) = inr (inr (
   long.0,
   record {

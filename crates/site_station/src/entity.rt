@@ -180,7 +180,7 @@ impl<A: Allocator + Copy> Entity<A> {
     /// invoke ID that is given: `commit` does it (5.4.4.1).
     ///
     /// # Errors
-    /// `NoSuch` where it is no client; those of `Client::issue`; or `Memory`.
+    /// `NoSuch` where it is no client; those of `Client::issue`; or `Memory`, of a client alone.
     pub fn plan_issue(
         &self,
         alloc: A,
@@ -192,7 +192,7 @@ impl<A: Allocator + Copy> Entity<A> {
         ensures issued { IfOk result (λ p.
             EntityIssues now instance request.now self.now p.0 (told_by p.1) (left_by now p.1 self.now)) }
         ensures planned { IfOk result (λ p. IsPlanned now self.now p.1) }
-        ensures cause { IfErr result (λ fault. (fault ≡ Fault.Memory) ⊎
+        ensures cause { IfErr result (λ fault. ((fault ≡ Fault.Memory) × IsClient self.now) ⊎
             (issue_refusal now instance request.now self.now ≡ Some fault)) }
     {
         match self {
@@ -209,7 +209,7 @@ impl<A: Allocator + Copy> Entity<A> {
     /// What a question who is there comes to at the moment `now`, in milliseconds: `commit` does it (16.10.1).
     ///
     /// # Errors
-    /// `NoSuch` where it is no client; or `Memory`.
+    /// `NoSuch` where it is no client; or `Memory`, of a client alone.
     pub fn plan_ask(
         &self,
         alloc: A,
@@ -221,7 +221,7 @@ impl<A: Allocator + Copy> Entity<A> {
         ensures asks { IfOk result (λ plan.
             EntityAsks now limits self.now (told_by plan) (left_by now plan self.now)) }
         ensures planned { IfOk result (IsPlanned now self.now) }
-        ensures cause { IfErr result (λ fault. (fault ≡ Fault.Memory) ⊎
+        ensures cause { IfErr result (λ fault. ((fault ≡ Fault.Memory) × IsClient self.now) ⊎
             ((fault ≡ Fault.NoSuch) × IsDevice self.now)) }
     {
         match self {

@@ -294,7 +294,7 @@ impl<L: Link<A> + Drop, A: Allocator + Copy> SiteStation<L, A> {
     ///
     /// # Errors
     /// `NoSuch` where its entity is no client; those of `Client::issue`; `TooLong` where what is said is too long for
-    /// the port; or `Memory`.
+    /// the port; or `Memory`, of a client alone.
     pub fn plan_issues(
         &self,
         instance: u32,
@@ -307,7 +307,7 @@ impl<L: Link<A> + Drop, A: Allocator + Copy> SiteStation<L, A> {
         ensures issues { IfOk result (λ p. StationIssues L.downs now instance request.now p.0 self.now
             (told_by p.1) (left_by now p.1 self.now)) }
         ensures planned { IfOk result (λ p. IsPlanned now self.now p.1) }
-        ensures cause { IfErr result (λ fault. (fault ≡ Fault.Memory) ⊎
+        ensures cause { IfErr result (λ fault. ((fault ≡ Fault.Memory) × spec.IsClient self.now.entity) ⊎
             IssueIsRefused (map L.station self.now.ports) now instance request.now self.now.entity fault) }
     {
         let (invoke_id, entity) = self.entity.plan_issue(self.alloc, instance, request, now)?;
@@ -326,7 +326,8 @@ impl<L: Link<A> + Drop, A: Allocator + Copy> SiteStation<L, A> {
     /// What a question who is there comes to at the moment `now`, in milliseconds: `commit` does it (16.10.1).
     ///
     /// # Errors
-    /// `NoSuch` where its entity is no client; `TooLong` where what is said is too long for the port; or `Memory`.
+    /// `NoSuch` where its entity is no client; `TooLong` where what is said is too long for the port; or `Memory`, of a
+    /// client alone.
     pub fn plan_asks(&self, limits: Option<Limits>, now: u64) -> Result<StationPlan<L, A>, Fault>
         requires greatest { now ≤ MAX_MOMENT_MS }
         requires order { AreBefore L.moment now self.now.ports }
@@ -334,7 +335,7 @@ impl<L: Link<A> + Drop, A: Allocator + Copy> SiteStation<L, A> {
         ensures asks { IfOk result (λ plan. StationAsks L.downs now limits self.now
             (told_by plan) (left_by now plan self.now)) }
         ensures planned { IfOk result (IsPlanned now self.now) }
-        ensures cause { IfErr result (λ fault. (fault ≡ Fault.Memory) ⊎
+        ensures cause { IfErr result (λ fault. ((fault ≡ Fault.Memory) × spec.IsClient self.now.entity) ⊎
             AskingIsRefused (map L.station self.now.ports) now limits self.now.entity fault) }
     {
         let entity = self.entity.plan_ask(self.alloc, limits, now)?;

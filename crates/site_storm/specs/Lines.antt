@@ -1,6 +1,7 @@
 -- The lines of a script that ask for events.
-use Rattle.std.specs.Prelude.{ℕ, List, [], ◌∷◌, Option, None, Some, codes, flat_map}
+use Rattle.std.specs.Prelude.{ℕ, eqb, if◌then◌else◌, List, [], ◌∷◌, Option, None, Some, codes, flat_map}
 use Rattle.std.specs.Fmt.{decimal}
+use Rattle.std.specs.List.{ends_with}
 use Rattle.apdu.specs.declared.unconfirmed.Limits.{Limits}
 use Rattle.site_run.specs.simulator.internetwork.declared.event.Event.{Event}
 use Rattle.site_run.specs.simulator.internetwork.declared.event.Event.TheVariants as event
@@ -24,6 +25,11 @@ event_text (event.Restart station) = spaced (codes "restart" ∷ station ∷ [])
 event_text (event.Hear network station octets) =
     spaced (codes "hear" ∷ decimal network ∷ station ∷ octets_text octets ∷ [])
 event_text (event.Register station) = spaced (codes "register" ∷ station ∷ [])
+
+-- the end that the last line of a script lacks: none where it has one, or where there is no line
+abbrev pub end_missing : List ℕ → List ℕ
+end_missing [] = []
+end_missing (c ∷ cs) = if ends_with eqb (c ∷ cs) (10 ∷ []) then [] else 10 ∷ []
 
 -- events, each on a line
 abbrev pub events_text : {A : Type 0} → List (Event A) → List ℕ

@@ -3,8 +3,7 @@ use Rattle.std.specs.Prelude.{◌≡◌, ℕ, List, None}
 use Rattle.std.specs.Io.KnownBytes.{Appends}
 use Rattle.site_run.specs.simulator.carry_world.Laws.{IsLegal}
 use Rattle.script.specs.declared.step.Step.{Step}
-use Rattle.site_run.specs.simulator.hosts.Opening.{object_site}
-use Rattle.site_run.specs.simulator.hosts.Stations.{devices_of}
+use Rattle.site_run.specs.simulator.Judged.{instances_of, judged_of}
 use Rattle.site_run.specs.simulator.internetwork.World.{WorldState}
 use Rattle.site_run.specs.site_history.Counting.{counts_of}
 use Rattle.site_run.specs.site_history.Printed.{end_text}
@@ -31,7 +30,7 @@ pub record PrintsStorm {A : Type 0} (steps : List (Step A)) (n : ℕ) (fresh : W
   pub at_end : Known
   pub storms : StormsOver steps n fresh left lines_old lines_new old at_end
   pub end_printed : Appends at_end new (line (end_text (counts_of left.history) left.moment))
-  pub legal : IsLegal (object_site left.site) left.history (devices_of left.stations)
+  pub legal : IsLegal (instances_of left.site) left.history (judged_of left)
 
 -- how many there were of what in a world is printed
 pub record PrintsCountsOf {A : Type 0} (left : WorldState A) (old new : Known) : Type 0 where
@@ -45,7 +44,7 @@ pub record PrintsCounts {A : Type 0} (steps : List (Step A)) (n : ℕ) (fresh : 
   pub left : WorldState A
   pub storms : StormsOver steps n fresh left lines_old lines_new None None
   pub printed : PrintsCountsOf left old new
-  pub legal : IsLegal (object_site left.site) left.history (devices_of left.stations)
+  pub legal : IsLegal (instances_of left.site) left.history (judged_of left)
 
 -- the texts are those of a sound site and of a script, and a storm went on behind its steps there
 pub record Storms (A : Type 0) (site script : List ℕ) (n : ℕ) (lines_old lines_new old new : Known) : Type 0 where

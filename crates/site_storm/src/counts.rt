@@ -3,8 +3,7 @@
 ghost use Rattle.std.specs.Prelude.{◌≡◌, Some, IfOk};
 ghost use Rattle.std.specs.Fmt.{WritesOnOk};
 ghost use Rattle.site_run.specs.simulator.carry_world.Laws.{IsLegal};
-ghost use Rattle.site_run.specs.simulator.hosts.Opening.{object_site};
-ghost use Rattle.site_run.specs.simulator.hosts.Stations.{devices_of};
+ghost use Rattle.site_run.specs.simulator.Judged.{instances_of, judged_of};
 ghost use Rattle.site_storm.specs.Counting as spec;
 
 use crate::waits::greatest_wait;
@@ -164,7 +163,7 @@ fn messages_in<A: Allocator>(said: &[SaidMessage<A>]) -> MessageCounts
 /// Want of memory.
 pub fn counts_of<A: Allocator + Copy>(alloc: A, world: &World<A>) -> Result<Counts, AllocError>
     ensures counts { IfOk result (spec.AreCounts world.now) }
-    ensures legal { IsLegal (object_site world.now.site) world.now.history (devices_of world.now.stations) }
+    ensures legal { IsLegal (instances_of world.now.site) world.now.history (judged_of world.now) }
 {
     let history = world.history();
     let wait = greatest_wait(alloc, history)?;

@@ -1,7 +1,8 @@
-//! An event as the line of a script.
+//! An event as the line of a script, and the end that a script lacks before it.
 
-ghost use Rattle.std.specs.Prelude.{Some};
+ghost use Rattle.std.specs.Prelude.{◌≡◌, Some};
 ghost use Rattle.std.specs.Fmt.{WritesOnOk};
+ghost use Rattle.site_storm.specs.Lines as spec;
 ghost use Rattle.site_storm.specs.Lines.{event_text, who_is_text};
 
 use apdu::Limits;
@@ -74,5 +75,17 @@ fn fmt_who_is<W: fmt::Write>(
     match limits {
         None => write!(f, "whois {client}"),
         Some(Limits { low, high }) => write!(f, "whois {client} {low} {high}"),
+    }
+}
+
+/// The end that the last line of a script lacks, so that a line behind it is one of its own: none where it has one, or
+/// where there is no line.
+pub fn end_missing(script: &[u8]) -> &'static [u8]
+    ensures { result.now ≡ spec.end_missing script.now }
+{
+    if script.is_empty() || script.ends_with(b"\n") {
+        b""
+    } else {
+        b"\n"
     }
 }

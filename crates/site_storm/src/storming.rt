@@ -8,8 +8,7 @@ ghost use Rattle.site_storm.specs.Counting.{count_text};
 ghost use Rattle.site_storm.specs.Lines.{line};
 ghost use Rattle.site_storm.specs.Storming.{CountsStorm, PrintsCounts, PrintsCountsOf, PrintsStorm, Storms, StormsOver};
 ghost use Rattle.site_run.specs.simulator.carry_world.Laws.{IsLegal};
-ghost use Rattle.site_run.specs.simulator.hosts.Opening.{object_site};
-ghost use Rattle.site_run.specs.simulator.hosts.Stations.{devices_of};
+ghost use Rattle.site_run.specs.simulator.Judged.{instances_of, judged_of};
 
 use crate::counts::{CountLine, Counts, counts_of};
 use crate::raging::{Weather, rage};
@@ -171,7 +170,7 @@ fn print_counts<A: Allocator + Copy, W: Write>(
     out: &mut W,
 ) -> io::Result<()>
     ensures printed { OnOk result (PrintsCountsOf world.now (W.contents out.old) (W.contents out.new)) }
-    ensures legal { IsLegal (object_site world.now.site) world.now.history (devices_of world.now.stations) }
+    ensures legal { IsLegal (instances_of world.now.site) world.now.history (judged_of world.now) }
 {
     let counts = counts_of(alloc, world)?;
     print_line(counts, out)

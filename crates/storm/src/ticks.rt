@@ -6,16 +6,14 @@ use bus_traffic::Bus;
 use history::Entry;
 use profile::{
     APDU_SEGMENT_TIMEOUT_MS, APDU_TIMEOUT_MS, DEADLINE_MS, GATHERING_TIMEOUT_MS, KEEP_MS, LIFE_MS,
-    REUSE_MS, T_NO_TOKEN_MS, T_REPLY_DELAY_MS, T_REPLY_TIMEOUT_MS, T_SLOT_MS, T_USAGE_TIMEOUT_MS,
+    MAX_TICK_MS, REUSE_MS, T_NO_TOKEN_MS, T_REPLY_DELAY_MS, T_REPLY_TIMEOUT_MS, T_SLOT_MS,
+    T_USAGE_TIMEOUT_MS,
 };
 use simulator::{World, WorldEntry};
 use std::alloc::Allocator;
 
 /// How many of the last entries of a history have deadlines that are looked at.
 const LATEST: usize = 8;
-
-/// The greatest number of milliseconds that pass at once.
-const MOST_MS: u64 = 60_000;
 
 /// What is due behind an issue: the request again, its end, its segments, and its invoke ID (5.4).
 const BEHIND_ISSUE: [u64; 7] = [
@@ -113,7 +111,7 @@ fn beside(dice: &mut Dice, ms: u64) -> u64 {
 
 /// So many milliseconds as may pass at once.
 fn within(ms: u64) -> u64 {
-    ms.clamp(1, MOST_MS)
+    ms.clamp(1, MAX_TICK_MS)
 }
 
 /// Up to a deadline of the history, or one millisecond beside it: mostly the next one.

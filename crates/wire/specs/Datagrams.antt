@@ -1,6 +1,7 @@
 -- Datagrams as a wire brings them (J.1.2).
 use Rattle.std.specs.Prelude.{ℕ, ◌<◌, List, length}
 use Rattle.npdu.specs.declared.mac.Mac.{Mac}
+use Rattle.profile.specs.Limits.{MAX_DATAGRAM_OCTETS}
 use Rattle.wire.specs.declared.wire.Got.{Got}
 
 -- a datagram and its ends
@@ -12,10 +13,6 @@ pub record Datagram : Type 0 where
 abbrev pub datagram_of : Got → Datagram
 datagram_of g = record { from = g.from; to = g.to; octets = g.octets.now }
 
--- the octets of a wire's buffer
-abbrev pub BUFFER_OCTETS : ℕ
-BUFFER_OCTETS = 2048
-
 -- a datagram that fills the buffer may have been cut
 abbrev pub IsWhole : Datagram → Type 0
-IsWhole d = length d.octets < BUFFER_OCTETS
+IsWhole d = length d.octets < MAX_DATAGRAM_OCTETS

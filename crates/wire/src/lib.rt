@@ -12,4 +12,4 @@ mod udp;
 mod wire;
 
 pub use udp::UdpWire;
-pub use wire::{BUFFER_OCTETS, Got, Wire};
+pub use wire::{Got, Wire};

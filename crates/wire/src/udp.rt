@@ -2,11 +2,13 @@
 
 ghost use Rattle.std.specs.Prelude.{◌≡◌, ◌≤◌, ◌⊎◌, take, IfErr, IfOk, IfSome};
 ghost use Rattle.std.specs.Option.{ForSome, option_map};
-ghost use Rattle.wire.specs.Datagrams.{BUFFER_OCTETS, Datagram};
+ghost use Rattle.profile.specs.Limits as limit;
+ghost use Rattle.wire.specs.Datagrams.{Datagram};
 
 use crate::wire::{Got, Wire};
 use bvll::Address;
 use npdu::Mac;
+use profile::MAX_DATAGRAM_OCTETS;
 use std::alloc::Allocator;
 use std::io;
 use std::io::ErrorKind;
@@ -40,12 +42,12 @@ pub struct UdpWire<A: Allocator> {
     turn: usize,
     /// How many datagrams it brought in a row.
     in_row: u8,
-    buffer: [u8; 2048],
+    buffer: [u8; MAX_DATAGRAM_OCTETS],
     arrival: Option<Arrival>,
     faults: u64,
     sends: u64,
     recvs: u64,
-    ghost fits: { ForSome arrival (λ a. a.count ≤ BUFFER_OCTETS) },
+    ghost fits: { ForSome arrival (λ a. a.count ≤ limit.MAX_DATAGRAM_OCTETS) },
 }
 
 /// An address in the system's form.
@@ -94,7 +96,7 @@ impl<A: Allocator + Copy> UdpWire<A> {
             sockets,
             turn: 0,
             in_row: 0,
-            buffer: [0; 2048],
+            buffer: [0; MAX_DATAGRAM_OCTETS],
             arrival: None,
             faults: 0,
             sends: 0,
@@ -114,8 +116,11 @@ fn arrival_from(from: Option<Mac>, to: Mac, count: usize) -> Option<Arrival>
 }
 
 /// What a socket has, if anything is there.
-fn receive_at(socket: &BoundSocket, buffer: &mut [u8; 2048]) -> io::Result<Option<Arrival>>
-    ensures { IfOk result (λ came. ForSome came (λ a. a.count ≤ BUFFER_OCTETS)) }
+fn receive_at(
+    socket: &BoundSocket,
+    buffer: &mut [u8; MAX_DATAGRAM_OCTETS],
+) -> io::Result<Option<Arrival>>
+    ensures { IfOk result (λ came. ForSome came (λ a. a.count ≤ limit.MAX_DATAGRAM_OCTETS)) }
 {
     match socket.socket.recv_from(buffer) {
         Ok((count, from)) => {
@@ -130,9 +135,9 @@ fn receive_at(socket: &BoundSocket, buffer: &mut [u8; 2048]) -> io::Result<Optio
 /// What the first of these sockets has that has anything, and its place among them.
 fn receive_any(
     sockets: &[BoundSocket],
-    buffer: &mut [u8; 2048],
+    buffer: &mut [u8; MAX_DATAGRAM_OCTETS],
 ) -> io::Result<Option<(usize, Arrival)>>
-    ensures { IfOk result (λ came. ForSome came (λ p. p.1.count ≤ BUFFER_OCTETS)) }
+    ensures { IfOk result (λ came. ForSome came (λ p. p.1.count ≤ limit.MAX_DATAGRAM_OCTETS)) }
 {
     for (place, socket) in sockets.iter().enumerate() {
         if let Some(arrival) = receive_at(socket, buffer)? {
@@ -169,7 +174,7 @@ fn send_from(sockets: &[BoundSocket], from: Mac, to: Mac, octets: &[u8]) -> io::
 impl<A: Allocator> UdpWire<A> {
     /// Asks each socket once, beginning with the one whose turn it is.
     fn receive(&mut self) -> io::Result<Option<Arrival>>
-        ensures fits { IfOk result (λ came. ForSome came (λ a. a.count ≤ BUFFER_OCTETS)) }
+        ensures fits { IfOk result (λ came. ForSome came (λ a. a.count ≤ limit.MAX_DATAGRAM_OCTETS)) }
         ensures faults { self.new.faults ≡ self.old.faults }
         ensures sends { self.new.sends ≡ self.old.sends }
         ensures recvs { self.new.recvs ≡ self.old.recvs }

@@ -5,10 +5,8 @@ ghost use Rattle.wire.specs.Counts.{raised};
 ghost use Rattle.wire.specs.Datagrams.{Datagram, IsWhole, datagram_of};
 
 use npdu::Mac;
+use profile::MAX_DATAGRAM_OCTETS;
 use tags::Fault;
-
-/// The octets of a wire's buffer: a datagram that fills it counts as not whole.
-pub const BUFFER_OCTETS: usize = 2048;
 
 /// A datagram that came, as a wire lends it.
 #[derive(Clone, Copy, Debug, PartialEq, Eq)]
@@ -25,7 +23,7 @@ impl Got<'_> {
     pub fn is_whole(&self) -> bool
         ensures { IsTrue result ↔ IsWhole (datagram_of self.now) }
     {
-        self.octets.len() < BUFFER_OCTETS
+        self.octets.len() < MAX_DATAGRAM_OCTETS
     }
 }
 

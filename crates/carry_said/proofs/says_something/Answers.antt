@@ -1,5 +1,5 @@
-use Rattle.carry_said.proofs.Clients.{client_hearing_has_insides, client_says_something, who_is_says_something}
-use Rattle.carry_said.proofs.Devices.{device_hearing_has_insides, device_says_something}
+use Rattle.carry_said.proofs.Clients.{client_hearing_says, client_says_something, who_is_says_something}
+use Rattle.carry_said.proofs.Devices.{device_hearing_says, device_says_something}
 use Rattle.carry_said.proofs.says_something.Goals as goal
 
 pub returns : goal.returns
@@ -7,6 +7,6 @@ returns g c = record {
   device = device_says_something;
   client = client_says_something;
   asks = who_is_says_something;
-  device_hears = device_hearing_has_insides;
-  client_hears = client_hearing_has_insides;
+  device_hears = device_hearing_says;
+  client_hears = client_hearing_says;
 }

@@ -23,6 +23,7 @@ returns-clause-tells g c =
     ∙ ap (λ (ls : List (SitePort _)). items_of station_of c.args.now ls c.args.plan.out) c.ports.ensures)
     c.in_ok-growth.ensures.from c.in_ok-growth.ensures.said c.in_ok-growth.ensures.key c.in_ok-growth.ensures.entry
     (c.in_ok-told.ensures.told ∙ ap (λ (p : EntityPlan _). entity.told_by p) c.in_ok-growth.ensures.entity)
+    c.requires.planned.own
 
 -- it went out
 pub returns-clause-puts : goal.returns-clause-puts

@@ -1,26 +1,42 @@
-use Rattle.std.proofs.Common.{rules, refl, ◌∷◌, []}
-use Rattle.site_run.proofs.RunLaws.{event_before, flow_failed, flow_over}
+use Rattle.std.proofs.Common.{rules}
+use Rattle.site_run.proofs.RunLaws.{flow_begins, flow_failed, flow_goes_on, flow_over, next_of_flow, same_to_go, to_go}
 use Rattle.site_run.proofs.running.make_all.Goals as goal
+
+pub loop-next-init : goal.loop-next-init
+loop-next-init g c = (
+  c.next_of-next.ensures.sound,
+  next_of_flow c.next_of-next.result c.args.flow c.next_of-next.new.flow c.next_of-next.ensures.gives,
+  c.next_of-next.ensures.cause,
+  flow_begins c.args.telling c.args.flow.left (to_go c.next_of-next.result c.next_of-next.new.flow) c.args.world.now
+      (g.W.Write.contents c.args.out.now)
+      (same_to_go c.next_of-next.result c.args.flow c.next_of-next.new.flow c.next_of-next.ensures.gives
+      c.next_of-next.ensures.unchanged),
+)
 
 -- the event that was made, and then those of the rest
 pub loop-next-preserved : goal.loop-next-preserved
-loop-next-preserved g c = (
-  c.next_of-next-in-Ok-Some.ensures.sound,
-  c.next_of-next-in-Ok-Some.ensures.cause,
-  λ events v new sound printed. c.loop-next.invariant.2 (c.in-Ok-Some.event ∷ events) v new
-      (search rules, sound)
-      (event_before c.args.telling c.in-Ok-Some.event events c.loop-next.world c.make.new.world v
-      (g.W.Write.contents c.loop-next.out) (g.W.Write.contents c.make.new.out) new c.in_ok-make.ensures printed),
-)
+loop-next-preserved g c =
+    let next = c.next_of-next-in-Ok-Some in (
+      next.ensures.sound,
+      next_of_flow next.result c.loop-next.flow next.new.flow next.ensures.gives,
+      next.ensures.cause,
+      flow_goes_on c.args.telling c.args.flow.left c.loop-next.next next.result c.loop-next.flow next.new.flow
+          c.in-Ok-Some.event c.args.world.now c.loop-next.world c.make.new.world (g.W.Write.contents c.args.out.now)
+          (g.W.Write.contents c.loop-next.out) (g.W.Write.contents c.make.new.out) (search rules)
+          c.loop-next.invariant.1
+          (same_to_go next.result c.loop-next.flow next.new.flow next.ensures.gives next.ensures.unchanged)
+          c.in_ok-make.ensures c.loop-next.invariant.3,
+    )
 
 pub returns-in-Ok : goal.returns-in-Ok
 returns-in-Ok g c =
-    flow_over c.args.telling c.args.world.now c.loop-next.world (g.W.Write.contents c.args.out.now)
-    (g.W.Write.contents c.loop-next.out) (c.loop-next.invariant.2 [] _ _ tt (refl, refl))
+    flow_over c.args.telling c.args.flow.left c.loop-next.next c.loop-next.flow c.args.world.now c.loop-next.world
+    (g.W.Write.contents c.args.out.now) (g.W.Write.contents c.loop-next.out) (search rules) c.loop-next.invariant.1
+    c.loop-next.invariant.3
 
 pub returns-in-Err : goal.returns-in-Err
 returns-in-Err g c =
-    flow_failed c.print_refusal.result c.args.telling c.args.world.now c.loop-next.world
-    (g.W.Write.contents c.args.out.now) (g.W.Write.contents c.loop-next.out)
-    (g.W.Write.contents c.print_refusal.new.out) c.in-Err.fault c.moment.result
-    (c.loop-next.invariant.2 [] _ _ tt (refl, refl)) (search rules) c.moment.ensures c.print_refusal.ensures
+    flow_failed c.print_refusal.result c.args.telling c.args.flow.left (to_go c.loop-next.next c.loop-next.flow)
+    c.args.world.now c.loop-next.world (g.W.Write.contents c.args.out.now) (g.W.Write.contents c.loop-next.out)
+    (g.W.Write.contents c.print_refusal.new.out) c.in-Err.fault c.moment.result c.loop-next.invariant.3
+    (search rules) c.moment.ensures c.print_refusal.ensures

@@ -1,7 +1,6 @@
 use Rattle.std.proofs.Common.{rules, ◌≡◌, ◌∙◌, ap, subst, List, length, ℕ}
 use Rattle.site_storm.specs.site_run.simulator.carry_world.Laws.{IsLegal}
-use Rattle.site_storm.specs.site_run.simulator.hosts.Opening.{object_site}
-use Rattle.site_storm.specs.site_run.simulator.hosts.Stations.{devices_of}
+use Rattle.site_storm.specs.site_run.simulator.Judged.{instances_of, judged_of}
 use Rattle.site_storm.specs.site_run.simulator.chronicle.Growing.{WorldHistory}
 use Rattle.site_parts.specs.declared.parts.Parts.{Parts}
 use Rattle.site_parts.specs.declared.parts.Station.{Station}
@@ -26,7 +25,7 @@ returns g c =
             (subst (λ (ss : List (Station _)). HasEntry words ss (length c.history-entries.result.now)
             c.history-history.result.now) stations (c.in_ok-has_entry.ensures e)));
         legal =
-            subst (λ (h : WorldHistory _). IsLegal (object_site left.site) h (devices_of left.stations))
+            subst (λ (h : WorldHistory _). IsLegal (instances_of left.site) h (judged_of left))
             c.history-history.ensures.history c.history-history.ensures.legal;
       };
     }

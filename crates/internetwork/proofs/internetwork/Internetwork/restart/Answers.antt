@@ -7,7 +7,7 @@ pub returns-in_err-plan-clause-cause : goal.returns-in_err-plan-clause-cause
 returns-in_err-plan-clause-cause g c =
     let p = err_from_is_err_and c.from_residual-in_err-plan.result c.from_residual-in_err-plan.ensures.1 in
     rw (p.1) (rw (p.2) (restart_refused c.args.self.now c.args.name.now c.in_ok-place.field-0.place c.in_ok-place.field-0.station.now
-    c.in_err-plan.field-0.0 c.in_ok-place.ensures.named c.in_err-plan.ensures.cause))
+    c.in_err-plan.field-0.0 c.in_ok-place.ensures.named c.in_ok-entry.ensures.device c.in_err-plan.ensures.cause))
 
 -- it restarted
 pub returns-clause-restarts : goal.returns-clause-restarts

@@ -1,6 +1,9 @@
-use Rattle.std.proofs.Common.{rules, sym, subst, List}
+use Rattle.std.proofs.Common.{◌∙◌, ap, sym, subst, List}
+use Rattle.runner.proofs.LedRules.{made_so}
 use Rattle.runner.proofs.SenderLaws.{known_after}
 use Rattle.runner.proofs.runner.Runner.make.Goals as goal
+use Rattle.runner.specs.Runner.{RunnerState}
+use Rattle.runner.specs.Turns.{HasMade}
 use Rattle.senders.specs.Senders.{AreKnown, senders_of}
 use Rattle.simulator.proofs.LedLaws.{led_on}
 use Rattle.traffic.specs.declared.item.Item.{Item}
@@ -20,3 +23,19 @@ invariant_of-self g c = (
       c.in-Ok.ensures.steps (c.self.invariant.0 led),
   subst (λ (is : List (Item _)). AreKnown c.see.new.self (senders_of is)) c.items.ensures c.see.ensures.known,
 )
+
+-- its step was made, with what it brought
+pub returns-in-Ok-clause-made : goal.returns-in-Ok-clause-made
+returns-in-Ok-clause-made g c =
+    subst (λ (r : RunnerState _). HasMade c.args.event.now r (record {
+      world = c.step.new.self;
+      is_open = c.self.inside.is_open;
+      strayed = c.self.inside.strayed;
+      is_led = c.self.inside.is_led;
+    })) c.self.view_is (made_so c.args.event.now (record {
+      world = c.self.inside.world;
+      is_open = c.self.inside.is_open;
+      strayed = c.self.inside.strayed;
+      is_led = c.self.inside.is_led;
+    }) c.step.new.self c.in-Ok.ensures.stands c.in-Ok.ensures.steps (c.self.invariant.0)
+    (ap (λ (r : RunnerState _). r.strayed) c.self.view_is ∙ c.requires.strayed))

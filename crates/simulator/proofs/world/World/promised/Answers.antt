@@ -1,5 +1,5 @@
 use Rattle.std.proofs.Common.{subst}
-use Rattle.simulator.proofs.LedLaws.{carried_of, legal_of, whole_of}
+use Rattle.simulator.proofs.LedLaws.{answers_of, carried_of, legal_of, whole_of}
 use Rattle.simulator.specs.Laws.{IsLed}
 use Rattle.internetwork.specs.World.{WorldState}
 use Rattle.simulator.proofs.world.World.promised.Goals as goal
@@ -15,3 +15,7 @@ returns-clause-carried g c =
 pub returns-clause-whole : goal.returns-clause-whole
 returns-clause-whole g c =
     whole_of c.args.self.now (subst (λ (w : WorldState _). IsLed w) c.self.view_is c.self.invariant)
+
+pub returns-clause-whole_answers : goal.returns-clause-whole_answers
+returns-clause-whole_answers g c =
+    answers_of c.args.self.now (subst (λ (w : WorldState _). IsLed w) c.self.view_is c.self.invariant)

@@ -1,5 +1,5 @@
 use Rattle.std.proofs.Common.{take}
-use Rattle.internetwork.specs.Refusals.{Runs}
+use Rattle.simulator.specs.Runs.{Runs}
 use Rattle.simulator.proofs.world.World.run.Given as goal
 
 -- so far

@@ -4,27 +4,27 @@ use Rattle.std.specs.Prelude.{◌&&◌, nat_lt, slice_get}
 use Rattle.std.proofs.lemmas.Bool.{and_parts, eqb-true}
 use Rattle.apdu.specs.declared.apdu.Segment.{Segment}
 use Rattle.apdu.specs.declared.sizes.MaxApdu.{MaxApdu}
-use Rattle.client_tsm.proofs.Telling.{found_at}
-use Rattle.client_tsm.specs.Client.{ClientTsmState, gathered_at, receiver_of}
-use Rattle.client_tsm.specs.Hearing.{Heard, Message, Reached, Taking, Whole, acknowledges, ack_if, answers, answers_in_part, asked_told, closes, completes}
-use Rattle.client_tsm.specs.Hearing.{gathered_by, is_asked, nothing, of_service, place_of, plans, reached, taken_if, told_at, told_where}
-use Rattle.client_tsm.specs.Open.{Open, goes_on, got_of, takes}
-use Rattle.client_tsm.specs.declared.gathering.Gathering.{Gathering}
-use Rattle.client_tsm.specs.declared.plan.ClientTsmChange.TheVariants.{Stays}
-use Rattle.headline.specs.Honest.{IsHeard, IsTold}
-use Rattle.headline_bacnet.specs.Protocol.{HasContents}
-use Rattle.headline_bacnet.specs.Refined.{ObjectCore}
-use Rattle.headline_client.proofs.Hearing.{IsAnswer, IsBody}
-use Rattle.headline_client.specs.Safe.{pieces_of, safe_transaction}
+use Rattle.carry_said.proofs.headline_client.client_tsm.Telling.{found_at}
+use Rattle.carry_said.specs.client_tsm.Client.{ClientTsmState, gathered_at, receiver_of}
+use Rattle.carry_said.specs.client_tsm.Hearing.{Heard, Message, Reached, Taking, Whole, acknowledges, ack_if, answers, answers_in_part, asked_told, closes, completes}
+use Rattle.carry_said.specs.client_tsm.Hearing.{gathered_by, is_asked, nothing, of_service, place_of, plans, reached, taken_if, told_at, told_where}
+use Rattle.carry_said.specs.client_tsm.Open.{Open, goes_on, got_of, takes}
+use Rattle.carry_said.specs.client_tsm.declared.gathering.Gathering.{Gathering}
+use Rattle.carry_said.specs.client_tsm.declared.plan.ClientTsmChange.TheVariants.{Stays}
+use Rattle.carry_said.specs.headline_site.headline.Honest.{IsHeard, IsTold}
+use Rattle.carry_said.specs.headline_site.headline_bacnet.Protocol.{HasContents}
+use Rattle.carry_said.specs.headline_site.headline_bacnet.Refined.{ObjectCore}
+use Rattle.carry_said.proofs.headline_site.headline_client.Hearing.{IsAnswer, IsBody}
+use Rattle.carry_said.specs.headline_site.headline_client.Safe.{pieces_of, safe_transaction}
 use Rattle.history.proofs.Lists.{has}
 use Rattle.history.specs.Book.{Answer, Complex, Tells_piece}
 use Rattle.history.specs.Book as book
 use Rattle.history.specs.Lists.{Has}
 use Rattle.npdu.specs.Mac.{same_station}
 use Rattle.npdu.specs.declared.mac.Station.{Station}
-use Rattle.segments.specs.Receiver.{ReceiverState, joins, may_nak, step_of, step_on, step_out_of_order}
-use Rattle.segments.specs.declared.step.Step.{Step}
-use Rattle.segments.specs.declared.step.Step.TheVariants.{Dropped, Full, Nak, Taken}
+use Rattle.carry_said.specs.headline_site.headline_client.segments.Receiver.{ReceiverState, joins, may_nak, step_of, step_on, step_out_of_order}
+use Rattle.carry_said.specs.headline_site.headline_client.segments.declared.step.Step.{Step}
+use Rattle.carry_said.specs.headline_site.headline_client.segments.declared.step.Step.TheVariants.{Dropped, Full, Nak, Taken}
 use Rattle.services.specs.Asked.{service_asked}
 use Rattle.services.specs.Contents.{PlainAnswer}
 

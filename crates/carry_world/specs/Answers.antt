@@ -3,10 +3,10 @@ use Rattle.std.specs.Prelude.{◌≡◌, ℕ, List, Some, slice_get}
 use Rattle.apdu.specs.Apdu.{HasNamedNumbers, apdu_of}
 use Rattle.apdu.specs.declared.apdu.Apdu.{Apdu}
 use Rattle.carry_world.specs.PlainWorld.{Delivers, PlainWorld, last_key}
-use Rattle.client.specs.Client.{ClientState}
-use Rattle.client_tsm.specs.Hearing.{Whole, completes, heard_of, reached}
-use Rattle.headline_bacnet.specs.Protocol.{HasContents, bacnet}
-use Rattle.headline_client.specs.Safe.{station_of}
+use Rattle.carry_said.specs.client.Client.{ClientState}
+use Rattle.carry_said.specs.client_tsm.Hearing.{Whole, completes, heard_of, reached}
+use Rattle.carry_said.specs.headline_site.headline_bacnet.Protocol.{HasContents, bacnet}
+use Rattle.carry_said.specs.headline_site.headline_client.Safe.{station_of}
 use Rattle.history.specs.Lists.{Has}
 use Rattle.history.specs.declared.Entry.TheVariants.{Executed, Issue}
 use Rattle.npdu.specs.declared.mac.Mac.{Mac}

@@ -1,8 +1,8 @@
 -- What comes whole to a client of a world is the answer of one execution.
 use Rattle.std.proofs.Common.{◌∙◌, sym, ap, subst, List}
 use Rattle.carry.specs.Things.{Thing}
-use Rattle.carry_answers.specs.Laws.{WholeIsExecuted}
-use Rattle.carry_answers.proofs.Told.{WasTold, came_told}
+use Rattle.carry_world.specs.Answers.{WholeIsExecuted}
+use Rattle.carry_world.proofs.Told.{WasTold, came_told}
 use Rattle.carry_world.proofs.Keys.{last_same}
 use Rattle.carry_world.proofs.Kept.{Inv, client_brings}
 use Rattle.carry_world.proofs.Seeing.{Seen, all_seen, fresh_seen, kept_of}
@@ -10,18 +10,18 @@ use Rattle.carry_world.specs.Internetwork.{Internetwork}
 use Rattle.carry_world.specs.Laws.{Always}
 use Rattle.carry_world.specs.PlainSteps.{StepsTo}
 use Rattle.carry_world.specs.PlainWorld.{PlainWorld}
-use Rattle.client_tsm.specs.Hearing.{heard_of}
-use Rattle.headline.specs.Protocol.{IsSite}
-use Rattle.headline.specs.Stations.{Transaction}
-use Rattle.headline_bacnet.specs.Protocol.{HasContents, bacnet}
-use Rattle.headline_bacnet.specs.Refined.{ObjectSite}
-use Rattle.headline_bacnet.specs.Stations.{longest_of}
-use Rattle.headline_client.proofs.Hears.{body_is}
-use Rattle.headline_client.proofs.Places.{all_at, has_seen}
-use Rattle.headline_client.specs.Laws.{IsClient}
-use Rattle.headline_client.specs.Safe.{safe_transaction, station_of}
-use Rattle.headline_site.proofs.Reached.{answers_whole_at, reached_by}
-use Rattle.headline_site.specs.AllStations.{AllStations}
+use Rattle.carry_said.specs.client_tsm.Hearing.{heard_of}
+use Rattle.carry_said.specs.headline_site.headline.Protocol.{IsSite}
+use Rattle.carry_said.specs.headline_site.headline.Stations.{Transaction}
+use Rattle.carry_said.specs.headline_site.headline_bacnet.Protocol.{HasContents, bacnet}
+use Rattle.carry_said.specs.headline_site.headline_bacnet.Refined.{ObjectSite}
+use Rattle.carry_said.specs.headline_site.headline_bacnet.Stations.{longest_of}
+use Rattle.carry_said.proofs.headline_site.headline_client.Hears.{body_is}
+use Rattle.carry_said.proofs.headline_site.headline_client.Places.{all_at, has_seen}
+use Rattle.carry_said.specs.headline_site.headline_client.Laws.{IsClient}
+use Rattle.carry_said.specs.headline_site.headline_client.Safe.{safe_transaction, station_of}
+use Rattle.carry_said.proofs.headline_site.Reached.{answers_whole_at, reached_by}
+use Rattle.carry_said.specs.headline_site.AllStations.{AllStations}
 use Rattle.history.specs.Book.{Answer}
 use Rattle.history.specs.Lists.{Has}
 use Rattle.inside.specs.Inside.{Said}

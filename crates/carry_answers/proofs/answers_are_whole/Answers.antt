@@ -1,5 +1,0 @@
-use Rattle.carry_answers.proofs.Executed.{whole_is_executed}
-use Rattle.carry_answers.proofs.answers_are_whole.Goals as goal
-
-pub returns : goal.returns
-returns g c = whole_is_executed

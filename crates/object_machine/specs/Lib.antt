@@ -1,0 +1,5 @@
+pub mod Rows
+pub mod Machine
+pub mod Laws
+-- What the layers above cite of those below.
+pub use Rattle.object_model.specs as object_model
