@@ -1,5 +1,5 @@
 -- What is done for a command line, and its exit status.
-use Rattle.std.specs.Prelude.{◌≡◌, ◌≢◌, ◌≤◌, ◌⊎◌, ℕ, Bool, true, false, List, Option, Some, None}
+use Rattle.std.specs.Prelude.{◌≡◌, ◌≢◌, ◌≤◌, ◌⊎◌, ℕ, Bool, true, false, List, [], ◌∷◌, Option, Some, None}
 use Rattle.std.specs.Prelude.{Result, Ok, Err, IfOk, map, option_map, string_bytes}
 use Rattle.std.specs.Global.{Global}
 use Rattle.clap.specs.Words.{Text, FailsBy, fault_of, kind_of, subcommand_of}
@@ -11,18 +11,23 @@ use Rattle.console.specs.Builtin.{builtin_device}
 use Rattle.command_order.specs.declared.order.Checking.{Checking}
 use Rattle.command_order.specs.declared.order.LiveRun.{LiveRun}
 use Rattle.command_order.specs.declared.order.Order.{Order}
-use Rattle.command_order.specs.declared.order.Order.TheVariants.{Answer, Check, Explain, Pics, Run, Search, Sim, Storm}
+use Rattle.command_order.specs.declared.order.Order.TheVariants.{Answer, Check, Completions, Explain, Fmt, Init, Man}
+use Rattle.command_order.specs.declared.order.Order.TheVariants.{Pics, Run, Search, Sim, Storm}
 use Rattle.command_order.specs.declared.simulating.Simulation.{Simulation}
 use Rattle.site_check.specs.Judged.{AreJudged}
 use Rattle.site_capture.specs.site_live.Runs.{RunsLive}
 use Rattle.site_capture.specs.site_run.Simulate.{Simulates}
 use Rattle.site_capture.specs.site_run.declared.running.Telling.{Telling}
-use Rattle.site_capture.specs.site_run.declared.running.Telling.TheVariants.{Entries, All}
+use Rattle.site_capture.specs.site_run.Running.{all_in, entries_in}
 use Rattle.command_order.specs.Order.{program, IsOrderOf}
-use Rattle.command_line.specs.Describing.{IsExplained}
-use Rattle.command_line.specs.Searching.{PrintsSearch}
-use Rattle.command_line.specs.Storming.{PrintsStorming}
-use Rattle.command_line.specs.Words.{shown}
+use Rattle.command_tools.specs.Describing.{AreCompletions, IsExplained}
+use Rattle.command_files.specs.Outputs.{AreNotStandard, AreSafe, AreUnsafe, standard}
+use Rattle.command_line.specs.Searching.{IsSearched}
+use Rattle.command_tools.specs.Starting.{IsBegun}
+use Rattle.command_line.specs.Storming.{IsStormedBeside}
+use Rattle.command_line.specs.Words.{spelling_of}
+use Rattle.command_tools.specs.Words.{shown}
+use Rattle.words.specs.printing.declared.spelling.Spelling.{Spelling}
 
 -- clap was asked for help or the version
 abbrev pub IsHelp : ErrorKind → Type 0
@@ -40,9 +45,9 @@ pub record IsStatusOf (kind : ErrorKind) (status : ℕ) : Type 0 where
   pub few : status ≤ 2
 
 -- what is told of an event, with a trace or without
-abbrev pub telling_of : Bool → Telling
-telling_of true = All
-telling_of false = Entries
+abbrev pub telling_of : Bool → Spelling → Telling
+telling_of true spelling = all_in spelling
+telling_of false spelling = entries_in spelling
 
 -- the files of a simulation were read, by what reads them, and what they describe was printed
 pub record PrintsSimulation (reads : List ℕ → List ℕ → Type 0) (s : Simulation) (old new : Known) : Type 0 where
@@ -50,14 +55,33 @@ pub record PrintsSimulation (reads : List ℕ → List ℕ → Type 0) (s : Simu
   pub script : List ℕ
   pub site_read : reads (string_bytes s.site) site
   pub script_read : reads (string_bytes s.script) script
-  pub simulates : Simulates Global (telling_of s.is_traced) site script old new
+  pub simulates : Simulates Global (telling_of s.is_traced (spelling_of s.is_named s.is_json)) site script old new
 
--- the status of a simulation: 2 for a part of the run that is none alone, and with 0 it was printed
-pub record IsSimulated (reads : List ℕ → List ℕ → Type 0) (s : Simulation) (status : ℕ) (old new : Known) :
+-- the files that a simulation writes, where they are named
+abbrev pub outputs_of : Simulation → List (Option Text)
+outputs_of s =
+    option_map string_bytes s.outputs.capture ∷ option_map string_bytes s.outputs.ladder
+    ∷ option_map string_bytes s.outputs.report ∷ []
+
+-- the status of a simulation: 2 for a part of the run that is none and for files that may not be written alone; with 0
+-- no file was written that is read or written besides, and it was printed
+pub record IsSimulated (reads same apart : List ℕ → List ℕ → Type 0) (s : Simulation) (status : ℕ) (old new : Known) :
     Type 0 where
   pub few : status ≤ 2
-  pub whole_run : s.outputs.from ≡ None → s.outputs.to ≡ None → status ≤ 1
+  pub whole_run : s.outputs.from ≡ None → s.outputs.to ≡ None →
+      (AreUnsafe same (string_bytes s.site) (string_bytes s.script) (outputs_of s) → ⊥) → status ≤ 1
+  pub safe : status ≡ 0 → AreSafe apart (string_bytes s.site) (string_bytes s.script) (outputs_of s)
   pub printed : status ≡ 0 → PrintsSimulation reads s old new
+
+-- .. and it was printed on standard output, or on the standard error where a file goes to standard output
+pub record IsSimulatedBeside (reads same apart : List ℕ → List ℕ → Type 0) (s : Simulation) (status : ℕ)
+    (old new err_old err_new : Known) : Type 0 where
+  pub few : status ≤ 2
+  pub whole_run : s.outputs.from ≡ None → s.outputs.to ≡ None →
+      (AreUnsafe same (string_bytes s.site) (string_bytes s.script) (outputs_of s) → ⊥) → status ≤ 1
+  pub safe : status ≡ 0 → AreSafe apart (string_bytes s.site) (string_bytes s.script) (outputs_of s)
+  pub printed : status ≡ 0 → AreNotStandard (outputs_of s) → PrintsSimulation reads s old new
+  pub beside : status ≡ 0 → (AreNotStandard (outputs_of s) → ⊥) → PrintsSimulation reads s err_old err_new
 
 -- the files of a live run were read, by what reads them, and what came of the run was printed
 pub record PrintsLive (reads : List ℕ → List ℕ → Type 0) (r : LiveRun) (old new : Known) : Type 0 where
@@ -65,7 +89,31 @@ pub record PrintsLive (reads : List ℕ → List ℕ → Type 0) (r : LiveRun) (
   pub script : List ℕ
   pub site_read : reads (string_bytes r.site) site
   pub script_read : reads (string_bytes r.script) script
-  pub live : RunsLive Global r.is_open site script old new
+  pub live : RunsLive Global (spelling_of r.is_named r.is_json) r.is_open site script old new
+
+-- the file that a live run writes, where it is named
+abbrev pub capture_of : LiveRun → List (Option Text)
+capture_of r = option_map string_bytes r.capture ∷ []
+
+-- the status of a live run: 2 for a time that is none and for files that may not be written alone; with 0 no file was
+-- written that is read besides, and it was printed
+pub record IsLive (reads same apart : List ℕ → List ℕ → Type 0) (r : LiveRun) (status : ℕ) (old new : Known) :
+    Type 0 where
+  pub few : status ≤ 2
+  pub with_script : r.seconds ≡ None →
+      (AreUnsafe same (string_bytes r.site) (string_bytes r.script) (capture_of r) → ⊥) → status ≤ 1
+  pub safe : status ≡ 0 → AreSafe apart (string_bytes r.site) (string_bytes r.script) (capture_of r)
+  pub printed : status ≡ 0 → PrintsLive reads r old new
+
+-- .. and it was printed on standard output, or on the standard error where its capture goes to standard output
+pub record IsLiveBeside (reads same apart : List ℕ → List ℕ → Type 0) (r : LiveRun) (status : ℕ)
+    (old new err_old err_new : Known) : Type 0 where
+  pub few : status ≤ 2
+  pub with_script : r.seconds ≡ None →
+      (AreUnsafe same (string_bytes r.site) (string_bytes r.script) (capture_of r) → ⊥) → status ≤ 1
+  pub safe : status ≡ 0 → AreSafe apart (string_bytes r.site) (string_bytes r.script) (capture_of r)
+  pub printed : status ≡ 0 → AreNotStandard (capture_of r) → PrintsLive reads r old new
+  pub beside : status ≡ 0 → (AreNotStandard (capture_of r) → ⊥) → PrintsLive reads r err_old err_new
 
 -- a file was read, if one is named
 abbrev pub IsReadIfNamed : (List ℕ → List ℕ → Type 0) → Option (List ℕ) → Option (List ℕ) → Type 0
@@ -82,34 +130,50 @@ pub record HaveNoFault (reads : List ℕ → List ℕ → Type 0) (c : Checking)
   pub script_read : IsReadIfNamed reads (option_map string_bytes c.script) script
   pub judged : AreJudged Global site script true
 
+-- standard input is named for both files of a check
+abbrev pub ReadsTwice : Checking → Type 0
+ReadsTwice c = (string_bytes c.site ≡ standard) × (option_map string_bytes c.script ≡ Some standard)
+
+-- the status of a check: 2 where standard input would be read twice alone, and with 0 its files have no fault
+pub record IsChecked (reads : List ℕ → List ℕ → Type 0) (c : Checking) (status : ℕ) : Type 0 where
+  pub few : status ≤ 2
+  pub once : (ReadsTwice c → ⊥) → status ≤ 1
+  pub judged : status ≡ 0 → HaveNoFault reads c
+
 -- what is done for what the words ask for: the status is the tool's, and with status 0 its text is printed, or
 -- the files have no fault
 abbrev pub IsDone :
-    (reads writes : List ℕ → List ℕ → Type 0) → Result (Option Order) Error → ℕ → Known → Known → Type 0
-IsDone reads writes (Err e) status old new = IsStatusOf (kind_of e) status
-IsDone reads writes (Ok None) status old new = status ≡ 2
-IsDone reads writes (Ok (Some (Sim s))) status old new =
-    IsSimulated reads s status (shown s.is_json old) (shown s.is_json new)
-IsDone reads writes (Ok (Some (Storm s))) status old new =
-    (status ≤ 2) × (status ≡ 0 → PrintsStorming reads writes s old new)
-IsDone reads writes (Ok (Some (Search s))) status old new =
-    (status ≤ 2) × (s.depth ≡ None → status ≤ 1) × (status ≡ 0 → PrintsSearch reads s old new)
-IsDone reads writes (Ok (Some (Run r))) status old new =
-    (status ≤ 2) × (r.seconds ≡ None → status ≤ 1)
-    × (status ≡ 0 → PrintsLive reads r (shown r.is_json old) (shown r.is_json new))
-IsDone reads writes (Ok (Some (Check c))) status old new = (status ≤ 1) × (status ≡ 0 → HaveNoFault reads c)
-IsDone reads writes (Ok (Some (Answer words))) status old new =
+    (reads writes same apart : List ℕ → List ℕ → Type 0) → Result (Option Order) Error → ℕ →
+    (old new err_old err_new : Known) → Type 0
+IsDone reads writes same apart (Err e) status old new err_old err_new = IsStatusOf (kind_of e) status
+IsDone reads writes same apart (Ok None) status old new err_old err_new = status ≡ 2
+IsDone reads writes same apart (Ok (Some (Sim s))) status old new err_old err_new =
+    IsSimulatedBeside reads same apart s status (shown s.is_json old) (shown s.is_json new)
+    (shown s.is_json err_old) (shown s.is_json err_new)
+IsDone reads writes same apart (Ok (Some (Storm s))) status old new err_old err_new =
+    IsStormedBeside reads writes same apart s status old new err_old err_new
+IsDone reads writes same apart (Ok (Some (Search s))) status old new err_old err_new = IsSearched reads s status old new
+IsDone reads writes same apart (Ok (Some (Run r))) status old new err_old err_new =
+    IsLiveBeside reads same apart r status (shown r.is_json old) (shown r.is_json new)
+    (shown r.is_json err_old) (shown r.is_json err_new)
+IsDone reads writes same apart (Ok (Some (Check c))) status old new err_old err_new = IsChecked reads c status
+IsDone reads writes same apart (Ok (Some (Answer words))) status old new err_old err_new =
     (status ≤ 1)
     × (status ≡ 0 → PrintsAnswer (builtin_device {A = Global}) (text_of (map string_bytes words.items)) old new)
-IsDone reads writes (Ok (Some (Explain e))) status old new =
-    IsExplained (option_map string_bytes e.capture) (map string_bytes e.words.items) status
-    (shown e.is_json old) (shown e.is_json new)
-IsDone reads writes (Ok (Some (Pics p))) status old new = status ≤ 1
+IsDone reads writes same apart (Ok (Some (Explain e))) status old new err_old err_new =
+    IsExplained (spelling_of e.is_named e.is_json) (option_map string_bytes e.capture)
+    (map string_bytes e.words.items) status (shown e.is_json old) (shown e.is_json new)
+IsDone reads writes same apart (Ok (Some (Pics p))) status old new err_old err_new = status ≤ 1
+IsDone reads writes same apart (Ok (Some (Fmt script))) status old new err_old err_new = status ≤ 1
+IsDone reads writes same apart (Ok (Some (Init s))) status old new err_old err_new = IsBegun writes s status
+IsDone reads writes same apart (Ok (Some (Completions shell))) status old new err_old err_new =
+    AreCompletions (string_bytes shell) status
+IsDone reads writes same apart (Ok (Some Man)) status old new err_old err_new = status ≤ 1
 
 -- what clap answers of the words, and what is done for that
-pub record Runs (reads writes : List ℕ → List ℕ → Type 0) (words : List Text) (status : ℕ) (old new : Known) :
-    Type 0 where
+pub record Runs (reads writes same apart : List ℕ → List ℕ → Type 0) (words : List Text) (status : ℕ)
+    (old new err_old err_new : Known) : Type 0 where
   pub asked : Result (Option Order) Error
   pub order : IfOk asked (IsOrderOf (subcommand_of program words))
   pub fault : FailsBy (fault_of program words) asked
-  pub done : IsDone reads writes asked status old new
+  pub done : IsDone reads writes same apart asked status old new err_old err_new

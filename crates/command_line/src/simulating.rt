@@ -1,39 +1,77 @@
 //! What is done for the command line of a simulation.
 
-ghost use Rattle.std.specs.Prelude.{◌≡◌, ◌≤◌, None, IsOk};
+ghost use Rattle.std.specs.Prelude.{◌≡◌, ◌≤◌, [], ◌∷◌, None, IsOk, map, option_map, string_bytes};
 ghost use Rattle.std.specs.Global.{Global};
 ghost use Rattle.command_line.specs.Program as spec;
-ghost use Rattle.command_line.specs.Words.{shown};
+ghost use Rattle.command_tools.specs.Words.{shown};
+ghost use Rattle.command_line.specs.Words as words;
 ghost use Rattle.site_capture.specs.site_run.Simulate.{Simulates};
 
-use crate::files::Files;
-use crate::json::ended;
-use crate::program::{say_unread, texts_of};
+use crate::faults::{Texts, say_text_faults};
+use crate::program::texts_of;
+use crate::spelling::spelling_of;
+use command_files::{
+    Files, Use, are_safe, is_any_standard, put_in_place, say_file_fault, say_if_faulty,
+};
 use command_order::{Outputs, Simulation};
+use command_tools::ended;
 use json_lines::{JsonOut, Kind};
-use site_capture::{Stop, capture, say_stop, simulate, simulate_traced};
+use site_capture::{Stop, Telling, capture, say_stop, simulate_told};
 use site_ladder::{Part, ladder, report};
 use std::alloc::Global;
 use std::io::Write;
 use words::{Unread, parse_u64};
 
-/// Runs a script at a site, and prints what comes of it, as JSON where that is asked for.
+/// Runs a script at a site, and prints what comes of it: on the standard error where a file goes to standard output.
 pub(crate) fn sim<F: Files, W: Write, E: Write>(
     alloc: Global,
     simulation: &Simulation,
     files: &F,
+    in_colour: bool,
     out: &mut W,
     err: &mut E,
 ) -> u8
-    ensures { spec.IsSimulated (F.reads files.now) simulation.now result
+    ensures { spec.IsSimulatedBeside (F.reads files.now) (F.same files.now) (F.apart files.now) simulation.now result
+        (shown simulation.now.is_json (W.contents out.old)) (shown simulation.now.is_json (W.contents out.new))
+        (shown simulation.now.is_json (E.contents err.old)) (shown simulation.now.is_json (E.contents err.new)) }
+{
+    if !is_any_standard(&outputs_of(&simulation.outputs)) {
+        return sim_shown(alloc, simulation, files, in_colour, out, err);
+    }
+    let mut messages = Vec::new(alloc);
+    let status = sim_shown(
+        alloc,
+        simulation,
+        files,
+        in_colour,
+        &mut *err,
+        &mut messages,
+    );
+    if status == 0 {
+        return 0;
+    }
+    let _ = err.write_all(messages.as_slice());
+    status
+}
+
+/// Runs a script at a site, and prints what comes of it, as JSON where that is asked for.
+fn sim_shown<F: Files, W: Write, E: Write>(
+    alloc: Global,
+    simulation: &Simulation,
+    files: &F,
+    in_colour: bool,
+    out: &mut W,
+    err: &mut E,
+) -> u8
+    ensures { spec.IsSimulated (F.reads files.now) (F.same files.now) (F.apart files.now) simulation.now result
         (shown simulation.now.is_json (W.contents out.old)) (shown simulation.now.is_json (W.contents out.new)) }
 {
     if simulation.is_json {
         let mut lines = JsonOut::new(alloc, Kind::History, &mut *out);
-        let status = sim_files(alloc, simulation, files, &mut lines, err);
+        let status = sim_files(alloc, simulation, files, in_colour, &mut lines, err);
         ended(status, lines.flush(), err)
     } else {
-        sim_files(alloc, simulation, files, out, err)
+        sim_files(alloc, simulation, files, in_colour, out, err)
     }
 }
 
@@ -42,22 +80,63 @@ fn sim_files<F: Files, W: Write, E: Write>(
     alloc: Global,
     simulation: &Simulation,
     files: &F,
+    in_colour: bool,
     out: &mut W,
     err: &mut E,
 ) -> u8
-    ensures { spec.IsSimulated (F.reads files.now) simulation.now result (W.contents out.old) (W.contents out.new) }
+    ensures { spec.IsSimulated (F.reads files.now) (F.same files.now) (F.apart files.now) simulation.now result
+        (W.contents out.old) (W.contents out.new) }
 {
     let Ok(part) = part_of(&simulation.outputs) else {
-        let _ = writeln!(err, "bacsite: --from and --to take numbers of milliseconds");
+        say_faulty_part(&simulation.outputs, in_colour, err);
         return 2;
     };
-    match texts_of(alloc, &simulation.site, &simulation.script, files) {
+    let outputs = outputs_of(&simulation.outputs);
+    if !are_safe(
+        files,
+        &simulation.site,
+        &simulation.script,
+        &outputs,
+        in_colour,
+        err,
+    ) {
+        return 2;
+    }
+    match texts_of(
+        alloc,
+        &simulation.site,
+        &simulation.script,
+        files,
+        in_colour,
+        err,
+    ) {
         Ok((site, script)) => {
             let (site, script) = (site.as_slice(), script.as_slice());
-            sim_texts(alloc, site, script, simulation, part, files, out, err)
+            sim_texts(
+                alloc, site, script, simulation, part, files, in_colour, out, err,
+            )
         }
-        Err(error) => say_unread(&error, err),
+        Err(status) => status,
     }
+}
+
+/// The names of the files that are written, where they are named.
+fn outputs_of(outputs: &Outputs) -> [Option<&str>; 3]
+    ensures { map (λ o. option_map (λ n. n.now) o) result ≡ option_map string_bytes outputs.entry.now.capture
+        ∷ option_map string_bytes outputs.entry.now.ladder ∷ option_map string_bytes outputs.entry.now.report ∷ [] }
+{
+    [
+        outputs.capture.as_deref(),
+        outputs.ladder.as_deref(),
+        outputs.report.as_deref(),
+    ]
+}
+
+/// Tells which words are no moments.
+fn say_faulty_part<E: Write>(outputs: &Outputs, in_colour: bool, err: &mut E) {
+    let _ = writeln!(err, "bacsite: --from and --to take numbers of milliseconds");
+    say_if_faulty("--from", outputs.from.as_deref(), in_colour, err);
+    say_if_faulty("--to", outputs.to.as_deref(), in_colour, err);
 }
 
 /// The part of a run that words say, which may be no numbers.
@@ -88,38 +167,43 @@ fn sim_texts<F: Files, W: Write, E: Write>(
     simulation: &Simulation,
     part: Part,
     files: &F,
+    in_colour: bool,
     out: &mut W,
     err: &mut E,
 ) -> u8
     ensures status { result ≤ 1 }
-    ensures simulates { result ≡ 0 → Simulates Global (spec.telling_of simulation.now.is_traced) site.now script.now
+    ensures simulates { result ≡ 0 → Simulates Global
+        (spec.telling_of simulation.now.is_traced (words.spelling_of simulation.now.is_named simulation.now.is_json))
+        site.now script.now
         (W.contents out.old) (W.contents out.new) }
 {
-    let status = run_texts(alloc, site, script, simulation.is_traced, out, err);
+    let spelling = spelling_of(simulation.is_named, simulation.is_json);
+    let telling = if simulation.is_traced {
+        Telling::all(spelling)
+    } else {
+        Telling::entries(spelling)
+    };
+    let status = simulate_told(alloc, alloc, site, script, telling, out, err);
     if status != 0 {
+        let texts = Texts {
+            site_name: simulation.site.as_str(),
+            site,
+            script_name: simulation.script.as_str(),
+            script,
+        };
+        say_text_faults(alloc, texts, in_colour, err);
         return status;
     }
-    write_all(alloc, site, script, &simulation.outputs, part, files, err)
-}
-
-/// Runs a script at a site, with a trace or without.
-fn run_texts<W: Write, E: Write>(
-    alloc: Global,
-    site: &[u8],
-    script: &[u8],
-    is_traced: bool,
-    out: &mut W,
-    err: &mut E,
-) -> u8
-    ensures status { result ≤ 1 }
-    ensures simulates { result ≡ 0
-        → Simulates Global (spec.telling_of is_traced) site.now script.now (W.contents out.old) (W.contents out.new) }
-{
-    if is_traced {
-        simulate_traced(alloc, alloc, site, script, out, err)
-    } else {
-        simulate(alloc, alloc, site, script, out, err)
-    }
+    write_all(
+        alloc,
+        site,
+        script,
+        &simulation.outputs,
+        part,
+        files,
+        in_colour,
+        err,
+    )
 }
 
 /// Writes the files that are named: a capture, a ladder and a report, and answers the exit status.
@@ -130,41 +214,49 @@ fn write_all<F: Files, E: Write>(
     outputs: &Outputs,
     part: Part,
     files: &F,
+    in_colour: bool,
     err: &mut E,
 ) -> u8
     ensures { result ≤ 1 }
 {
     if let Some(name) = &outputs.capture {
-        let status = write_file(name, capture(alloc, alloc, site, script), files, err);
+        let made = capture(alloc, alloc, site, script);
+        let status = write_file(alloc, name, made, files, in_colour, err);
         if status != 0 {
             return status;
         }
     }
     if let Some(name) = &outputs.ladder {
-        let status = write_file(name, ladder(alloc, alloc, site, script, part), files, err);
+        let made = ladder(alloc, alloc, site, script, part);
+        let status = write_file(alloc, name, made, files, in_colour, err);
         if status != 0 {
             return status;
         }
     }
     match &outputs.report {
-        Some(name) => write_file(name, report(alloc, alloc, site, script, part), files, err),
+        Some(name) => {
+            let made = report(alloc, alloc, site, script, part);
+            write_file(alloc, name, made, files, in_colour, err)
+        }
         None => 0,
     }
 }
 
 /// Writes a file, and answers the exit status.
 fn write_file<F: Files, E: Write>(
+    alloc: Global,
     name: &String,
     made: Result<Vec<u8>, Stop>,
     files: &F,
+    in_colour: bool,
     err: &mut E,
 ) -> u8
     ensures { result ≤ 1 }
 {
     match made {
-        Ok(file) => match files.write(name.as_str(), file.as_slice()) {
+        Ok(file) => match put_in_place(alloc, name.as_str(), file.as_slice(), files) {
             Ok(()) => 0,
-            Err(error) => say_unread(&error, err),
+            Err(error) => say_file_fault(name.as_str(), Use::Written, &error, in_colour, err),
         },
         Err(stop) => say_stop(stop, err),
     }

@@ -1,29 +1,51 @@
 //! What is done for the command line of a storm.
 
-ghost use Rattle.std.specs.Prelude.{◌≡◌, ◌≤◌, ◌++◌, Some, IfOk, IfSome, OnOk, option_map, string_bytes};
+ghost use Rattle.std.specs.Prelude.{◌≡◌, ◌≤◌, ◌++◌, Some, IfOk, IfSome, option_map, string_bytes};
 ghost use Rattle.std.specs.Global.{Global};
 ghost use Rattle.site_search.specs.site_storm.Lines as text;
 ghost use Rattle.words.specs.Says.{SaysUnsigned};
 ghost use Rattle.command_line.specs.Storming as spec;
 
-use crate::files::Files;
-use crate::program::{say_unread, texts_of};
+use crate::faults::{Texts, say_text_faults};
+use crate::program::texts_of;
+use crate::spelling::spelling_of;
+use command_files::{
+    Files, Use, are_safe, is_any_standard, put_in_place, say_faulty_word, say_file_fault,
+    say_if_faulty,
+};
 use command_order::{Percents, Storming};
 use console::say_refused;
 use site_search::{Chances, Weather, end_missing, storm, storm_counted};
 use std::alloc::{AllocError, Global};
-use std::io;
 use std::io::Write;
+use storm::Percent;
 use tags::Fault;
-use words::parse_u64;
+use words::{Spelling, parse_u64};
 
-/// The percents that a word says, 0 to 100, or those that hold where there is no word.
-fn percent_of(word: Option<&str>, usual: u8) -> Option<u8> {
+/// The percentage that a word says, 0 to 100, as `5` or `2.5`, or the one that holds where there is no word.
+fn percent_of(word: Option<&str>, usual: Percent) -> Option<Percent> {
     let Some(word) = word else {
         return Some(usual);
     };
-    match word.parse::<u8>() {
-        Ok(percent) if percent <= 100 => Some(percent),
+    let (whole, tenth) = match word.split_once('.') {
+        Some((whole, digit)) => (whole, tenth_of(digit)?),
+        None => (word, 0),
+    };
+    let tenths = match whole.parse::<u8>() {
+        Ok(percents) => Percent::whole(percents).tenths.saturating_add(tenth),
+        Err(_) => return None,
+    };
+    if tenths <= 1000 {
+        Some(Percent { tenths })
+    } else {
+        None
+    }
+}
+
+/// The tenths that the one digit behind a point says.
+fn tenth_of(digit: &str) -> Option<u16> {
+    match digit.as_bytes() {
+        [digit @ b'0'..=b'9'] => Some(u16::from(*digit).saturating_sub(u16::from(b'0'))),
         _ => None,
     }
 }
@@ -58,37 +80,97 @@ fn weather_of(storming: &Storming) -> Option<Weather>
     })
 }
 
-/// Reads the files of a storm, the site first, lets it happen, and writes its script, if a file is named for it.
+/// Lets a storm happen at a site, and prints it: on the standard error where its script goes to standard output.
 pub(crate) fn storm_files<F: Files, W: Write, E: Write>(
     alloc: Global,
     storming: &Storming,
     files: &F,
+    in_colour: bool,
     out: &mut W,
     err: &mut E,
 ) -> u8
-    ensures status { result ≤ 2 }
-    ensures storms { result ≡ 0 → spec.PrintsStorming (F.reads files.now) (F.writes files.now) storming.now
-        (W.contents out.old) (W.contents out.new) }
+    ensures { spec.IsStormedBeside (F.reads files.now) (F.writes files.now) (F.same files.now) (F.apart files.now)
+        storming.now result (W.contents out.old) (W.contents out.new) (E.contents err.old) (E.contents err.new) }
+{
+    if !is_any_standard(&[storming.file.as_deref()]) {
+        return storm_shown(alloc, storming, files, in_colour, out, err);
+    }
+    let mut messages = Vec::new(alloc);
+    let status = storm_shown(alloc, storming, files, in_colour, &mut *err, &mut messages);
+    if status == 0 {
+        return 0;
+    }
+    let _ = err.write_all(messages.as_slice());
+    status
+}
+
+/// Reads the files of a storm, the site first, lets it happen, and writes its script, if a file is named for it.
+fn storm_shown<F: Files, W: Write, E: Write>(
+    alloc: Global,
+    storming: &Storming,
+    files: &F,
+    in_colour: bool,
+    out: &mut W,
+    err: &mut E,
+) -> u8
+    ensures { spec.IsStormed (F.reads files.now) (F.writes files.now) (F.same files.now) (F.apart files.now)
+        storming.now result (W.contents out.old) (W.contents out.new) }
 {
     let Some(weather) = weather_of(storming) else {
-        let _ = writeln!(
-            err,
-            "bacsite: storm takes whole numbers, and percents of 0 to 100"
-        );
+        say_faulty_weather(storming, in_colour, err);
         return 2;
     };
-    match texts_of(alloc, &storming.site, &storming.script, files) {
-        Ok((site, script)) => storm_texts(
-            alloc,
-            site.as_slice(),
-            script.as_slice(),
-            weather,
-            storming,
-            files,
-            out,
-            err,
-        ),
-        Err(error) => say_unread(&error, err),
+    let outputs = [storming.file.as_deref()];
+    if !are_safe(
+        files,
+        &storming.site,
+        &storming.script,
+        &outputs,
+        in_colour,
+        err,
+    ) {
+        return 2;
+    }
+    match texts_of(
+        alloc,
+        &storming.site,
+        &storming.script,
+        files,
+        in_colour,
+        err,
+    ) {
+        Ok((site, script)) => {
+            let (site, script) = (site.as_slice(), script.as_slice());
+            storm_texts(
+                alloc, site, script, weather, storming, files, in_colour, out, err,
+            )
+        }
+        Err(status) => status,
+    }
+}
+
+/// Tells which words are no numbers, or no percentages.
+fn say_faulty_weather<E: Write>(storming: &Storming, in_colour: bool, err: &mut E) {
+    let _ = writeln!(
+        err,
+        "bacsite: storm takes whole numbers, and percents of 0 to 100"
+    );
+    let percents = &storming.percents;
+    say_if_faulty("--seed", Some(storming.seed.as_str()), in_colour, err);
+    say_if_faulty("--steps", Some(storming.steps.as_str()), in_colour, err);
+    say_if_no_percent("--issue", percents.issue.as_deref(), in_colour, err);
+    say_if_no_percent("--lose", percents.lose.as_deref(), in_colour, err);
+    say_if_no_percent("--repeat", percents.repeat.as_deref(), in_colour, err);
+    say_if_no_percent("--reorder", percents.reorder.as_deref(), in_colour, err);
+    say_if_no_percent("--damage", percents.damage.as_deref(), in_colour, err);
+    say_if_no_percent("--restart", percents.restart.as_deref(), in_colour, err);
+}
+
+/// Tells that a word is no percentage, if it is there and is none.
+fn say_if_no_percent<E: Write>(flag: &str, word: Option<&str>, in_colour: bool, err: &mut E) {
+    if percent_of(word, Percent::whole(0)).is_none() {
+        let taken = "a percentage, 0 to 100, with at most one digit behind the point";
+        say_faulty_word(flag, taken, word.unwrap_or(""), in_colour, err);
     }
 }
 
@@ -100,6 +182,7 @@ fn storm_texts<F: Files, W: Write, E: Write>(
     weather: Weather,
     storming: &Storming,
     files: &F,
+    in_colour: bool,
     out: &mut W,
     err: &mut E,
 ) -> u8
@@ -117,17 +200,23 @@ fn storm_texts<F: Files, W: Write, E: Write>(
         script,
         weather,
         storming.is_counted,
+        spelling_of(storming.is_named, false),
         &mut lines,
         out,
         err,
     );
     if status != 0 {
+        let texts = Texts {
+            site_name: storming.site.as_str(),
+            site,
+            script_name: storming.script.as_str(),
+            script,
+        };
+        say_text_faults(alloc, texts, in_colour, err);
         return status;
     }
-    match write_script(storming.file.as_deref(), lines.as_slice(), files) {
-        Ok(()) => 0,
-        Err(error) => say_unread(&error, err),
-    }
+    let name = storming.file.as_deref();
+    write_script(alloc, name, lines.as_slice(), files, in_colour, err)
 }
 
 /// Lets a storm happen at a site, prints it or its counts, and puts its lines behind others.
@@ -137,18 +226,21 @@ fn print_storm<W: Write, E: Write>(
     script: &[u8],
     weather: Weather,
     is_counted: bool,
+    spelling: Spelling,
     lines: &mut Vec<u8>,
     out: &mut W,
     err: &mut E,
 ) -> u8
     ensures status { result ≤ 1 }
-    ensures storms { result ≡ 0 → spec.PrintsOrCounts is_counted site.now script.now weather.steps
+    ensures storms { result ≡ 0 → spec.PrintsOrCounts is_counted spelling site.now script.now weather.steps
         (Some lines.old.items) (Some lines.new.items) (W.contents out.old) (W.contents out.new) }
 {
     if is_counted {
         storm_counted(alloc, alloc, site, script, weather, lines, out, err)
     } else {
-        storm(alloc, alloc, site, script, weather, lines, out, err)
+        storm(
+            alloc, alloc, site, script, weather, spelling, lines, out, err,
+        )
     }
 }
 
@@ -161,13 +253,24 @@ fn lines_of(alloc: Global, script: &[u8]) -> Result<Vec<u8>, AllocError>
     Ok(lines)
 }
 
-/// Writes the script of a storm, if a file is named for it.
-fn write_script<F: Files>(name: Option<&str>, lines: &[u8], files: &F) -> io::Result<()>
-    ensures { OnOk result (spec.IsWrittenIfNamed (F.writes files.now)
-        (option_map (λ n. n.now) name.entry) lines.now) }
+/// Writes the script of a storm, if a file is named for it, and answers the exit status.
+fn write_script<F: Files, E: Write>(
+    alloc: Global,
+    name: Option<&str>,
+    lines: &[u8],
+    files: &F,
+    in_colour: bool,
+    err: &mut E,
+) -> u8
+    ensures status { result ≤ 1 }
+    ensures written { result ≡ 0 → spec.IsWrittenIfNamed (F.writes files.now)
+        (option_map (λ n. n.now) name.entry) lines.now }
 {
-    match name {
-        Some(name) => files.write(name, lines),
-        None => Ok(()),
+    let Some(name) = name else {
+        return 0;
+    };
+    match put_in_place(alloc, name, lines, files) {
+        Ok(()) => 0,
+        Err(error) => say_file_fault(name, Use::Written, &error, in_colour, err),
     }
 }

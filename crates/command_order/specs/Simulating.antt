@@ -1,13 +1,14 @@
 -- The command line of a simulation, and what its words ask for.
 use Rattle.std.specs.Prelude.{◌≡◌, List, codes, option_map, string_bytes}
 use Rattle.clap.specs.Words.{App, Row, first_of, one_of, with_rule}
-use Rattle.command_order.specs.Words.{IsFlag, at_site, capture_rule, flag_rule, json_rule, option_rule, word_of}
+use Rattle.command_order.specs.Words.{IsFlag, at_site, capture_rule, flag_rule, json_rule, names_rule}
+use Rattle.command_order.specs.Words.{option_rule, word_of}
 use Rattle.command_order.specs.declared.simulating.Outputs.{Outputs}
 use Rattle.command_order.specs.declared.simulating.Simulation.{Simulation}
 
 -- the subcommand with how its lines are printed
 abbrev pub printed : App
-printed = with_rule (with_rule (at_site (codes "sim")) (flag_rule (codes "trace"))) json_rule
+printed = with_rule (with_rule (with_rule (at_site (codes "sim")) (flag_rule (codes "trace"))) json_rule) names_rule
 
 -- .. with the files that are written of the run
 abbrev pub with_files : App → App
@@ -15,8 +16,8 @@ with_files app =
     with_rule (with_rule (with_rule app capture_rule) (option_rule (codes "ladder")))
     (option_rule (codes "report"))
 
--- the subcommand that runs a script at a site: sim SITE SCRIPT, with a trace, as JSON, with files of a capture, a
--- ladder and a report, and the part of the run that the last two show
+-- the subcommand that runs a script at a site: sim SITE SCRIPT, with a trace, as JSON, by names, with files of a
+-- capture, a ladder and a report, and the part of the run that the last two show
 abbrev pub sim : App
 sim = with_rule (with_rule (with_files printed) (option_rule (codes "from"))) (option_rule (codes "to"))
 
@@ -28,11 +29,12 @@ pub record AreOutputsOf (rows : List Row) (o : Outputs) : Type 0 where
   pub from : option_map string_bytes o.from ≡ first_of (codes "from") rows
   pub to : option_map string_bytes o.to ≡ first_of (codes "to") rows
 
--- the simulation is of the files that are named, is traced and printed as JSON where that is asked for, and writes what
--- is named
+-- the simulation is of the files that are named, is traced, and printed as JSON and by names, where that is asked for,
+-- and writes what is named
 pub record IsSimulationOf (rows : List Row) (s : Simulation) : Type 0 where
   pub site : string_bytes s.site ≡ word_of (codes "site") rows
   pub script : string_bytes s.script ≡ word_of (codes "script") rows
   pub trace : IsFlag (one_of (codes "trace") rows) s.is_traced
   pub json : IsFlag (one_of (codes "json") rows) s.is_json
+  pub names : IsFlag (one_of (codes "names") rows) s.is_named
   pub outputs : AreOutputsOf rows s.outputs

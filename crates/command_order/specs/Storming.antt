@@ -2,7 +2,7 @@
 use Rattle.std.specs.Prelude.{◌≡◌, List, Some, codes, option_map, string_bytes}
 use Rattle.clap.specs.Words.{App, Rule, Row, first_of, new_rule, one_of, with_rule}
 use Rattle.clap.specs.declared.builder.ArgAction.TheVariants.{Set}
-use Rattle.command_order.specs.Words.{IsFlag, at_site, flag_rule, option_rule, required_rule, word_of}
+use Rattle.command_order.specs.Words.{IsFlag, at_site, flag_rule, names_rule, option_rule, required_rule, word_of}
 use Rattle.command_order.specs.declared.storming.Percents.{Percents}
 use Rattle.command_order.specs.declared.storming.Storming.{Storming}
 
@@ -29,9 +29,10 @@ with_chances app =
     (option_rule (codes "damage"))) (option_rule (codes "restart"))
 
 -- the subcommand that goes on at random behind a script: storm SITE SCRIPT --seed N --steps N, with chances of its own,
--- a file for its script, and counts in place of entries
+-- a file for its script, counts in place of entries, and names in place of numbers
 abbrev pub storm : App
-storm = with_rule (with_rule (with_chances named) script_file_rule) (flag_rule (codes "count"))
+storm =
+    with_rule (with_rule (with_rule (with_chances named) script_file_rule) (flag_rule (codes "count"))) names_rule
 
 -- the chances are those that are given
 pub record ArePercentsOf (rows : List Row) (p : Percents) : Type 0 where
@@ -42,8 +43,8 @@ pub record ArePercentsOf (rows : List Row) (p : Percents) : Type 0 where
   pub damage : option_map string_bytes p.damage ≡ first_of (codes "damage") rows
   pub restart : option_map string_bytes p.restart ≡ first_of (codes "restart") rows
 
--- the storm is of the files and numbers that are given, writes its script where a file is named, and is counted where
--- that is asked for
+-- the storm is of the files and numbers that are given, writes its script where a file is named, and is counted, and
+-- printed by names, where that is asked for
 pub record IsStormingOf (rows : List Row) (s : Storming) : Type 0 where
   pub site : string_bytes s.site ≡ word_of (codes "site") rows
   pub script : string_bytes s.script ≡ word_of (codes "script") rows
@@ -52,3 +53,4 @@ pub record IsStormingOf (rows : List Row) (s : Storming) : Type 0 where
   pub percents : ArePercentsOf rows s.percents
   pub file : option_map string_bytes s.file ≡ first_of (codes "file") rows
   pub count : IsFlag (one_of (codes "count") rows) s.is_counted
+  pub names : IsFlag (one_of (codes "names") rows) s.is_named

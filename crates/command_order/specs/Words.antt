@@ -31,6 +31,10 @@ site_rule = file_rule (codes "site")
 abbrev pub json_rule : Rule
 json_rule = flag_rule (codes "json")
 
+-- the standard's names are printed in place of numbers, or numbers are
+abbrev pub names_rule : Rule
+names_rule = flag_rule (codes "names")
+
 -- a file of a capture is named or not
 abbrev pub capture_rule : Rule
 capture_rule = option_rule (codes "pcap")

@@ -1,11 +1,11 @@
-//! What the command of the conformance statement asks for.
+//! What the commands ask for that describe the program: its conformance statement, its completions, its man page.
 
-ghost use Rattle.std.specs.Prelude.{◌≡◌, IfOk};
-ghost use Rattle.clap.specs.Words.{app_of, found_of, rows_of};
+ghost use Rattle.std.specs.Prelude.{◌≡◌, false, IfOk};
+ghost use Rattle.clap.specs.Words.{app_of, found_of, rows_of, rule_of};
 ghost use Rattle.command_order.specs.Describing as spec;
 
 use crate::words::{flag, is_given};
-use clap::{ArgMatches, Command};
+use clap::{Arg, ArgAction, ArgMatches, Command};
 use std::alloc::{AllocError, Global};
 
 /// How the conformance statement is printed.
@@ -31,4 +31,32 @@ pub(crate) fn pics<'a>(alloc: Global) -> Result<Command<'a>, AllocError>
     Command::new(alloc, "pics")
         .about("Prints the protocol implementation conformance statement")
         .arg(flag(alloc, "markdown", "Prints it as Markdown"))
+}
+
+/// The command that prints completions.
+pub(crate) fn completions<'a>(alloc: Global) -> Result<Command<'a>, AllocError>
+    ensures { IfOk result (λ c. app_of c ≡ spec.completions) }
+{
+    Command::new(alloc, "completions")
+        .about("Prints completions of commands, flags and files for a shell")
+        .arg(shell(alloc))
+}
+
+/// The name of a shell.
+fn shell<'a>(alloc: Global) -> Arg<'a>
+    ensures rule { rule_of result ≡ spec.shell_rule }
+    ensures own { result.global ≡ false }
+{
+    Arg::new(alloc, "shell")
+        .value_name("SHELL")
+        .required(true)
+        .action(ArgAction::Set)
+        .help("The shell: bash, zsh or fish")
+}
+
+/// The command that prints the man page.
+pub(crate) fn man<'a>(alloc: Global) -> Command<'a>
+    ensures { app_of result ≡ spec.man }
+{
+    Command::new(alloc, "man").about("Prints the man page")
 }

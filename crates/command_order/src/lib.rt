@@ -4,22 +4,28 @@
 //! To the layer above it promises exactly that order, as the definitions of the command line's words have it.
 //!
 //! - `order`: what the command line asks for.
-//! - `describing`: what the command of the conformance statement asks for.
+//! - `describing`: what the commands ask for that describe the program.
+//! - `examples`: the examples of each command.
 //! - `searching`: what the command of a search asks for.
 //! - `simulating`: what the command of a simulation asks for.
+//! - `starting`: what the command of a first site asks for.
 //! - `storming`: what the command of a storm asks for.
 //! - `words`: words that several commands have.
 #![tactic(auto)]
 
 mod describing;
+mod examples;
 mod order;
 mod searching;
 mod simulating;
+mod starting;
 mod storming;
 mod words;
 
 pub use describing::Stating;
-pub use order::{Checking, Explaining, LiveRun, Order, order_of};
+pub use examples::EXAMPLES;
+pub use order::{Checking, Explaining, LiveRun, Order, command, order_of};
 pub use searching::Searching;
 pub use simulating::{Outputs, Simulation};
+pub use starting::Starting;
 pub use storming::{Percents, Storming};

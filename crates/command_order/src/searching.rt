@@ -4,21 +4,23 @@ ghost use Rattle.std.specs.Prelude.{◌≡◌, IfOk};
 ghost use Rattle.clap.specs.Words.{app_of, found_of, rows_of};
 ghost use Rattle.command_order.specs.Searching as spec;
 
-use crate::words::{at_site, option, optional_word, required, word};
+use crate::words::{at_site, is_given, names, option, optional_word, required, word};
 use clap::{ArgMatches, Command};
 use std::alloc::{AllocError, Global};
 
-/// What is sought behind which script at which site.
+/// What is searched for after which script on which site.
 #[derive(Drop)]
 pub struct Searching {
     /// The name of the site's file.
     pub site: String,
     /// The name of the script's file.
     pub script: String,
-    /// The words of the entry that is sought.
+    /// The words of the entry that is searched for.
     pub until: String,
-    /// How many events there may be behind the script, if that is told.
+    /// How many events there may be after the script, if that is given.
     pub depth: Option<String>,
+    /// Whether the standard's names are printed in place of numbers.
+    pub is_named: bool,
 }
 
 /// The search that is asked for.
@@ -30,6 +32,7 @@ pub(crate) fn searching_in(alloc: Global, matches: &ArgMatches<'_>) -> Result<Se
         script: word(alloc, matches, "script")?,
         until: word(alloc, matches, "until")?,
         depth: optional_word(alloc, matches, "depth")?,
+        is_named: is_given(matches, "names"),
     })
 }
 
@@ -40,18 +43,19 @@ pub(crate) fn search<'a>(alloc: Global) -> Result<Command<'a>, AllocError>
     at_site(
         alloc,
         "search",
-        "Seeks the fewest events behind a script after which the history has an entry of these words",
+        "Finds the shortest sequence of events after a script that leads to a given result",
     )?
     .arg(required(
         alloc,
         "until",
         "WORDS",
-        "How the entry begins that is sought, behind its moment, as `ended 0 timedout`",
+        "The result to find: the beginning of a line, without its time, such as `ended 0 timedout`",
     ))?
     .arg(option(
         alloc,
         "depth",
         "N",
-        "How many events there may be behind the script [default: 8]",
-    ))
+        "The greatest number of events after the script [default: 8]",
+    ))?
+    .arg(names(alloc))
 }

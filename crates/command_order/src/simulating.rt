@@ -4,36 +4,40 @@ ghost use Rattle.std.specs.Prelude.{◌≡◌, IfOk};
 ghost use Rattle.clap.specs.Words.{app_of, found_of, rows_of};
 ghost use Rattle.command_order.specs.Simulating as spec;
 
-use crate::words::{at_site, flag, is_given, json, option, optional_word, word, written_capture};
+use crate::words::{
+    at_site, flag, is_given, json, names, option, optional_word, word, written_capture,
+};
 use clap::{ArgMatches, Command};
 use std::alloc::{AllocError, Global};
 
-/// Which script is run at which site, and what is printed and written of it.
+/// Which script is run on which site, and what is printed and written of it.
 #[derive(Drop)]
 pub struct Simulation {
     /// The name of the site's file.
     pub site: String,
     /// The name of the script's file.
     pub script: String,
-    /// Whether each datagram is printed that is put out.
+    /// Whether each datagram is printed that is sent.
     pub is_traced: bool,
     /// Whether each line is printed as JSON.
     pub is_json: bool,
+    /// Whether the standard's names are printed in place of numbers.
+    pub is_named: bool,
     pub outputs: Outputs,
 }
 
 /// The files that are written of a run, where they are named, and which part of it they show.
 #[derive(Drop)]
 pub struct Outputs {
-    /// The name of a file for a capture of what is put out.
+    /// The name of a file for a capture of what is sent.
     pub capture: Option<String>,
     /// The name of a file for the picture of the run.
     pub ladder: Option<String>,
     /// The name of a file for a page of the run.
     pub report: Option<String>,
-    /// The first moment that picture and page show, in milliseconds.
+    /// The time at which picture and page begin, in milliseconds.
     pub from: Option<String>,
-    /// The last moment that they show, in milliseconds.
+    /// The time at which they end, in milliseconds.
     pub to: Option<String>,
 }
 
@@ -49,6 +53,7 @@ pub(crate) fn simulation_in(
         script: word(alloc, matches, "script")?,
         is_traced: is_given(matches, "trace"),
         is_json: is_given(matches, "json"),
+        is_named: is_given(matches, "names"),
         outputs: outputs_in(alloc, matches)?,
     })
 }
@@ -66,7 +71,7 @@ fn outputs_in(alloc: Global, matches: &ArgMatches<'_>) -> Result<Outputs, AllocE
     })
 }
 
-/// The command that runs a script at a site.
+/// The command that runs a script on a site.
 pub(crate) fn sim<'a>(alloc: Global) -> Result<Command<'a>, AllocError>
     ensures { IfOk result (λ c. app_of c ≡ spec.sim) }
 {
@@ -75,13 +80,13 @@ pub(crate) fn sim<'a>(alloc: Global) -> Result<Command<'a>, AllocError>
             alloc,
             "from",
             "MS",
-            "The first moment that ladder and report show [default: 0]",
+            "The time at which the ladder and the report begin [default: 0]",
         ))?
         .arg(option(
             alloc,
             "to",
             "MS",
-            "The last moment that ladder and report show [default: the end]",
+            "The time at which the ladder and the report end [default: the end of the run]",
         ))
 }
 
@@ -92,14 +97,15 @@ fn printed<'a>(alloc: Global) -> Result<Command<'a>, AllocError>
     at_site(
         alloc,
         "sim",
-        "Runs a script at a site, and prints what comes of it",
+        "Runs a script on a site, in simulated time, and prints what happens",
     )?
     .arg(flag(
         alloc,
         "trace",
-        "Prints each datagram that is put out, with the number by which `deliver` names it, and each frame",
+        "Prints each datagram that is sent, with the number that `deliver` takes, and each frame",
     ))?
-    .arg(json(alloc))
+    .arg(json(alloc))?
+    .arg(names(alloc))
 }
 
 /// A command with the files that are written of a run.
@@ -112,12 +118,12 @@ fn with_files<'a>(alloc: Global, command: Command<'a>) -> Result<Command<'a>, Al
             alloc,
             "ladder",
             "FILE",
-            "Draws the run to a file of SVG: a lane for each station, an arrow for each message",
+            "Draws the run as SVG: a lane for each station, an arrow for each message",
         ))?
         .arg(option(
             alloc,
             "report",
             "FILE",
-            "Writes a page of HTML: the ladder, the history, and each datagram and frame taken apart",
+            "Writes an HTML page: the ladder, the history, and each datagram and frame decoded",
         ))
 }

@@ -4,11 +4,11 @@ ghost use Rattle.std.specs.Prelude.{◌≡◌, false, IfOk};
 ghost use Rattle.clap.specs.Words.{app_of, found_of, rows_of, rule_of};
 ghost use Rattle.command_order.specs.Storming as spec;
 
-use crate::words::{at_site, flag, is_given, option, optional_word, required, word};
+use crate::words::{at_site, flag, is_given, names, option, optional_word, required, word};
 use clap::{Arg, ArgAction, ArgMatches, Command};
 use std::alloc::{AllocError, Global};
 
-/// Which storm goes on behind which script at which site, and what is printed of it.
+/// Which storm follows which script on which site, and what is printed of it.
 #[derive(Drop)]
 pub struct Storming {
     /// The name of the site's file.
@@ -24,6 +24,8 @@ pub struct Storming {
     pub file: Option<String>,
     /// Whether one line of counts is printed in place of the entries.
     pub is_counted: bool,
+    /// Whether the standard's names are printed in place of numbers.
+    pub is_named: bool,
 }
 
 /// How often what happens, in percent, where that is told.
@@ -49,6 +51,7 @@ pub(crate) fn storming_in(alloc: Global, matches: &ArgMatches<'_>) -> Result<Sto
         percents: percents_in(alloc, matches)?,
         file: optional_word(alloc, matches, "file")?,
         is_counted: is_given(matches, "count"),
+        is_named: is_given(matches, "names"),
     })
 }
 
@@ -71,11 +74,14 @@ pub(crate) fn storm<'a>(alloc: Global) -> Result<Command<'a>, AllocError>
     ensures { IfOk result (λ c. app_of c ≡ spec.storm) }
 {
     let command = chances(alloc, named(alloc)?)?;
-    command.arg(script_file(alloc))?.arg(flag(
-        alloc,
-        "count",
-        "Prints one line of counts in place of what comes of it",
-    ))
+    command
+        .arg(script_file(alloc))?
+        .arg(flag(
+            alloc,
+            "count",
+            "Prints one line of counts instead of the events",
+        ))?
+        .arg(names(alloc))
 }
 
 /// The command with the words that have to be there.
@@ -85,19 +91,19 @@ fn named<'a>(alloc: Global) -> Result<Command<'a>, AllocError>
     at_site(
         alloc,
         "storm",
-        "Runs a script at a site, goes on at random, and prints what comes of it",
+        "Runs a script on a site, continues with random events, and prints what happens",
     )?
     .arg(required(
         alloc,
         "seed",
         "N",
-        "The number that seeds it: the same one gives the same storm",
+        "The seed: the same seed gives the same storm",
     ))?
     .arg(required(
         alloc,
         "steps",
         "N",
-        "How many events there are behind the script",
+        "The number of random events after the script",
     ))
 }
 
@@ -160,5 +166,5 @@ fn script_file<'a>(alloc: Global) -> Arg<'a>
         .long("script")
         .value_name("FILE")
         .action(ArgAction::Set)
-        .help("Writes the script, and the events behind it as its lines, to a file that `sim` runs")
+        .help("Writes the script and the random events after it to a file that `sim` runs")
 }

@@ -7,7 +7,10 @@ ghost use Rattle.command_order.specs.Words as spec;
 use clap::{Arg, ArgAction, ArgMatches, Command};
 use std::alloc::{AllocError, Global};
 
-/// The command of this name, behind which a site file and a script are named.
+/// What a script is, for the help.
+pub(crate) const SCRIPT_HELP: &str = "A script: one step per line (docs/script.md)";
+
+/// The command of this name, after which a site file and a script are named.
 pub(crate) fn at_site<'a>(
     alloc: Global,
     name: &'a str,
@@ -18,12 +21,7 @@ pub(crate) fn at_site<'a>(
     Command::new(alloc, name)
         .about(about)
         .arg(site_file(alloc))?
-        .arg(file(
-            alloc,
-            "script",
-            "SCRIPT",
-            "A text with a step on each line, as docs/script.md says",
-        ))
+        .arg(file(alloc, "script", "SCRIPT", SCRIPT_HELP))
 }
 
 /// The name of a site file.
@@ -35,12 +33,12 @@ pub(crate) fn site_file<'a>(alloc: Global) -> Arg<'a>
         alloc,
         "site",
         "SITE",
-        "A TOML file of networks and stations, as docs/site-file.md says",
+        "A site file: networks and stations in TOML (docs/site-file.md)",
     )
 }
 
 /// The name of a file.
-fn file<'a>(alloc: Global, id: &'a str, name: &'a str, help: &'a str) -> Arg<'a>
+pub(crate) fn file<'a>(alloc: Global, id: &'a str, name: &'a str, help: &'a str) -> Arg<'a>
     ensures rule { rule_of result ≡ spec.file_rule id.entry.now }
     ensures own { result.global ≡ false }
 {
@@ -74,7 +72,19 @@ pub(crate) fn json<'a>(alloc: Global) -> Arg<'a>
     ensures rule { rule_of result ≡ spec.json_rule }
     ensures own { result.global ≡ false }
 {
-    flag(alloc, "json", "Prints each line as an object of JSON")
+    flag(alloc, "json", "Prints each line as a JSON object")
+}
+
+/// Whether names are printed.
+pub(crate) fn names<'a>(alloc: Global) -> Arg<'a>
+    ensures rule { rule_of result ≡ spec.names_rule }
+    ensures own { result.global ≡ false }
+{
+    flag(
+        alloc,
+        "names",
+        "Prints the standard's names in place of numbers",
+    )
 }
 
 /// A word behind a flag of its name, which may be left out.
@@ -98,7 +108,7 @@ pub(crate) fn written_capture<'a>(alloc: Global) -> Arg<'a>
         alloc,
         "pcap",
         "FILE",
-        "Writes each datagram and each frame that is put out to a file of pcapng",
+        "Writes each datagram and each frame that is sent to a pcapng file",
     )
 }
 

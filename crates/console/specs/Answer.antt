@@ -5,7 +5,7 @@ use Rattle.std.specs.Io.KnownBytes.{Appends}
 use Rattle.npdu.specs.declared.mac.Mac.{Mac}
 use Rattle.npdu.specs.declared.mac.Mac.TheVariants.{Six}
 use Rattle.device.specs.Device.{DeviceState}
-use Rattle.console.specs.HexText.{pairs_of}
+use Rattle.octet_texts.specs.Pairs.{pairs_of}
 use Rattle.words.specs.HexText.{SpellsHex, OnlyHex}
 use Rattle.console.specs.Respond.{Said, Responds}
 

@@ -1,8 +1,8 @@
 pub mod Builtin
 pub mod Hearing
-pub mod Heard
 pub mod Respond
-pub mod HexText
 pub mod Answer
-pub mod Text
+pub mod Summary
 pub mod Explain
+-- What the layers above cite of the crates below.
+pub use Rattle.printing.specs as printing

@@ -6,9 +6,9 @@ ghost use Rattle.std.specs.Io.KnownBytes.{Appends};
 ghost use Rattle.console.specs.Builtin.{builtin_device};
 
 use crate::builtin::{Builtin, respond};
-use crate::hex_text::{push_pairs, read_hex};
 use crate::refusal::say_failed;
 use npdu::Mac;
+use octet_texts::{push_pairs, read_hex};
 use std::alloc::{AllocError, Allocator};
 use std::io;
 use std::io::Write;

@@ -107,8 +107,8 @@ pub fn holds_wherever_reached<A: Allocator>()
     ensures tables { Wherever A (λ own s w. TablesAreLeft s w) }
 {}
 
-/// So is what a device executes and a client tells on an NPDU by its contract of an issue, and what a client tells where
-/// it wakes; and what they gather is the whole body of one.
+/// So is what a device executes and a client tells on an NPDU by its contract of an issue, and what a client tells
+/// where it wakes; and what they gather is the whole body of one.
 pub fn hearings_are_of_issues<A: Allocator>()
     ensures executed { Wherever A (λ own s w. HearingExecutesIssued s w) }
     ensures told { Wherever A (λ own s w. HearingTellsOfIssues own s w) }

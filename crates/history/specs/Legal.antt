@@ -7,8 +7,8 @@ use Rattle.history.specs.Lists.{Has, count, first_of}
 
 -- what is made of an entry by its kind: of an issue by its number, the instance and the request that it names, of what
 -- is told of an issue by the number of that, and of a restart
-abbrev pub by_kind : {S Q R X : Type 0} → (issue : ℕ → ℕ → Q → X) → (executed answered ended : ℕ → X) → (restarted : X) →
-    Entry S Q R → X
+abbrev pub by_kind : {S Q R X : Type 0} → (issue : ℕ → ℕ → Q → X) → (executed answered ended : ℕ → X) →
+    (restarted : X) → Entry S Q R → X
 by_kind issue executed answered ended restarted (Issue i client instance request moment) = issue i instance request
 by_kind issue executed answered ended restarted (Executed i reply moment) = executed i
 by_kind issue executed answered ended restarted (Answered i reply moment) = answered i

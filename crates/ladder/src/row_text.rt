@@ -6,7 +6,7 @@ use std::alloc::Allocator;
 use std::fmt;
 
 /// A row in words, escaped: `20 ms, panel to ahu: ReadProperty, invoke 1`,
-/// `20 ms, ahu to panel, never heard: SimpleACK WriteProperty, invoke 2`, `20 ms, ahu: executed 1 done`.
+/// `20 ms, ahu to panel, never received: SimpleACK WriteProperty, invoke 2`, `20 ms, ahu: executed 1 done`.
 #[derive(Clone, Copy)]
 pub struct RowText<'a, A: Allocator> {
     pub row: &'a Row<A>,
@@ -34,7 +34,7 @@ fn fmt_arrow<A: Allocator, W: fmt::Write>(
     let to = name_of(arrow.to, lanes);
     write!(f, ", {} to {}", Escaped::whole(from), Escaped::whole(to))?;
     if !arrow.is_heard {
-        f.write_str(", never heard")?;
+        f.write_str(", never received")?;
     }
     write!(f, ": {}", Escaped::whole(arrow.label.as_str()))
 }

@@ -122,8 +122,8 @@ fn write_lane<W: Write>(layout: Layout, place: usize, name: &str, out: &mut W) -
 
 /// What the picture says of its marks.
 const LEGEND: &str = "\
-An arrow is a message at the moment at which it is heard. One with a cross is put out at its moment, and never heard. \
-A dot is an entry of the history.";
+An arrow is a message at the time it is received; one with a cross was sent then, and is never received. \
+A dot is an event of the history.";
 
 /// Which colour is what.
 const COLOURS: &str = "\

@@ -14,11 +14,13 @@ fn main(rt: HostRuntime) -> io::Result<()> {
     run_folder::<rows_site::Sites>(&rt, "site")?;
     run_folder::<rows_site_text::Texts>(&rt, "site_text")?;
     run_folder::<rows_check::Checks>(&rt, "check")?;
+    run_folder::<rows_faults::Faults>(&rt, "faults")?;
     run_folder::<rows_captures::CaptureRows>(&rt, "captures")?;
     run_folder::<rows_judge::Judged>(&rt, "judge")?;
     run_folder::<rows_transactions::Transactions>(&rt, "transactions")?;
     run_folder::<rows_state_machines::Machines>(&rt, "state_machines")?;
     run_folder::<rows_endpoint::EndpointRows>(&rt, "endpoint")?;
     run_folder::<rows_network::NetworkRows>(&rt, "network")?;
-    run_folder::<rows_json::JsonRows>(&rt, "json")
+    run_folder::<rows_json::JsonRows>(&rt, "json")?;
+    run_folder::<rows_commands::Commands>(&rt, "commands")
 }

@@ -1,4 +1,5 @@
-//! What is printed of a capture: `explain FILE -> STATUS: LINES ! LINES`, as rows of the program's tools have it.
+//! What is printed of a capture: `explain FILE -> STATUS: LINES ! LINES`, as rows of the program's tools have it, and
+//! with names `named FILE -> ..`.
 //!
 //! Each row runs again with each allocation refused in turn, where what was printed before is the beginning of what is
 //! wanted, and with each prefix of the file and each of its octets changed, where the status is 0, or 1 for what is no
@@ -8,6 +9,7 @@ use crate::pieces::octets_of;
 use capture_lines::explain_capture;
 use sheets::{Counts, Given, Row, Said, Stop, Trial, change_octets, differs, try_row};
 use std::alloc::Global;
+use words::Spelling;
 
 /// What is printed on standard error where memory is refused.
 const REFUSED: &[u8] = b"bacsite: refused 1 Memory\n";
@@ -18,33 +20,40 @@ const NO_CAPTURE: &[u8] = b"bacsite: capture\n";
 /// Runs a row.
 pub(crate) fn run(
     given: Given<'_>,
+    spelling: Spelling,
     rows: &[Row<'_>],
     words: &str,
     wanted: &str,
 ) -> Result<Counts, Stop> {
     let file = octets_of(given.alloc, rows, words)?;
-    let counts = try_row(given, &Explaining { wanted }, file.as_slice(), wanted)?;
-    let changed = change_octets(given, &Changed, file.as_slice())?;
+    let counts = try_row(
+        given,
+        &Explaining { spelling, wanted },
+        file.as_slice(),
+        wanted,
+    )?;
+    let changed = change_octets(given, &Changed { spelling }, file.as_slice())?;
     Ok(Counts { changed, ..counts })
 }
 
 /// What is printed of a file in memory that may be refused.
-fn said(given: Given<'_>, file: &[u8]) -> Said {
+fn said(given: Given<'_>, spelling: Spelling, file: &[u8]) -> Said {
     let mut out = Vec::new(given.alloc);
     let mut err = Vec::new(given.alloc);
-    let status = explain_capture(given.memory, file, &mut out, &mut err);
+    let status = explain_capture(given.memory, spelling, file, &mut out, &mut err);
     Said { status, out, err }
 }
 
 /// A file as it stands, and what is wanted of it.
 #[derive(Clone, Copy)]
 struct Explaining<'t> {
+    spelling: Spelling,
     wanted: &'t str,
 }
 
 impl<'a> Trial<'a> for Explaining<'_> {
     fn answer(&self, given: Given<'a>, octets: &[u8]) -> Result<String, Stop> {
-        let said = said(given, octets);
+        let said = said(given, self.spelling, octets);
         if said.err.as_slice() == REFUSED {
             return Err(self.refused(given.alloc, said)?);
         }
@@ -72,11 +81,13 @@ impl Explaining<'_> {
 
 /// A file that is cut or changed.
 #[derive(Clone, Copy)]
-struct Changed;
+struct Changed {
+    spelling: Spelling,
+}
 
 impl<'a> Trial<'a> for Changed {
     fn answer(&self, given: Given<'a>, octets: &[u8]) -> Result<String, Stop> {
-        let said = said(given, octets);
+        let said = said(given, self.spelling, octets);
         let is_capture = said.status == 0 && said.err.is_empty();
         let is_none = said.status == 1 && said.out.is_empty() && said.err.as_slice() == NO_CAPTURE;
         if !is_capture && !is_none {

@@ -14,6 +14,7 @@ mod writing;
 
 use sheets::{Bench, Counts, Given, Part, Report, Row, Stop, two_words};
 use std::alloc::AllocError;
+use words::Spelling;
 
 /// What these rows run on.
 pub struct CaptureRows;
@@ -42,7 +43,8 @@ fn run_row(given: Given<'_>, rows: &[Row<'_>], row: &Row<'_>) -> Result<Counts, 
         "read" => reading::run(given, rows, words, wanted),
         "write" => writing::run(given, rows, words, wanted),
         "back" => writing::run_back(given, rows, words, wanted),
-        "explain" => explaining::run(given, rows, words, wanted),
+        "explain" => explaining::run(given, Spelling::Numbers, rows, words, wanted),
+        "named" => explaining::run(given, Spelling::Names, rows, words, wanted),
         "text" => stating::run(given, pics::Form::Text, words, wanted),
         "markdown" => stating::run(given, pics::Form::Markdown, words, wanted),
         _ => Err(Stop::Unread(Part::Asked)),

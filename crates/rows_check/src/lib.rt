@@ -11,6 +11,7 @@ mod texts;
 
 use sheets::{Bench, Counts, Given, Part, Report, Row, Stop, two_words};
 use std::alloc::AllocError;
+pub use texts::{text_of, unescaped};
 
 /// What these rows run on.
 pub struct Checks;

@@ -1,7 +1,7 @@
 //! Site files and scripts that rows describe: `file NAME` and behind it its lines, up to the next such line or the next
 //! row that wants something; `each 1..9 {number = {}},` stands for nine lines. `NAME, OLD ==> NEW && OLD ==> NEW` is a
-//! file with other words in place of some. In changes and scripts `\n` is a line feed, `\r` a carriage return, and `\!`
-//! an octet that no UTF-8 has.
+//! file with other words in place of some. In changes and scripts `\n` is a line feed, `\r` a carriage return, `\t` a
+//! tab, `\\` a backslash, and `\!` an octet that no UTF-8 has.
 
 use sheets::{Part, Row, Stop, first_and_last};
 use std::alloc::Global;
@@ -10,7 +10,7 @@ use std::alloc::Global;
 ///
 /// # Errors
 /// `Unread` where there is no such file, or one of the words isn't there; `Memory`.
-pub(crate) fn text_of(alloc: Global, rows: &[Row<'_>], words: &str) -> Result<Vec<u8>, Stop> {
+pub fn text_of(alloc: Global, rows: &[Row<'_>], words: &str) -> Result<Vec<u8>, Stop> {
     let (name, changes) = match words.split_once(", ") {
         Some((name, changes)) => (name, Some(changes)),
         None => (words, None),
@@ -90,7 +90,7 @@ fn changed(alloc: Global, text: &str, change: &str) -> Result<String, Stop> {
 ///
 /// # Errors
 /// `Unread` for an escape that there is not; `Memory`.
-pub(crate) fn unescaped(alloc: Global, words: &str) -> Result<Vec<u8>, Stop> {
+pub fn unescaped(alloc: Global, words: &str) -> Result<Vec<u8>, Stop> {
     let mut octets = Vec::new(alloc);
     let mut is_escape = false;
     for octet in words.as_bytes() {
@@ -114,6 +114,8 @@ fn octet_of(letter: u8) -> Result<u8, Stop> {
     match letter {
         b'n' => Ok(b'\n'),
         b'r' => Ok(b'\r'),
+        b't' => Ok(b'\t'),
+        b'\\' => Ok(b'\\'),
         b'!' => Ok(0xFF),
         _ => Err(Stop::Unread(Part::Asked)),
     }

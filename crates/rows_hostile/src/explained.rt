@@ -1,7 +1,7 @@
 //! A datagram taken apart: what is printed ends with a refusal where the status is 1, and has none where it is 0.
 
 use crate::watched::Hearer;
-use console::explain_line;
+use console::{Spelling, explain_line};
 use sheets::{Stop, differs};
 use std::alloc::{AllocError, Global};
 
@@ -31,9 +31,19 @@ fn explain(alloc: Global, octets: &[u8]) -> Result<(), Stop> {
     words.push(digits(alloc, octets)?)?;
     let mut out = Vec::new(alloc);
     let mut err = Vec::new(alloc);
-    let status = explain_line(alloc, words.as_slice(), &mut out, &mut err);
+    let status = explain_line(
+        alloc,
+        Spelling::Numbers,
+        words.as_slice(),
+        &mut out,
+        &mut err,
+    );
     let fits = if octets.is_empty() {
-        status == 1 && out.is_empty() && err.as_slice() == b"bacsite: hex\n".as_slice()
+        status == 1
+            && out.is_empty()
+            && err
+                .as_slice()
+                .starts_with(b"bacsite: hex\nexpected octets ")
     } else {
         err.is_empty() && status == u8::from(is_refused(out.as_slice()))
     };

@@ -65,7 +65,7 @@ fn placed(alloc: Global, line: &str) -> Result<String, Stop> {
     Ok(format!(in alloc; "{shown} {x} {y}")?)
 }
 
-/// What a page says of each message, with the name of its place: `d0 Datagram 0, put out at 0 ms, c to d: Who-Is`.
+/// What a page says of each message, with the name of its place: `d0 Datagram 0, sent at 0 ms, c to d: Who-Is`.
 pub(crate) fn summaries(alloc: Global, text: &str) -> Result<String, Stop> {
     let mut out = String::new(alloc);
     let mut said = "";

@@ -10,6 +10,7 @@ use sheets::names;
 use site_capture::LiveCapture;
 use std::alloc::{Allocator, Global};
 use std::io;
+use words::Spelling;
 
 /// How the name of a live run over memory ends of which there is a capture.
 const CAPTURE: &str = ".capture";
@@ -71,7 +72,7 @@ fn captured<A: Allocator + Copy>(alloc: Global, memory: A, row: &Row) -> io::Res
 fn explained(alloc: Global, file: &[u8]) -> io::Result<String> {
     let mut out = Vec::new(alloc);
     let mut err = Vec::new(alloc);
-    explain_capture(alloc, file, &mut out, &mut err);
+    explain_capture(alloc, Spelling::Numbers, file, &mut out, &mut err);
     out.extend_from_slice(err.as_slice())?;
     Ok(text_of(alloc, out.as_slice())?)
 }

@@ -11,6 +11,7 @@ use site_text::site_of;
 use std::alloc::{Allocator, Global};
 use std::io;
 use tags::Fault;
+use words::Spelling;
 
 /// How the name of a script ends whose calls fail.
 const FAILING: &str = ".failing";
@@ -116,6 +117,7 @@ fn run_of<A: Allocator + Copy>(
         wire,
         step: STEP_MS,
         is_open: false,
+        spelling: Spelling::Numbers,
     };
     printed_of(
         alloc,

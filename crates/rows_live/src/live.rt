@@ -1,5 +1,6 @@
 //! Rows of live runs over memory: `SITE-NAME.live` is a script, before whose lines may stand those that tell of the
-//! wire in rows of turns. A millisecond passes in each round. What is wanted is what is printed.
+//! wire in rows of turns, and `names` where the standard's names are printed. A millisecond passes in each round. What
+//! is wanted is what is printed.
 
 use crate::timer::SteppingTimer;
 use rows_wire::{Course, Row, WireInMemory, row_of, said, take_word, text_of, wanted_of};
@@ -9,6 +10,7 @@ use site_live::{Ending, Nobody, Observer, Settings, open, run};
 use std::alloc::{Allocator, Global};
 use std::io;
 use std::io::Write;
+use words::Spelling;
 
 /// How the name of a live run over memory ends.
 const LIVE: &str = ".live";
@@ -47,8 +49,11 @@ fn found_of(alloc: Global, row: &Row) -> io::Result<String> {
 pub(crate) fn over_memory(alloc: Global, row: &Row) -> io::Result<(String, OverMemory)> {
     let mut wire = WireInMemory::new(alloc, Course::InOrder);
     let mut script = String::new(alloc);
+    let mut spelling = Spelling::Numbers;
     for line in row.happens.lines() {
-        if !take_word(alloc, &mut wire, line)? {
+        if line == "names" {
+            spelling = Spelling::Names;
+        } else if !take_word(alloc, &mut wire, line)? {
             writeln!(script, "{line}")?;
         }
     }
@@ -56,6 +61,7 @@ pub(crate) fn over_memory(alloc: Global, row: &Row) -> io::Result<(String, OverM
         wire,
         step: 1,
         is_open: row.happens.starts_with("open\n"),
+        spelling,
     };
     Ok((script, over))
 }
@@ -67,6 +73,7 @@ pub(crate) struct OverMemory {
     /// The milliseconds that pass in each round.
     pub(crate) step: u64,
     pub(crate) is_open: bool,
+    pub(crate) spelling: Spelling,
 }
 
 /// What is printed of a live run over memory, in memory of `memory`.
@@ -100,10 +107,12 @@ pub(crate) fn observed_of<A: Allocator + Copy, S: Observer<A> + Drop>(
         wire,
         step,
         is_open,
+        spelling,
     } = over;
     let settings = Settings {
         is_open,
         ending: Ending::WithScript,
+        spelling,
     };
     let timer = SteppingTimer { elapsed: 0, step };
     match open(alloc, memory, site, script.as_bytes()) {

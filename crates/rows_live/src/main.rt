@@ -9,12 +9,20 @@
 //! - `failing`: live runs in which calls fail, datagrams are lost, and allocations are refused.
 //! - `timer`: a clock that goes by its own steps.
 //! - `lines`: command lines, what they print, and their exit status, also where a writer fails.
+//! - `files`: command lines, and what they do to files, also where a call fails.
+//! - `disk`: files in memory, of which a call may fail.
+//! - `hosted`: live runs on this host with an address that is taken, and with their capture in a file.
+//! - `narrow`: command lines over a standard output that is full or closed.
 #![tactic(auto)]
 
 mod captured;
+mod disk;
 mod failing;
+mod files;
+mod hosted;
 mod lines;
 mod live;
+mod narrow;
 mod timer;
 mod turns;
 mod udp;
@@ -28,5 +36,6 @@ fn main(rt: HostRuntime) -> io::Result<()> {
     live::run_all(&rt)?;
     captured::run_all(&rt)?;
     failing::run_all(&rt)?;
-    udp::run_all(&rt)
+    udp::run_all(&rt)?;
+    hosted::run_all(&rt)
 }

@@ -23,7 +23,7 @@ use std::alloc::Global;
 use std::io;
 use std::io::Write;
 use tags::Fault;
-use words::Hex;
+use words::{Hex, Spelling};
 
 /// Memory that can be refused.
 type Memory<'m> = &'m Refusing<Global>;
@@ -151,7 +151,9 @@ fn take_all(alloc: Global, run: Run<'_>, lines: &str, out: &mut Vec<u8>) -> io::
         take_line(alloc, &mut run, line, out)?;
     }
     let world = run.runner.world();
-    print_entries(world.site().stations(), run.runner.history(), out)?;
+    let stations = world.site().stations();
+    let history = run.runner.history();
+    print_entries(Spelling::Numbers, stations, history, history, out)?;
     Ok(run.was_refused)
 }
 

@@ -6,6 +6,7 @@ use sheets::names;
 use site_live::{Ending, Settings, run_over_udp};
 use std::alloc::{AllocError, Global};
 use std::io;
+use words::Spelling;
 
 /// How the name of a script ends.
 const SCRIPT: &str = ".script";
@@ -23,6 +24,7 @@ const BASES: u16 = 100;
 const SETTINGS: Settings = Settings {
     is_open: false,
     ending: Ending::WithScript,
+    spelling: Spelling::Numbers,
 };
 
 /// Runs each row over UDP, and prints a line for each.
@@ -81,7 +83,10 @@ fn run_at(rt: &HostRuntime, row: &Row, base: u16) -> io::Result<(String, String)
 }
 
 /// A site with its ports at a base.
-fn moved(alloc: Global, site: &[u8], base: u16) -> Result<String, AllocError> {
+///
+/// # Errors
+/// Want of memory.
+pub(crate) fn moved(alloc: Global, site: &[u8], base: u16) -> Result<String, AllocError> {
     let mut text = String::new(alloc);
     let mut is_behind = false;
     for part in std::str::from_utf8(site).unwrap_or("").split(PORT) {
@@ -95,7 +100,14 @@ fn moved(alloc: Global, site: &[u8], base: u16) -> Result<String, AllocError> {
 }
 
 /// Lines without their moments, and others behind them.
-fn without_moments(alloc: Global, printed: &str, told: &str) -> Result<String, AllocError> {
+///
+/// # Errors
+/// Want of memory.
+pub(crate) fn without_moments(
+    alloc: Global,
+    printed: &str,
+    told: &str,
+) -> Result<String, AllocError> {
     let mut text = String::new(alloc);
     for line in printed.lines() {
         push_without_moment(line, &mut text)?;

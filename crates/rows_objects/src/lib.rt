@@ -4,6 +4,7 @@
 //! - `text`: words of a row, as the libraries read and print them.
 //! - `words_rows`: requests in words.
 //! - `numbers`: numbers of classes, codes, object types and properties.
+//! - `standard_names`: the standard's names of such numbers.
 //! - `soundness`, `copies`: requests and replies as plain data.
 //! - `slots`: commands and what they leave in force.
 //! - `sites`: sites that rows describe.
@@ -20,6 +21,7 @@ mod opening;
 mod sites;
 mod slots;
 mod soundness;
+mod standard_names;
 mod tables;
 mod text;
 mod words_rows;
@@ -56,6 +58,7 @@ fn run_row(given: Given<'_>, name: &str, row: &Row<'_>) -> Result<Counts, Stop> 
     match name {
         "words_requests.txt" => words_rows::run(given, row.asked, wanted),
         "primitives_numbers.txt" => numbers::run(given.alloc, row.asked, wanted),
+        "standard_names.txt" => standard_names::run(given.alloc, row.asked, wanted),
         "primitives_soundness.txt" => soundness::run(given.alloc, row.asked, wanted),
         "primitives_copies.txt" => copies::run(given, row.asked, wanted),
         _ => Err(Stop::Unread(Part::Asked)),

@@ -6,7 +6,7 @@ use crate::asked::Asked;
 use crate::checks::check_found;
 use refusing::Refusing;
 use sheets::{Counts, Given, Stop, Trial, differs, run_text, try_row};
-use site_search::{say_found, search};
+use site_search::{Spelling, say_found, search};
 use std::alloc::Global;
 
 /// What is told on the standard error where memory is refused.
@@ -30,6 +30,7 @@ impl<'a> Trial<'a> for Searching<'_> {
             self.asked.script.as_bytes(),
             self.asked.words.as_bytes(),
             self.asked.depth,
+            Spelling::Numbers,
             &mut out,
         );
         let status = say_found(found, &mut err);

@@ -72,6 +72,10 @@ fn run_row(given: Given<'_>, name: &str, row: &Row<'_>) -> Result<Counts, Stop> 
         "headers_carried.txt" => headers::run(given, row.asked, wanted),
         "writers.txt" => writers::run(given.alloc, row.asked, wanted),
         _ if name.starts_with("answer_") => tool::run(given, Tool::Answer, row.asked, wanted),
+        _ if name.starts_with("explain_named") => {
+            tool::run(given, Tool::ExplainNames, row.asked, wanted)
+        }
+        "explain_dumped.txt" => tool::run_dump(given, row.asked, wanted),
         _ if name.starts_with("explain_") => tool::run(given, Tool::Explain, row.asked, wanted),
         _ => Err(Stop::Unread(Part::Asked)),
     }

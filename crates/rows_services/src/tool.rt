@@ -3,15 +3,19 @@
 //! words, and a line with such a count for as many lines.
 
 use crate::said::octets_of;
-use console::{answer_line, explain_line};
+use console::{Spelling, answer_line, explain_line};
 use sheets::{Counts, Given, Said, Stop, Trial, change_octets, differs, try_row, words_of};
 use std::alloc::{AllocError, Allocator, Global};
 
 /// What a tool prints on standard error where it is refused memory.
 const REFUSED: &[u8] = b"bacsite: refused 1 Memory\n";
 
-/// What a tool prints on standard error where words spell no octets.
+/// What `answer` prints on standard error where words spell no octets.
 const FAULTY: &[u8] = b"bacsite: hex\n";
+
+/// What `explain` prints there.
+const UNEXPECTED: &[u8] =
+    b"bacsite: hex\nexpected octets as 810A0011, 81 0A 00 11, 81:0a:00:11 or 0x81, 0x0a, or a hex dump\n";
 
 /// How many octets the header of a datagram has that say its length.
 const HEADER: usize = 4;
@@ -21,6 +25,8 @@ const HEADER: usize = 4;
 pub(crate) enum Tool {
     Answer,
     Explain,
+    /// `explain` with `--names`.
+    ExplainNames,
 }
 
 /// Runs a tool on words as they stand, with each allocation refused in turn, and on what their
@@ -43,6 +49,32 @@ pub(crate) fn run(given: Given<'_>, tool: Tool, asked: &str, wanted: &str) -> Re
         Err(Stop::Unread(_)) => Ok(counts),
         Err(stop) => Err(stop),
     }
+}
+
+/// Runs `explain` on the lines of a hex dump, between which `\n` stands, with each allocation refused in turn.
+///
+/// # Errors
+/// `Differs` where the row does not hold, and those of reading it.
+pub(crate) fn run_dump(given: Given<'_>, asked: &str, wanted: &str) -> Result<Counts, Stop> {
+    let mut words = Vec::new(given.alloc);
+    words.push(lines_of(given.alloc, asked)?)?;
+    let trial = WordsTrial {
+        tool: Tool::Explain,
+        words: words.as_slice(),
+    };
+    try_row(given, &trial, &[], wanted)
+}
+
+/// A text with a line end for each `\n`.
+fn lines_of(alloc: Global, asked: &str) -> Result<String, AllocError> {
+    let mut text = String::new(alloc);
+    for (index, line) in asked.split("\\n").enumerate() {
+        if index > 0 {
+            text.push('\n')?;
+        }
+        text.push_str(line)?;
+    }
+    Ok(text)
 }
 
 /// How often a tool runs on what a datagram becomes.
@@ -87,7 +119,8 @@ fn said<A: Allocator + Copy>(
     let mut err = Vec::new(alloc);
     let status = match tool {
         Tool::Answer => answer_line(memory, words, &mut out, &mut err),
-        Tool::Explain => explain_line(memory, words, &mut out, &mut err),
+        Tool::Explain => explain_line(memory, Spelling::Numbers, words, &mut out, &mut err),
+        Tool::ExplainNames => explain_line(memory, Spelling::Names, words, &mut out, &mut err),
     };
     if err.as_slice() == REFUSED {
         return Err(refused(alloc, status, out.as_slice()));
@@ -146,11 +179,15 @@ fn digits(alloc: Global, octets: &[u8]) -> Result<String, AllocError> {
 /// Whether status 1 goes with no digits, or with a text that ends with a refusal, and status 0 with all else.
 fn is_fitting(tool: Tool, said: &Said, is_empty: bool) -> bool {
     if is_empty {
-        return said.status == 1 && said.out.is_empty() && said.err.as_slice() == FAULTY;
+        let faulty = match tool {
+            Tool::Answer => FAULTY,
+            Tool::Explain | Tool::ExplainNames => UNEXPECTED,
+        };
+        return said.status == 1 && said.out.is_empty() && said.err.as_slice() == faulty;
     }
     let is_refused = match tool {
         Tool::Answer => false,
-        Tool::Explain => ends_with_refusal(said.out.as_slice()),
+        Tool::Explain | Tool::ExplainNames => ends_with_refusal(said.out.as_slice()),
     };
     said.status == u8::from(is_refused) && said.err.is_empty() && !said.out.is_empty()
 }

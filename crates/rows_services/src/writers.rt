@@ -1,7 +1,7 @@
 //! Rows of writers that fail: `explain 96 WORDS -> 0`, the exit status of a tool where standard output takes so many
 //! octets and standard error none. With any less it is 1.
 
-use console::{answer_line, explain_line};
+use console::{Spelling, answer_line, explain_line};
 use sheets::{
     Counts, Full, Part, Printing, Stop, number, run_text, status_within, two_words, words_of,
 };
@@ -19,7 +19,7 @@ impl Printing for ToolLine<'_> {
     fn status(&self, out: &mut Full, err: &mut Full) -> Result<u8, Stop> {
         match self.tool {
             "answer" => Ok(answer_line(self.alloc, self.words, out, err)),
-            "explain" => Ok(explain_line(self.alloc, self.words, out, err)),
+            "explain" => Ok(explain_line(self.alloc, Spelling::Numbers, self.words, out, err)),
             _ => Err(Stop::Unread(Part::Asked)),
         }
     }

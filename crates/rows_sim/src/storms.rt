@@ -4,7 +4,7 @@
 use crate::examples::{read, sites};
 use refusing::Refusing;
 use site_run::simulate;
-use site_storm::{Chances, Weather, storm, storm_counted};
+use site_storm::{Chances, Spelling, Weather, storm, storm_counted};
 use std::alloc::{Allocator, Global};
 use std::io;
 
@@ -84,7 +84,15 @@ fn came_of<A: Allocator + Copy>(
     let mut out = Vec::new(alloc);
     let mut err = Vec::new(alloc);
     let status = storm(
-        alloc, memory, site, script, weather, &mut lines, &mut out, &mut err,
+        alloc,
+        memory,
+        site,
+        script,
+        weather,
+        Spelling::Numbers,
+        &mut lines,
+        &mut out,
+        &mut err,
     );
     Ok(Came {
         status,

@@ -6,20 +6,20 @@ use crate::fewest::fewest;
 use crate::weather::{Wrong, judge_end, make};
 use simulator::{Event, World};
 use std::alloc::{AllocError, Global};
-use storm::{Chances, Storm};
+use storm::{Chances, Percent, Storm};
 use tags::Fault;
 
 /// How many events a storm has.
 const EVENTS: u32 = 100;
 
-/// How often what happens, in percents: much, so that little is enough to break what can be broken.
+/// How often what happens: much, so that little is enough to break what can be broken.
 const CHANCES: Chances = Chances {
-    issue: 15,
-    lose: 15,
-    repeat: 20,
-    reorder: 20,
-    damage: 5,
-    restart: 5,
+    issue: Percent { tenths: 150 },
+    lose: Percent { tenths: 150 },
+    repeat: Percent { tenths: 200 },
+    reorder: Percent { tenths: 200 },
+    damage: Percent { tenths: 50 },
+    restart: Percent { tenths: 50 },
 };
 
 /// A storm in which something is wrong: its seed, few of its events that still bring that about, none of which can be

@@ -1,6 +1,9 @@
 -- A part of a step that isn't said leaves the whole unsaid.
-use Rattle.std.proofs.Common.{◌≡◌, ◌∙◌, ◌+◌, ◌*◌, sym, ap, inl, inr, refl, ℕ, List, length, Option, Some, None, arith}
-use Rattle.std.specs.Prelude.{◌≢◌, ◌⊎◌, slice_index, codes}
+use Rattle.std.proofs.Common.{◌≡◌, ◌∙◌, ◌+◌, ◌*◌, sym, ap, inl, inr, refl, ℕ, List, length, Option, Some, None, Result, Ok, Err, arith}
+use Rattle.std.specs.Prelude.{◌≢◌, ◌⊎◌, IfErr, IfOk, slice_index, codes}
+use Rattle.primitives.specs.Sound.{IsSoundRequest}
+use Rattle.primitives.specs.declared.plain_data.Request.{Request}
+use Rattle.words.specs.NoRequests.{HasSingleValues}
 use Rattle.apdu.specs.declared.unconfirmed.Limits.{Limits}
 use Rattle.script.specs.declared.step.Step.{Step}
 use Rattle.script.specs.declared.step.Step.TheVariants as step
@@ -10,7 +13,7 @@ use Rattle.site_parts.specs.Names.{IsName}
 use Rattle.words.specs.declared.unread.Unread.{Unread}
 use Rattle.words.specs.declared.unread.Unread.TheVariants.{Memory}
 use Rattle.words.specs.HexText.{NoHex, SpellsHex}
-use Rattle.words.specs.NoRequests.{NoRequest, SaysSeveral, SaysUnspelled}
+use Rattle.words.specs.Quoted.{NoQuoted, SaysQuotedUnfit}
 use Rattle.words.specs.Says.{Has, HasNo, before, behind, space, SaysUnsigned}
 use Rattle.words.specs.Unsaid.{NoUnsigned}
 
@@ -19,13 +22,30 @@ no_name word none = record { none = λ name s. none s.formed }
 
 pub ruleset name_laws = (no_name)
 
-pub several : (A : Type 0) (words : List ℕ) → SaysSeveral A words → SaysUnfit A words
-several A words h = record { request = h.request; said = h.said; unfit = λ fit. h.several fit.single }
+unfit : (A : Type 0) (words : List ℕ) → SaysQuotedUnfit A words → SaysUnfit A words
+unfit A words h = record {
+  request = h.request;
+  said = h.said;
+  unfit =
+      λ fit. elim h.unfit [
+        | inl several ↦ several fit.single
+        | inr unspelled ↦ unspelled fit.sound
+      ];
+}
 
-pub unspelled : (A : Type 0) (words : List ℕ) → SaysUnspelled A words → SaysUnfit A words
-unspelled A words h = record { request = h.request; said = h.said; unfit = λ fit. h.unsound fit.sound }
+pub fit_refused : {A : Type 0} (words : List ℕ) (r : Result (Request A) Unread) →
+    IfErr r (λ e. (e ≡ Memory) ⊎ NoQuoted A words ⊎ SaysQuotedUnfit A words) →
+    IfErr r (λ e. (e ≡ Memory) ⊎ NoQuoted A words ⊎ SaysUnfit A words)
+fit_refused words (Ok q) h = tt
+fit_refused words (Err e) (inl memory) = inl memory
+fit_refused words (Err e) (inr (inl none)) = inr (inl none)
+fit_refused {A} words (Err e) (inr (inr h)) = inr (inr (unfit A words h))
 
-pub ruleset request_laws = (several, unspelled)
+pub fits : {A : Type 0} (r : Result (Request A) Unread) → IfOk r HasSingleValues → IfOk r IsSoundRequest → IfOk r IsFit
+fits (Ok q) single sound = record { single = single; sound = sound }
+fits (Err e) single sound = tt
+
+pub ruleset request_laws = (fit_refused, fits)
 
 pub issue_whole : (A : Type 0) (words : List ℕ) → HasNo space words → NoIssue A words
 issue_whole A words whole = record { none = λ c i r s. absurd (omega (arith, whole, s.client_said.0)) }
@@ -39,7 +59,7 @@ issue_no_client A words none = record { none = λ c i r s. none.none c s.client_
 pub issue_no_instance : (A : Type 0) (words : List ℕ) → NoUnsigned 32 (before space (behind space words)) → NoIssue A words
 issue_no_instance A words none = record { none = λ c i r s. none.none i s.instance_said }
 
-pub issue_no_request : (A : Type 0) (words : List ℕ) → NoRequest A (behind space (behind space words)) → NoIssue A words
+pub issue_no_request : (A : Type 0) (words : List ℕ) → NoQuoted A (behind space (behind space words)) → NoIssue A words
 issue_no_request A words none = record { none = λ c i r s. none.none r s.request_said }
 
 pub issue_unfit : (A : Type 0) (words client : List ℕ) (instance : ℕ) → Has space words → SaysName (before space words) client → Has space (behind space words) →
@@ -54,7 +74,7 @@ issue_unfit A words client instance parted named apart numbered h = record {
 
 pub issue_refused : (A : Type 0) (words client : List ℕ) (instance : ℕ) (e : Unread) → Has space words → SaysName (before space words) client →
     Has space (behind space words) → SaysUnsigned 32 (before space (behind space words)) instance →
-    (e ≡ Memory) ⊎ NoRequest A (behind space (behind space words)) ⊎ SaysUnfit A (behind space (behind space words)) →
+    (e ≡ Memory) ⊎ NoQuoted A (behind space (behind space words)) ⊎ SaysUnfit A (behind space (behind space words)) →
     (e ≡ Memory) ⊎ NoIssue A words ⊎ SaysUnfitIssue A words
 issue_refused A words client instance e parted named apart numbered (inl memory) = inl memory
 issue_refused A words client instance e parted named apart numbered (inr (inl none)) = inr (inl (issue_no_request A words none))

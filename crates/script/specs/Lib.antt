@@ -1,4 +1,5 @@
 pub mod Lines
 pub mod NoSteps
+pub mod Numbers
 pub mod Reading
 pub mod Steps

@@ -7,7 +7,7 @@ use Rattle.script.specs.Steps.{IsFit, IsFitStep, SaysHear, SaysHeard, SaysIssue,
 use Rattle.script.specs.Steps.{SaysWhoIs}
 use Rattle.words.specs.declared.unread.Unread.{Unread}
 use Rattle.words.specs.declared.unread.Unread.TheVariants.{Memory}
-use Rattle.words.specs.Requests.{SaysRequest}
+use Rattle.words.specs.Quoted.{SaysQuoted}
 
 -- the word is no name
 pub record NoName (word : List ℕ) : Type 0 where
@@ -16,7 +16,7 @@ pub record NoName (word : List ℕ) : Type 0 where
 -- the words say a request without a spelling, or with a write of no value or of several
 pub record SaysUnfit (A : Type 0) (words : List ℕ) : Type 0 where
   pub request : Request A
-  pub said : SaysRequest words request
+  pub said : SaysQuoted words request
   pub unfit : IsFit request → ⊥
 
 -- the words say no client, instance and request

@@ -8,7 +8,7 @@ use Rattle.script.specs.declared.step.Step.TheVariants as step
 use Rattle.site_parts.specs.Names.{IsName}
 use Rattle.words.specs.HexText.{SpellsHex}
 use Rattle.words.specs.NoRequests.{HasSingleValues}
-use Rattle.words.specs.Requests.{SaysRequest}
+use Rattle.words.specs.Quoted.{SaysQuoted}
 use Rattle.words.specs.Says.{Has, HasNo, before, behind, space, IsOfKind, SaysUnsigned}
 
 -- the word is the name of a station
@@ -25,7 +25,7 @@ pub record SaysIssue {A : Type 0} (words client : List ℕ) (instance : ℕ) (re
   pub client_said : SaysNameBefore words client
   pub parted : Has space (behind space words)
   pub instance_said : SaysUnsigned 32 (before space (behind space words)) instance
-  pub request_said : SaysRequest (behind space (behind space words)) request
+  pub request_said : SaysQuoted (behind space (behind space words)) request
 
 -- the least instance and the greatest (16.10.1.1.1)
 pub record SaysLimits (words : List ℕ) (limits : Limits) : Type 0 where

@@ -7,13 +7,15 @@
 //!
 //! - `step`: what a line asks for.
 //! - `line`: a line in words.
-//! - `script`: the lines of a text.
+//! - `script`: the lines of a text. `numbers`: the numbers of those that ask for steps.
 #![tactic(auto)]
 
 mod line;
+mod numbers;
 mod script;
 mod step;
 
 pub use line::step_of;
+pub use numbers::LineNumbers;
 pub use script::{BadScript, script_of};
 pub use step::Step;

@@ -1,8 +1,7 @@
 //! A line of a script in words, which are parted by single spaces.
 
 ghost use Rattle.std.specs.Prelude.{◌≡◌, ◌⊎◌, IfErr, IfOk};
-ghost use Rattle.words.specs.NoRequests.{NoRequest};
-ghost use Rattle.words.specs.Requests.{SaysRequest};
+ghost use Rattle.words.specs.Quoted.{NoQuoted, SaysQuoted};
 ghost use Rattle.script.specs.Steps.{IsFit, IsFitStep, SaysHear, SaysHeard, SaysIssue, SaysLimits, SaysName, SaysStep};
 ghost use Rattle.script.specs.Steps.{SaysWhoIs};
 ghost use Rattle.script.specs.NoSteps.{IsRefused, NoHear, NoHeard, NoIssue, NoLimits, NoName, NoWhoIs, SaysUnfit};
@@ -14,9 +13,10 @@ use primitives::Request;
 use site_parts::is_name;
 use std::alloc::Allocator;
 use tags::{Items, Octets};
-use words::{Unread, parse_hex, parse_request, parse_u16, parse_u32, parse_u64};
+use words::{Unread, parse_hex, parse_quoted_request, parse_u16, parse_u32, parse_u64};
 
-/// The step that a line asks for, as `issue c 10 read 5:1 85`, `whois c`, `whois c 5 20`, `tick 1000`, `wake c`,
+/// The step that a line asks for, as `issue c 10 read 5:1 85`,
+/// `issue c 10 write binary-value,1 present-value active`, `whois c`, `whois c 5 20`, `tick 1000`, `wake c`,
 /// `deliver 2`, `hear 2 r 55 FF 00 10 05`, `hear 2 r -`, `register f`, `restart d` or `flow 50`.
 ///
 /// # Errors
@@ -85,12 +85,11 @@ fn issue<A: Allocator + Copy>(alloc: A, words: &str) -> Result<(Octets<A>, u32, 
 /// A request with a spelling, and with one value for each write.
 #[tactic(auto, using(crate::proofs::StepLaws::request_laws))]
 fn fit_request<A: Allocator + Copy>(alloc: A, words: &str) -> Result<Request<A>, Unread>
-    ensures read { IfOk result (SaysRequest words.now) }
+    ensures read { IfOk result (SaysQuoted words.now) }
     ensures fit { IfOk result IsFit }
-    ensures refused { IfErr result (λ e. (e ≡ Unread.Memory) ⊎ NoRequest A words.now ⊎ SaysUnfit A words.now) }
+    ensures refused { IfErr result (λ e. (e ≡ Unread.Memory) ⊎ NoQuoted A words.now ⊎ SaysUnfit A words.now) }
 {
-    let request = parse_request(alloc, words)?;
-    Ok(request)
+    parse_quoted_request(alloc, words)
 }
 
 /// A client, or a client and limits, as `c 5 20`.

@@ -76,7 +76,7 @@ fn put_line<A: Allocator + Copy>(
 }
 
 /// Whether a line is empty or a comment.
-fn is_skipped(line: &[u8]) -> bool
+pub(crate) fn is_skipped(line: &[u8]) -> bool
     ensures { result ≡ is_skipped line.now }
 {
     line.is_empty() || line[0] == b'#'
@@ -84,7 +84,7 @@ fn is_skipped(line: &[u8]) -> bool
 
 /// A line without its end, and the text behind it, where there is another line.
 #[tactic(auto, using(crate::proofs::LineLaws::cut_laws))]
-fn cut_line(text: &[u8]) -> (&[u8], Option<&[u8]>)
+pub(crate) fn cut_line(text: &[u8]) -> (&[u8], Option<&[u8]>)
     ensures parts { lines text.now ≡ result.0.now ∷ lines_left (option_map (λ r. r.now) result.1) }
     ensures less { size_left (option_map (λ r. r.now) result.1) ≤ length text.now }
 {

@@ -4,21 +4,21 @@ ghost use Rattle.std.specs.Prelude.{◌↔◌, IfOk, IsTrue};
 ghost use Rattle.site.specs.Devices.{AreDevices, AreFewDevices};
 ghost use Rattle.site.specs.Sound.{HaveObjects};
 
-use crate::shown::name_of;
-use crate::told::{Told, tell};
+use crate::part::Part;
+use crate::shown::Named;
+use crate::told::{Listener, Told};
 use object_model::SiteObject;
-use profile::{MAX_OBJECTS, MAX_TEXT_OCTETS};
+use profile::{MAX_DEVICES, MAX_OBJECTS, MAX_TEXT_OCTETS};
 use site::{are_devices, are_few_devices};
 use site_parts::Station;
 use std::alloc::Allocator;
 use std::io;
-use std::io::Write;
 use tags::Value;
 
 /// Whether there are a few devices, with objects that a site may give them (12); what is wrong is told.
-pub(crate) fn tell_devices<A: Allocator, W: Write>(
+pub(crate) fn tell_devices<A: Allocator, L: Listener>(
     stations: &[Station<A>],
-    out: &mut W,
+    out: &mut L,
 ) -> io::Result<bool>
     ensures { IfOk result (λ b. IsTrue b ↔ HaveObjects stations.now) }
 {
@@ -27,20 +27,32 @@ pub(crate) fn tell_devices<A: Allocator, W: Write>(
     Ok(few && each)
 }
 
-fn tell_few<A: Allocator, W: Write>(stations: &[Station<A>], out: &mut W) -> io::Result<bool>
+fn tell_few<A: Allocator, L: Listener>(stations: &[Station<A>], out: &mut L) -> io::Result<bool>
     ensures { IfOk result (λ b. IsTrue b ↔ AreFewDevices stations.now) }
 {
     let is_sound = are_few_devices(stations);
     if !is_sound {
-        let devices = stations
-            .iter()
-            .filter(|station| station.role.objects().is_some());
-        tell(Told::ManyDevices(devices.count()), out)?;
+        tell_many(stations, out)?;
     }
     Ok(is_sound)
 }
 
-fn tell_each<A: Allocator, W: Write>(stations: &[Station<A>], out: &mut W) -> io::Result<bool>
+/// Tells how many devices there are, of the first one too many.
+fn tell_many<A: Allocator, L: Listener>(stations: &[Station<A>], out: &mut L) -> io::Result<()> {
+    let mut count = 0usize;
+    let mut too_many = Part::Site;
+    for (index, station) in stations.iter().enumerate() {
+        if station.role.objects().is_some() {
+            if count == MAX_DEVICES {
+                too_many = Part::Station(index);
+            }
+            count = count.saturating_add(1);
+        }
+    }
+    out.tell(Told::ManyDevices(count).of(too_many.whole()))
+}
+
+fn tell_each<A: Allocator, L: Listener>(stations: &[Station<A>], out: &mut L) -> io::Result<bool>
     ensures { IfOk result (λ b. IsTrue b ↔ AreDevices stations.now) }
 {
     let is_sound = are_devices(stations);
@@ -51,71 +63,77 @@ fn tell_each<A: Allocator, W: Write>(stations: &[Station<A>], out: &mut W) -> io
 }
 
 /// Tells each device whose objects none may have.
-fn tell_faulty<A: Allocator, W: Write>(stations: &[Station<A>], out: &mut W) -> io::Result<()> {
+fn tell_faulty<A: Allocator, L: Listener>(stations: &[Station<A>], out: &mut L) -> io::Result<()> {
     let mut left = stations;
     while let [station, rest @ ..] = left {
         if !are_devices(&left[..1]) {
-            tell_device(station, out)?;
+            let index = stations.len().saturating_sub(left.len());
+            tell_device(index, station, out)?;
         }
         left = rest;
     }
     Ok(())
 }
 
-fn tell_device<A: Allocator, W: Write>(station: &Station<A>, out: &mut W) -> io::Result<()> {
+fn tell_device<A: Allocator, L: Listener>(
+    index: usize,
+    station: &Station<A>,
+    out: &mut L,
+) -> io::Result<()> {
     let Some(objects) = station.role.objects() else {
         return Ok(());
     };
-    let device = name_of(station);
+    let device = Named::at(index, station);
     let objects = objects.objects.as_slice();
     let count = objects.len();
     if count > MAX_OBJECTS {
-        tell(Told::ManyObjects { device, count }, out)?;
+        let first_too_many = device.object(MAX_OBJECTS);
+        out.tell(Told::ManyObjects { device, count }.of(first_too_many.whole()))?;
     }
     let is_told = tell_objects(device, objects, out)?;
     if !is_told && count <= MAX_OBJECTS {
-        tell(Told::NoDevice(device), out)?;
+        out.tell(Told::NoDevice(device).of(device.part().whole()))?;
     }
     Ok(())
 }
 
 /// Tells what is wrong with objects, and whether something was.
-fn tell_objects<A: Allocator, W: Write>(
-    device: &str,
+fn tell_objects<A: Allocator, L: Listener>(
+    device: Named<'_>,
     objects: &[SiteObject<A>],
-    out: &mut W,
+    out: &mut L,
 ) -> io::Result<bool> {
     let mut is_told = false;
     for (at, object) in objects.iter().enumerate() {
-        is_told |= tell_texts(device, at.saturating_add(1), object, out)?;
+        is_told |= tell_texts(device, at, object, out)?;
         is_told |= tell_same(device, &objects[..at], object, out)?;
     }
     Ok(is_told)
 }
 
 /// Tells which texts of an object are too long, and that it has the device's name, and whether something was told.
-fn tell_texts<A: Allocator, W: Write>(
-    device: &str,
-    object: usize,
+fn tell_texts<A: Allocator, L: Listener>(
+    device: Named<'_>,
+    at: usize,
     site_object: &SiteObject<A>,
-    out: &mut W,
+    out: &mut L,
 ) -> io::Result<bool> {
+    let part = device.object(at);
+    let object = at.saturating_add(1);
     let mut is_told = false;
     for (text, octets) in texts_of(site_object) {
         if octets.len() > MAX_TEXT_OCTETS {
-            tell(
-                Told::LongText {
-                    device,
-                    object,
-                    text,
-                },
-                out,
-            )?;
+            let told = Told::LongText {
+                device,
+                object,
+                text,
+            };
+            out.tell(told.of(part.key(text)))?;
             is_told = true;
         }
     }
-    if site_object.name.as_slice() == device.as_bytes() {
-        tell(Told::DeviceName { device, object }, out)?;
+    if site_object.name.as_slice() == device.name.as_bytes() {
+        out.tell(Told::DeviceName { device, object }.of(part.key("name")))?;
         is_told = true;
     }
     Ok(is_told)
@@ -136,36 +154,33 @@ fn texts_of<A: Allocator>(object: &SiteObject<A>) -> [(&'static str, &[u8]); 3] 
 
 /// Tells the first of these objects that is the object, and the first that has its name, and whether something was
 /// told.
-fn tell_same<A: Allocator, W: Write>(
-    device: &str,
+fn tell_same<A: Allocator, L: Listener>(
+    device: Named<'_>,
     before: &[SiteObject<A>],
     object: &SiteObject<A>,
-    out: &mut W,
+    out: &mut L,
 ) -> io::Result<bool> {
+    let part = device.object(before.len());
     let second = before.len().saturating_add(1);
     let twin = before.iter().position(|other| is_twin(other, object));
     if let Some(at) = twin {
-        tell(
-            Told::SameObject {
-                device,
-                first: at.saturating_add(1),
-                second,
-                kind: u16::from(object.kind.object_type()),
-                instance: object.instance,
-            },
-            out,
-        )?;
+        let told = Told::SameObject {
+            device,
+            first: at.saturating_add(1),
+            second,
+            kind: u16::from(object.kind.object_type()),
+            instance: object.instance,
+        };
+        out.tell(told.of_both(device.object(at).key("instance"), part.key("instance")))?;
     }
     let namesake = before.iter().position(|other| is_namesake(other, object));
     if let Some(at) = namesake {
-        tell(
-            Told::SameObjectName {
-                device,
-                first: at.saturating_add(1),
-                second,
-            },
-            out,
-        )?;
+        let told = Told::SameObjectName {
+            device,
+            first: at.saturating_add(1),
+            second,
+        };
+        out.tell(told.of_both(device.object(at).key("name"), part.key("name")))?;
     }
     Ok(twin.is_some() || namesake.is_some())
 }

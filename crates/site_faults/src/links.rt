@@ -3,21 +3,21 @@
 ghost use Rattle.std.specs.Prelude.{◌≡◌, IfOk};
 ghost use Rattle.site.specs.Links.{are_linked};
 
-use crate::shown::name_of;
-use crate::told::{Told, tell};
+use crate::part::Part;
+use crate::shown::Named;
+use crate::told::{Listener, Told};
 use profile::LinkKind;
 use site::are_linked;
 use site_parts::{Link, Network, Station};
 use std::alloc::Allocator;
 use std::io;
-use std::io::Write;
 
 /// Whether each place on a network is in range, and on a network of its kind that is there (9); each that is not is
 /// told.
-pub(crate) fn tell_links<A: Allocator, W: Write>(
+pub(crate) fn tell_links<A: Allocator, L: Listener>(
     networks: &[Network],
     stations: &[Station<A>],
-    out: &mut W,
+    out: &mut L,
 ) -> io::Result<bool>
     ensures { IfOk result (λ b. b ≡ are_linked networks.now stations.now) }
 {
@@ -28,48 +28,56 @@ pub(crate) fn tell_links<A: Allocator, W: Write>(
     Ok(is_sound)
 }
 
-fn tell_stations<A: Allocator, W: Write>(
+fn tell_stations<A: Allocator, L: Listener>(
     networks: &[Network],
     stations: &[Station<A>],
-    out: &mut W,
+    out: &mut L,
 ) -> io::Result<()> {
-    for station in stations {
-        tell_places(networks, name_of(station), station.role.links(), out)?;
+    for (index, station) in stations.iter().enumerate() {
+        tell_places(
+            networks,
+            Named::at(index, station),
+            station.role.links(),
+            out,
+        )?;
     }
     Ok(())
 }
 
-fn tell_places<W: Write>(
+fn tell_places<L: Listener>(
     networks: &[Network],
-    station: &str,
+    station: Named<'_>,
     links: &[Link],
-    out: &mut W,
+    out: &mut L,
 ) -> io::Result<()> {
-    for link in links {
-        tell_place(networks, station, *link, out)?;
+    for (at, link) in links.iter().enumerate() {
+        tell_place(networks, station, station.link(at), *link, out)?;
     }
     Ok(())
 }
 
-fn tell_place<W: Write>(
+fn tell_place<L: Listener>(
     networks: &[Network],
-    station: &str,
+    station: Named<'_>,
+    part: Part,
     link: Link,
-    out: &mut W,
+    out: &mut L,
 ) -> io::Result<()> {
     let network = link.network();
     if !has_network(network, networks) {
-        return tell(Told::NoSuchNetwork { station, network }, out);
+        return out.tell(Told::NoSuchNetwork { station, network }.of(part.key("network")));
     }
     if !has_network_of(network, link.link_kind(), networks) {
         return match link.link_kind() {
-            LinkKind::BacnetIp => tell(Told::AddressOnBus { station, network }, out),
-            LinkKind::MsTp => tell(Told::MacOnIp { station, network }, out),
+            LinkKind::BacnetIp => {
+                out.tell(Told::AddressOnBus { station, network }.of(part.key("address")))
+            }
+            LinkKind::MsTp => out.tell(Told::MacOnIp { station, network }.of(part.key("mac"))),
         };
     }
     match link {
         Link::Ip { subnet: 0, .. } | Link::Bus { mac: 128..=255, .. } => {
-            tell(Told::NoPlace(station), out)
+            out.tell(Told::NoPlace(station).of(part.whole()))
         }
         Link::Ip { .. } | Link::Bus { .. } => Ok(()),
     }

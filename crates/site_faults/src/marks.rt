@@ -4,29 +4,29 @@ ghost use Rattle.std.specs.Prelude.{◌↔◌, IfOk, IsTrue};
 ghost use Rattle.site.specs.Apart.{AreApart};
 ghost use Rattle.site.specs.Marks.{marks};
 
-use crate::shown::{Common, name_of};
-use crate::told::{Told, tell};
+use crate::part::{Part, Subject};
+use crate::shown::{Common, Named};
+use crate::told::{Listener, Told};
 use site::{Mark, has_marks_apart};
 use site_parts::{Link, Network, Role, Station};
 use std::alloc::{AllocError, Allocator};
 use std::io;
-use std::io::Write;
 
-/// A mark, and the station that has it: its name, and how many stand before it.
+/// A mark, the station that has it, and where that says so.
 #[derive(Clone, Copy)]
 struct Held<'a> {
     mark: Mark,
-    station: &'a str,
-    before: usize,
+    station: Named<'a>,
+    subject: Subject,
 }
 
 /// Whether nothing occurs twice that may occur once: numbers of networks, instances, addresses of BACnet/IP, addresses
 /// on one network of MS/TP, managers of one subnet; what does is told.
-pub(crate) fn tell_marks<A: Allocator + Copy, W: Write>(
+pub(crate) fn tell_marks<A: Allocator + Copy, L: Listener>(
     alloc: A,
     networks: &[Network],
     stations: &[Station<A>],
-    out: &mut W,
+    out: &mut L,
 ) -> io::Result<bool>
     ensures { IfOk result (λ b. IsTrue b ↔ AreApart (marks networks.now stations.now)) }
 {
@@ -39,21 +39,26 @@ pub(crate) fn tell_marks<A: Allocator + Copy, W: Write>(
 }
 
 /// Tells each network that has the number of an earlier one.
-fn tell_numbers<W: Write>(networks: &[Network], out: &mut W) -> io::Result<()> {
+fn tell_numbers<L: Listener>(networks: &[Network], out: &mut L) -> io::Result<()> {
     for (at, network) in networks.iter().enumerate() {
         let number = network.number;
-        if networks[..at].iter().any(|other| other.number == number) {
-            tell(Told::SameNumber(number), out)?;
+        let first = networks[..at]
+            .iter()
+            .position(|other| other.number == number);
+        if let Some(first) = first {
+            let (first, second) = (Part::Network(first), Part::Network(at));
+            let told = Told::SameNumber(number);
+            out.tell(told.of_both(first.key("number"), second.key("number")))?;
         }
     }
     Ok(())
 }
 
 /// Tells each mark of a station that an earlier one has.
-fn tell_held<A: Allocator + Copy, W: Write>(
+fn tell_held<A: Allocator + Copy, L: Listener>(
     alloc: A,
     stations: &[Station<A>],
-    out: &mut W,
+    out: &mut L,
 ) -> io::Result<()> {
     let all = all_held(alloc, stations)?;
     let all = all.as_slice();
@@ -66,32 +71,33 @@ fn tell_held<A: Allocator + Copy, W: Write>(
     Ok(())
 }
 
-fn tell_both<W: Write>(first: Held<'_>, second: Held<'_>, out: &mut W) -> io::Result<()> {
+fn tell_both<L: Listener>(first: Held<'_>, second: Held<'_>, out: &mut L) -> io::Result<()> {
+    out.tell(told_of(first, second).of_both(first.subject, second.subject))
+}
+
+/// What is told of two that have the same mark.
+fn told_of<'a>(first: Held<'a>, second: Held<'a>) -> Told<'a> {
     let common = Common(second.mark);
-    if first.before == second.before {
-        let router = first.station;
-        return tell(Told::MarkTwice { common, router }, out);
-    }
     let is_managed = matches!(second.mark, Mark::Managed { .. });
     let (first, second) = (first.station, second.station);
-    if is_managed {
-        return tell(
-            Told::TwoManagers {
-                common,
-                first,
-                second,
-            },
-            out,
-        );
+    if first.index == second.index {
+        return Told::MarkTwice {
+            common,
+            router: first,
+        };
     }
-    tell(
-        Told::SameMark {
+    if is_managed {
+        return Told::TwoManagers {
             common,
             first,
             second,
-        },
-        out,
-    )
+        };
+    }
+    Told::SameMark {
+        common,
+        first,
+        second,
+    }
 }
 
 /// What the stations have, in their order.
@@ -100,33 +106,34 @@ fn all_held<A: Allocator + Copy>(
     stations: &[Station<A>],
 ) -> Result<Vec<Held<'_>, A>, AllocError> {
     let mut all = Vec::new(alloc);
-    for (before, station) in stations.iter().enumerate() {
-        put_station(station, before, &mut all)?;
+    for (index, station) in stations.iter().enumerate() {
+        put_station(Named::at(index, station), &station.role, &mut all)?;
     }
     Ok(all)
 }
 
 /// Puts what a station has behind others.
 fn put_station<'a, A: Allocator>(
-    station: &'a Station<A>,
-    before: usize,
+    station: Named<'a>,
+    role: &Role<A>,
     all: &mut Vec<Held<'a>, A>,
 ) -> Result<(), AllocError> {
-    let role = &station.role;
-    let station = name_of(station);
-    let held = |mark| Held {
+    let held = |mark, subject| Held {
         mark,
         station,
-        before,
+        subject,
     };
     if let Some(objects) = role.objects() {
-        all.push(held(Mark::Instance(objects.instance)))?;
+        let instance = Mark::Instance(objects.instance);
+        all.push(held(instance, station.part().key("instance")))?;
     }
     if let Some(foreign) = role.beyond() {
-        all.push(held(Mark::Address(foreign.address.to_octets())))?;
+        let address = Mark::Address(foreign.address.to_octets());
+        all.push(held(address, station.part().key("address")))?;
     }
-    for link in role.links() {
-        all.push(held(mark_of(*link)))?;
+    for (at, link) in role.links().iter().enumerate() {
+        let (mark, key) = mark_of(*link);
+        all.push(held(mark, station.link(at).key(key)))?;
     }
     if let Role::Manager(
         Link::Ip {
@@ -136,15 +143,16 @@ fn put_station<'a, A: Allocator>(
         },
     ) = *role
     {
-        all.push(held(Mark::Managed { network, subnet }))?;
+        let managed = Mark::Managed { network, subnet };
+        all.push(held(managed, station.link(0).key("subnet")))?;
     }
     Ok(())
 }
 
-/// What no other link has.
-fn mark_of(link: Link) -> Mark {
+/// What no other link has, and the key that says it.
+fn mark_of(link: Link) -> (Mark, &'static str) {
     match link {
-        Link::Ip { address, .. } => Mark::Address(address.to_octets()),
-        Link::Bus { network, mac } => Mark::Bus { network, mac },
+        Link::Ip { address, .. } => (Mark::Address(address.to_octets()), "address"),
+        Link::Bus { network, mac } => (Mark::Bus { network, mac }, "mac"),
     }
 }

@@ -6,18 +6,18 @@ ghost use Rattle.site_parts.specs.Names.{IsName};
 ghost use Rattle.site.specs.Apart.{AreApart};
 ghost use Rattle.site.specs.Named.{AreNamed, names};
 
+use crate::part::Part;
 use crate::shown::{name_of, row_behind};
-use crate::told::{Told, tell};
+use crate::told::{Listener, Told};
 use site::{have_names, have_names_apart};
 use site_parts::Station;
 use std::alloc::Allocator;
 use std::io;
-use std::io::Write;
 
 /// Whether stations have names, no two the same; what is wrong is told.
-pub(crate) fn tell_named<A: Allocator, W: Write>(
+pub(crate) fn tell_named<A: Allocator, L: Listener>(
     stations: &[Station<A>],
-    out: &mut W,
+    out: &mut L,
 ) -> io::Result<bool>
     ensures { IfOk result (λ b. IsTrue b ↔ AreNamed stations.now) }
 {
@@ -26,19 +26,19 @@ pub(crate) fn tell_named<A: Allocator, W: Write>(
     Ok(each && apart)
 }
 
-fn tell_names<A: Allocator, W: Write>(stations: &[Station<A>], out: &mut W) -> io::Result<bool>
+fn tell_names<A: Allocator, L: Listener>(stations: &[Station<A>], out: &mut L) -> io::Result<bool>
     ensures { IfOk result (λ b. IsTrue b ↔ AllByRecursion IsName (names stations.now)) }
 {
     let is_sound = have_names(stations);
     if !is_sound {
-        tell(Told::NoName, out)?;
+        out.tell(Told::NoName.of(Part::Site.whole()))?;
     }
     Ok(is_sound)
 }
 
-fn tell_names_apart<A: Allocator, W: Write>(
+fn tell_names_apart<A: Allocator, L: Listener>(
     stations: &[Station<A>],
-    out: &mut W,
+    out: &mut L,
 ) -> io::Result<bool>
     ensures { IfOk result (λ b. IsTrue b ↔ AreApart (names stations.now)) }
 {
@@ -50,7 +50,7 @@ fn tell_names_apart<A: Allocator, W: Write>(
 }
 
 /// Tells each station that has the name of an earlier one.
-fn tell_same<A: Allocator, W: Write>(stations: &[Station<A>], out: &mut W) -> io::Result<()> {
+fn tell_same<A: Allocator, L: Listener>(stations: &[Station<A>], out: &mut L) -> io::Result<()> {
     for (at, station) in stations.iter().enumerate() {
         tell_namesake(&stations[..at], station, out)?;
     }
@@ -58,24 +58,21 @@ fn tell_same<A: Allocator, W: Write>(stations: &[Station<A>], out: &mut W) -> io
 }
 
 /// Tells the first of these that has the station's name.
-fn tell_namesake<A: Allocator, W: Write>(
+fn tell_namesake<A: Allocator, L: Listener>(
     before: &[Station<A>],
     station: &Station<A>,
-    out: &mut W,
+    out: &mut L,
 ) -> io::Result<()> {
     let name = name_of(station);
     for (at, other) in before.iter().enumerate() {
         if name_of(other) == name {
-            let first = row_behind(&before[..at], other);
-            let second = row_behind(before, station);
-            return tell(
-                Told::SameName {
-                    name,
-                    first,
-                    second,
-                },
-                out,
-            );
+            let told = Told::SameName {
+                name,
+                first: row_behind(&before[..at], other),
+                second: row_behind(before, station),
+            };
+            let (first, second) = (Part::Station(at), Part::Station(before.len()));
+            return out.tell(told.of_both(first.key("name"), second.key("name")));
         }
     }
     Ok(())

@@ -10,21 +10,21 @@ use crate::marks::tell_marks;
 use crate::names::tell_named;
 use crate::networks::tell_networks;
 use crate::roles::{tell_order, tell_ports, tell_roles};
+use crate::told::Listener;
 use crate::tree::tell_tree;
 use site_parts::{Network, Parts, Station};
 use std::alloc::Allocator;
 use std::io;
-use std::io::Write;
 
-/// Whether parts are a sound site; each fact that fails is told on `out`, on a line for each station or network that
-/// breaks it, as `two stations have the address 127.0.0.1:47810: d and c`.
+/// Whether parts are a sound site; of each fact that fails, `out` is told for each station or network that breaks it,
+/// as `two stations have the address 127.0.0.1:47810: d and c`. A writer has each fault on a line of its own.
 ///
 /// # Errors
-/// A failed write, and want of memory (`OutOfMemory`).
-pub fn tell_faults<A: Allocator + Copy, W: Write>(
+/// Those of `out`, as a failed write, and want of memory (`OutOfMemory`).
+pub fn tell_faults<A: Allocator + Copy, L: Listener>(
     alloc: A,
     parts: &Parts<A>,
-    out: &mut W,
+    out: &mut L,
 ) -> io::Result<bool>
     ensures { IfOk result (λ b. IsTrue b ↔ IsSound parts.now) }
 {
@@ -34,11 +34,11 @@ pub fn tell_faults<A: Allocator + Copy, W: Write>(
     Ok(is_sound)
 }
 
-fn tell_facts<A: Allocator + Copy, W: Write>(
+fn tell_facts<A: Allocator + Copy, L: Listener>(
     alloc: A,
     networks: &[Network],
     stations: &[Station<A>],
-    out: &mut W,
+    out: &mut L,
 ) -> io::Result<bool>
     ensures { IfOk result (λ b. IsTrue b ↔ AreSound networks.now stations.now) }
 {
@@ -50,10 +50,10 @@ fn tell_facts<A: Allocator + Copy, W: Write>(
 }
 
 /// Whether each part by itself is as it has to be.
-fn tell_plain<A: Allocator, W: Write>(
+fn tell_plain<A: Allocator, L: Listener>(
     networks: &[Network],
     stations: &[Station<A>],
-    out: &mut W,
+    out: &mut L,
 ) -> io::Result<bool>
     ensures { IfOk result (λ b. IsTrue b ↔ IsPlain networks.now stations.now) }
 {
@@ -64,10 +64,10 @@ fn tell_plain<A: Allocator, W: Write>(
     Ok(numbered && named && placed && devices)
 }
 
-fn tell_stations<A: Allocator, W: Write>(
+fn tell_stations<A: Allocator, L: Listener>(
     networks: &[Network],
     stations: &[Station<A>],
-    out: &mut W,
+    out: &mut L,
 ) -> io::Result<bool>
     ensures { IfOk result (λ b. IsTrue b ↔ AreStations networks.now stations.now) }
 {

@@ -1,10 +1,55 @@
 //! Names, rows and addresses, as they stand in what is told.
 
+use crate::part::Part;
 use bvll::Address;
 use site::Mark;
 use site_parts::{Role, Station};
 use std::alloc::Allocator;
 use std::fmt;
+
+/// A station: its index among all, and its name, which is letters and digits. It prints as its name.
+#[derive(Clone, Copy, Debug)]
+pub(crate) struct Named<'a> {
+    pub(crate) index: usize,
+    pub(crate) name: &'a str,
+}
+
+impl fmt::Display for Named<'_> {
+    fn fmt<W: fmt::Write>(&self, f: &mut fmt::Formatter<W>) -> fmt::Result {
+        f.write_str(self.name)
+    }
+}
+
+impl<'a> Named<'a> {
+    /// The station at an index.
+    pub(crate) fn at<A: Allocator>(index: usize, station: &'a Station<A>) -> Named<'a> {
+        Named {
+            index,
+            name: name_of(station),
+        }
+    }
+
+    /// The station as a part of its site.
+    pub(crate) fn part(self) -> Part {
+        Part::Station(self.index)
+    }
+
+    /// One of the station's links.
+    pub(crate) fn link(self, link: usize) -> Part {
+        Part::Link {
+            station: self.index,
+            link,
+        }
+    }
+
+    /// One of the station's objects.
+    pub(crate) fn object(self, object: usize) -> Part {
+        Part::Object {
+            device: self.index,
+            object,
+        }
+    }
+}
 
 /// A station's name, which is letters and digits.
 pub(crate) fn name_of<A: Allocator>(station: &Station<A>) -> &str {

@@ -1,11 +1,12 @@
 //! What is told, each on a line of its own.
 
-use crate::shown::{Common, Row};
+use crate::part::Subject;
+use crate::shown::{Common, Named, Row};
 use profile::{
     MAX_DEVICES, MAX_FOREIGN_DEVICES, MAX_NETWORKS, MAX_OBJECTS, MAX_PEERS, MAX_TEXT_OCTETS,
 };
-use std::io;
 use std::io::Write;
+use std::{fmt, io};
 use thiserror::Error;
 
 /// The most broadcast managers of a network: each has the others as peers.
@@ -36,43 +37,43 @@ pub(crate) enum Told<'a> {
     NoOrder,
 
     #[error("bbmd {0} is on a network of kind mstp")]
-    ManagerOnBus(&'a str),
+    ManagerOnBus(Named<'a>),
     #[error("router {0} has fewer than two ports")]
-    FewPorts(&'a str),
+    FewPorts(Named<'a>),
     #[error("router {router} has two ports on network {network}")]
     SamePort {
-        router: &'a str,
+        router: Named<'a>,
         network: u16,
     },
 
     #[error("{station} is on network {network}, which is not there")]
     NoSuchNetwork {
-        station: &'a str,
+        station: Named<'a>,
         network: u16,
     },
     #[error("{station} has an address on network {network}, which is of kind mstp")]
     AddressOnBus {
-        station: &'a str,
+        station: Named<'a>,
         network: u16,
     },
     #[error("{station} has a MAC on network {network}, which is of kind ip")]
     MacOnIp {
-        station: &'a str,
+        station: Named<'a>,
         network: u16,
     },
     #[error("{0} is on no subnet from 1 to 255, or has no MAC from 0 to 127")]
-    NoPlace(&'a str),
+    NoPlace(Named<'a>),
 
     #[error("there are {0} devices, more than {MAX_DEVICES}")]
     ManyDevices(usize),
     #[error("device {device} has {count} objects, more than {MAX_OBJECTS}")]
     ManyObjects {
-        device: &'a str,
+        device: Named<'a>,
         count: usize,
     },
     #[error("device {device}: objects {first} and {second} are both {kind}:{instance}")]
     SameObject {
-        device: &'a str,
+        device: Named<'a>,
         first: usize,
         second: usize,
         kind: u16,
@@ -80,47 +81,47 @@ pub(crate) enum Told<'a> {
     },
     #[error("device {device}: objects {first} and {second} have the same name")]
     SameObjectName {
-        device: &'a str,
+        device: Named<'a>,
         first: usize,
         second: usize,
     },
     #[error("device {device}: object {object} has the device's name")]
     DeviceName {
-        device: &'a str,
+        device: Named<'a>,
         object: usize,
     },
     #[error("device {device}: the {text} of object {object} has more than {MAX_TEXT_OCTETS} octets")]
     LongText {
-        device: &'a str,
+        device: Named<'a>,
         object: usize,
         text: &'static str,
     },
     #[error("device {0} has objects that no device may have")]
-    NoDevice(&'a str),
+    NoDevice(Named<'a>),
 
     #[error("two stations have {common}: {first} and {second}")]
     SameMark {
         common: Common,
-        first: &'a str,
-        second: &'a str,
+        first: Named<'a>,
+        second: Named<'a>,
     },
     #[error("router {router} has {common} twice")]
     MarkTwice {
         common: Common,
-        router: &'a str,
+        router: Named<'a>,
     },
     #[error("{common} has two bbmds: {first} and {second}")]
     TwoManagers {
         common: Common,
-        first: &'a str,
-        second: &'a str,
+        first: Named<'a>,
+        second: Named<'a>,
     },
 
     #[error("network {network} has several subnets, and subnet {subnet}, where {station} is, has no bbmd")]
     NoManager {
         network: u16,
         subnet: u8,
-        station: &'a str,
+        station: Named<'a>,
     },
     #[error("network {network} has {count} bbmds, more than {MAX_MANAGERS}")]
     ManyManagers {
@@ -129,17 +130,17 @@ pub(crate) enum Told<'a> {
     },
     #[error("{station} registers at {manager}, which is no bbmd")]
     NoHost {
-        station: &'a str,
+        station: Named<'a>,
         manager: &'a str,
     },
     #[error("{station} registers at {manager}, which is not on network {network}")]
     HostElsewhere {
-        station: &'a str,
+        station: Named<'a>,
         manager: &'a str,
         network: u16,
     },
     #[error("{0} registers for less than a second")]
-    NoTime(&'a str),
+    NoTime(Named<'a>),
     #[error("{count} stations register at {manager}, more than {MAX_FOREIGN_DEVICES}")]
     ManyBeyond {
         manager: &'a str,
@@ -153,12 +154,59 @@ pub(crate) enum Told<'a> {
     },
     #[error("router {router} closes a ring with its port on network {network}")]
     Ring {
-        router: &'a str,
+        router: Named<'a>,
         network: u16,
     },
 }
 
-/// Prints on a line what is told.
-pub(crate) fn tell<W: Write>(told: Told<'_>, out: &mut W) -> io::Result<()> {
-    writeln!(out, "{told}")
+/// A fault of a site. It prints as a sentence.
+#[derive(Clone, Copy, Debug)]
+pub struct Fault<'a> {
+    pub(crate) told: Told<'a>,
+    /// What it is about; of two parts that may not both be there, the second.
+    pub subject: Subject,
+    /// The first of two such parts.
+    pub first: Option<Subject>,
+}
+
+impl fmt::Display for Fault<'_> {
+    fn fmt<W: fmt::Write>(&self, f: &mut fmt::Formatter<W>) -> fmt::Result {
+        write!(f, "{}", self.told)
+    }
+}
+
+impl<'a> Told<'a> {
+    /// What is told, of a part.
+    pub(crate) fn of(self, subject: Subject) -> Fault<'a> {
+        Fault {
+            told: self,
+            subject,
+            first: None,
+        }
+    }
+
+    /// What is told, of two parts.
+    pub(crate) fn of_both(self, first: Subject, second: Subject) -> Fault<'a> {
+        Fault {
+            told: self,
+            subject: second,
+            first: Some(first),
+        }
+    }
+}
+
+/// Who is told of faults.
+pub trait Listener {
+    /// Tells of a fault.
+    ///
+    /// # Errors
+    /// A failed write, and want of memory (`OutOfMemory`).
+    fn tell(&mut self, fault: Fault<'_>) -> io::Result<()>;
+}
+
+/// A writer has each fault on a line of its own.
+impl<W: Write> Listener for W {
+    fn tell(&mut self, fault: Fault<'_>) -> io::Result<()> {
+        writeln!(self, "{fault}")
+    }
 }

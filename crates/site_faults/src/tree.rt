@@ -3,23 +3,23 @@
 ghost use Rattle.std.specs.Prelude.{◌↔◌, IfOk, IsTrue};
 ghost use Rattle.site_faults.specs.Linked.{IsLinkedTree};
 
+use crate::part::Part;
 use crate::roles::has_port_on;
-use crate::shown::name_of;
-use crate::told::{Told, tell};
+use crate::shown::Named;
+use crate::told::{Listener, Told};
 use site::are_linked;
 use site_parts::{Link, Network, Station};
 use site_tree::is_one_tree;
 use std::alloc::{AllocError, Allocator};
 use std::io;
-use std::io::Write;
 
 /// Whether each place is on a network that is there, and networks and routers form one tree (3.2). What is wrong with
 /// the tree is told; with a place off all networks there is none.
-pub(crate) fn tell_tree<A: Allocator + Copy, W: Write>(
+pub(crate) fn tell_tree<A: Allocator + Copy, L: Listener>(
     alloc: A,
     networks: &[Network],
     stations: &[Station<A>],
-    out: &mut W,
+    out: &mut L,
 ) -> io::Result<bool>
     ensures { IfOk result (λ b. IsTrue b ↔ IsLinkedTree networks.now stations.now) }
 {
@@ -41,15 +41,20 @@ struct Joined {
 }
 
 /// Tells each port that closes a ring, and each network to which no router leads from the first.
-fn tell_no_tree<A: Allocator + Copy, W: Write>(
+fn tell_no_tree<A: Allocator + Copy, L: Listener>(
     alloc: A,
     networks: &[Network],
     stations: &[Station<A>],
-    out: &mut W,
+    out: &mut L,
 ) -> io::Result<()> {
     let mut all = each_apart(alloc, networks)?;
-    for station in stations {
-        join_ports(name_of(station), station.role.ports(), &mut all, out)?;
+    for (index, station) in stations.iter().enumerate() {
+        join_ports(
+            Named::at(index, station),
+            station.role.ports(),
+            &mut all,
+            out,
+        )?;
     }
     tell_apart(all.as_slice(), out)
 }
@@ -67,11 +72,11 @@ fn each_apart<A: Allocator>(alloc: A, networks: &[Network]) -> Result<Vec<Joined
 }
 
 /// Joins the networks of a router's ports, and tells each port whose network is joined to those before already.
-fn join_ports<W: Write>(
-    router: &str,
+fn join_ports<L: Listener>(
+    router: Named<'_>,
     ports: &[Link],
     all: &mut [Joined],
-    out: &mut W,
+    out: &mut L,
 ) -> io::Result<()> {
     let [first, ..] = ports else {
         return Ok(());
@@ -81,7 +86,8 @@ fn join_ports<W: Write>(
         if !has_port_on(network, &ports[..at]) {
             let is_new = join(first.network(), network, all);
             if at > 0 && !is_new {
-                tell(Told::Ring { router, network }, out)?;
+                let port = router.link(at);
+                out.tell(Told::Ring { router, network }.of(port.key("network")))?;
             }
         }
     }
@@ -109,19 +115,17 @@ fn group_of(network: u16, all: &[Joined]) -> u16 {
 }
 
 /// Tells each network that is not joined to the first.
-fn tell_apart<W: Write>(all: &[Joined], out: &mut W) -> io::Result<()> {
+fn tell_apart<L: Listener>(all: &[Joined], out: &mut L) -> io::Result<()> {
     let [first, others @ ..] = all else {
         return Ok(());
     };
-    for other in others {
+    for (at, other) in others.iter().enumerate() {
         if other.group != first.group {
-            tell(
-                Told::Apart {
-                    first: first.network,
-                    network: other.network,
-                },
-                out,
-            )?;
+            let told = Told::Apart {
+                first: first.network,
+                network: other.network,
+            };
+            out.tell(told.of(Part::Network(at.saturating_add(1)).whole()))?;
         }
     }
     Ok(())

@@ -4,19 +4,23 @@
 //! To the layer above it promises the exact text of each line, and that a line is printed for each entry, in their
 //! order.
 //!
-//! - `printed`: the lines, without their ends.
+//! - `printed`: the lines, without their ends. `event_line`: an event as the line of a script.
 //! - `counting`: what the last line counts.
-//! - `printing`: entries and refusals, each on a line.
+//! - `lines`: entries and refusals, each on a line.
 //! - `stop`: why nothing runs.
 #![tactic(auto)]
 
 mod counting;
+mod event_line;
+mod lines;
 mod printed;
-mod printing;
 mod stop;
 
 pub use console::say_failed;
 pub use counting::{Counts, counted};
+pub use event_line::{AskedFor, EventLine};
+pub use lines::{
+    print_entries, print_refusal, print_refused_asked, print_refused_event, print_refused_time,
+};
 pub use printed::{EndLine, EntryLine, RefusedLine};
-pub use printing::{print_entries, print_refusal};
 pub use stop::{Stop, say_stop};

@@ -11,7 +11,7 @@ use ladder::{Anchor, Arrow, Mark, Note, Row};
 use mstp_frame::Frame;
 use npdu::Mac;
 use site_parts::Station;
-use site_steps::{EntryLine, Event, World, WorldEntry};
+use site_steps::{EntryLine, Event, Spelling, World, WorldEntry};
 use std::alloc::{AllocError, Allocator};
 use tags::{Fault, Octets};
 use traffic::Item;
@@ -239,7 +239,13 @@ impl<A: Allocator + Copy> Gathering<A> {
         if !self.part.has(moment) {
             return Ok(());
         }
-        let line = format!(in self.alloc; "{}", EntryLine { entry, stations })?;
+        let shown = EntryLine {
+            entry,
+            history: world.history(),
+            stations,
+            spelling: Spelling::Numbers,
+        };
+        let line = format!(in self.alloc; "{shown}")?;
         let (_, text) = line.split_once(' ').unwrap_or(("", line.as_str()));
         let text = String::from_str(self.alloc, text)?;
         self.put_row(moment, Mark::Note(Note { lane, text }))

@@ -1,6 +1,6 @@
 //! What stands at an arrow, from the headers of a message: the service or the type, and the invoke ID.
 
-use crate::names::{ConfirmedName, MessageName, TypeName, UnconfirmedName, function_name};
+use crate::header_names::{ConfirmedName, MessageName, TypeName, UnconfirmedName, function_name};
 use apdu::{Apdu, PduType, Segment};
 use bvll::Bvll;
 use ladder::Kind;

@@ -7,18 +7,18 @@
 //! - `drawing`: the two calls. `part`: which moments of a run they show.
 //! - `gathering`: what happens in a run, row behind row. `putting`: what is put out. `hearing`: frames that are heard.
 //! - `lanes`: the stations of a site as lanes.
-//! - `labels`, `names`: what stands at an arrow, from the headers of a message.
-//! - `page`, `messages`: the page, and what it says of each message.
+//! - `labels`, `header_names`: what stands at an arrow, from the headers of a message.
+//! - `page`, `page_messages`: the page, and what it says of each message.
 #![tactic(auto)]
 
 mod drawing;
 mod gathering;
+mod header_names;
 mod hearing;
 mod labels;
 mod lanes;
-mod messages;
-mod names;
 mod page;
+mod page_messages;
 mod part;
 mod putting;
 

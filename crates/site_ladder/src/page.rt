@@ -1,7 +1,7 @@
 //! The page of a run: HTML that needs no other file and no script.
 
 use crate::gathering::Gathering;
-use crate::messages::{write_datagrams, write_frames};
+use crate::page_messages::{write_datagrams, write_frames};
 use crate::part::Part;
 use ladder::{Escaped, Ladder, Links, Mark, Note, Row, write_svg};
 use site_steps::{EndLine, World, counted};
@@ -69,7 +69,7 @@ fn write_history<A: Allocator, W: Write>(ladder: &Ladder<A>, out: &mut W) -> io:
     writeln!(out, "<h2>History</h2>\n<table>")?;
     writeln!(
         out,
-        "<tr><th class=\"moment\">Moment (ms)</th><th>Station</th><th>Entry</th></tr>"
+        "<tr><th class=\"moment\">Time (ms)</th><th>Station</th><th>Event</th></tr>"
     )?;
     for row in &ladder.rows {
         write_entry(row, ladder.lanes.as_slice(), out)?;

@@ -1,33 +1,35 @@
 -- Frames are heard, one after another.
-use Rattle.std.proofs.Common.{◌≡◌, inl, inr, subst, [], Some, Err}
+use Rattle.std.proofs.Common.{◌≡◌, inl, inr, subst, [], None, Some, Err}
 use Rattle.runner.proofs.HearingLaws.{next_less, passed_less}
 use Rattle.runner.specs.Hearing.{HearsNext, IsNextHear}
 use Rattle.runner.specs.declared.hearing.Heard.{Heard}
 use Rattle.runner.specs.internetwork.World.{WorldState}
 use Rattle.runner.specs.internetwork.declared.event.Event.{Event}
 use Rattle.runner.specs.Runner.{RunnerState}
-use Rattle.site_history.specs.Printed.{Known}
+use Rattle.site_history.specs.Printed.{Known, refused_text}
 use Rattle.site_live.proofs.LiveLaws.{lives_none, lives_on, memory_refused, one_refusal}
 use Rattle.site_live.specs.Running.{HasEmptyEar, Lives, PrintsNothing, meets_nobody}
 use Rattle.site_live.specs.Steps.{asked_in}
 use Rattle.tags.specs.declared.fault.Fault.{Fault}
+use Rattle.words.specs.printing.declared.spelling.Spelling.{Spelling}
 
 -- that a station hears a frame, nobody asked for
-pub hears_unasked : {A : Type 0} (e : Event A) (w : WorldState A) (h i : Heard) (old new : RunnerState A)
-    (before after : Known) → HearsNext e w h i → Lives (asked_in (Some e)) old new before after →
-    Lives [] old new before after
-hears_unasked e w h i old new before after next p =
-    subst (λ (d : Event _). Lives (asked_in (Some d)) old new before after) next.hears.event p
+pub hears_unasked : {A : Type 0} {spelling : Spelling} (e : Event A) (w : WorldState A) (h i : Heard) (old new : RunnerState A)
+    (before after : Known) → HearsNext e w h i → Lives spelling (asked_in (Some e)) old new before after →
+    Lives spelling [] old new before after
+hears_unasked {A} {spelling} e w h i old new before after next p =
+    subst (λ (d : Event _). Lives spelling (asked_in (Some d)) old new before after) next.hears.event p
 
 -- why no frame is heard, is a cause
-pub hearing_refused : {A : Type 0} (fault : Fault) (w : WorldState A) (h i : Heard) (old new : RunnerState A)
+pub hearing_refused : {A : Type 0} {spelling : Spelling} (fault : Fault) (w : WorldState A) (h i : Heard) (old new : RunnerState A)
     (before after : Known) → w ≡ old.world → IsNextHear w h i (Err fault) →
-    PrintsNothing fault old new before after → Lives [] old new before after
-hearing_refused fault w h i old new before after is (inl memory) p =
-    memory_refused old new before after (subst (λ (f : Fault). PrintsNothing f old new before after) memory.0 p)
-hearing_refused {A} fault w h i old new before after is (inr nobody) p =
-    one_refusal meets_nobody old new before after
+    PrintsNothing (refused_text fault old.world.moment) old new before after → Lives spelling [] old new before after
+hearing_refused {A} {spelling} fault w h i old new before after is (inl memory) p =
+    memory_refused old new before after
+    (subst (λ (f : Fault). PrintsNothing (refused_text f old.world.moment) old new before after) memory.0 p)
+hearing_refused {A} {spelling} fault w h i old new before after is (inr nobody) p =
+    one_refusal meets_nobody None old new before after
     (subst (λ (x : WorldState A). HasEmptyEar x) is (record { heard = h; next = i; nobody = nobody.1 }))
-    (subst (λ (f : Fault). PrintsNothing f old new before after) nobody.0 p)
+    (subst (λ (f : Fault). PrintsNothing (refused_text f old.world.moment) old new before after) nobody.0 p)
 
 pub ruleset hear_laws = (lives_none, lives_on, next_less, passed_less, hears_unasked, hearing_refused)

@@ -32,3 +32,4 @@ pub use site_history::{Stop, say_stop};
 pub use step::LiveStep;
 pub use timer::{SystemTimer, Timer};
 pub use wire::Got;
+pub use words::Spelling;

@@ -18,6 +18,7 @@ use bvll::Address;
 use console::{say_failed, say_refused};
 use npdu::Mac;
 use runner::{Runner, World};
+use script::LineNumbers;
 use site_history::{EndLine, Stop, counted, say_stop};
 use site_parts::Station;
 use site_text::site_of;
@@ -29,6 +30,7 @@ use std::net::Net;
 use std::time::Clock;
 use tags::{Fault, Items};
 use wire::{UdpWire, Wire};
+use words::Spelling;
 
 /// When a live run ends.
 #[derive(Clone, Copy, Debug, PartialEq, Eq)]
@@ -47,22 +49,27 @@ pub struct Settings {
     /// Whether stations hear what nobody of the site sent.
     pub is_open: bool,
     pub ending: Ending,
+    /// The standard's numbers, or its names.
+    pub spelling: Spelling,
 }
 
 /// A world as it opens, the steps that are to be taken in it, and the addresses of its stations. It is not dropped: its
 /// world is closed.
-pub struct Opened<A: Allocator + Copy> {
+pub struct Opened<'s, A: Allocator + Copy> {
     pub world: World<A>,
     pub steps: Items<LiveStep<A>, A>,
+    /// The numbers of the lines that ask for the steps.
+    pub lines: LineNumbers<'s>,
     pub addresses: Items<Address, A>,
 }
 
-impl<A: Allocator + Copy> Opened<A> {
+impl<A: Allocator + Copy> Opened<'_, A> {
     /// Lets go of it.
     fn close(self) {
         let Opened {
             world,
             steps: _steps,
+            lines: _lines,
             addresses: _addresses,
         } = self;
         world.close()
@@ -74,12 +81,12 @@ impl<A: Allocator + Copy> Opened<A> {
 /// # Errors
 /// `BadSite` for a text that describes no site; the first line that asks for nothing that a live run takes; or
 /// `Memory`.
-pub fn open<A: Allocator + Copy>(
+pub fn open<'s, A: Allocator + Copy>(
     reading: Global,
     alloc: A,
     site: &[u8],
-    script: &[u8],
-) -> Result<Opened<A>, Stop>
+    script: &'s [u8],
+) -> Result<Opened<'s, A>, Stop>
     ensures opened { IfOk result (λ o. IsOpened site.now o.world) }
     ensures said { IfOk result (λ o. SaysLive script.now o.steps) }
     ensures sound { IfOk result (λ o. AllByRecursion IsSoundLiveStep o.steps) }
@@ -91,6 +98,7 @@ pub fn open<A: Allocator + Copy>(
         Ok(steps) => Ok(Opened {
             world,
             steps,
+            lines: LineNumbers::of(script),
             addresses,
         }),
         Err(stop) => {
@@ -122,7 +130,7 @@ fn addresses_of<A: Allocator + Copy>(
 #[tactic(auto, using(crate::proofs::LiveLaws::run_laws))]
 pub fn run<W: Wire + Drop, T: Timer + Drop, S: Observer<A> + Drop, A: Allocator + Copy, O: Write>(
     alloc: A,
-    opened: Opened<A>,
+    opened: Opened<'_, A>,
     settings: Settings,
     wire: W,
     timer: T,
@@ -130,16 +138,17 @@ pub fn run<W: Wire + Drop, T: Timer + Drop, S: Observer<A> + Drop, A: Allocator 
     out: &mut O,
 ) -> io::Result<()>
     requires sound { AllByRecursion IsSoundLiveStep opened.steps }
-    ensures { OnOk result (PrintsLiveRun settings.is_open opened.steps opened.world
+    ensures { OnOk result (PrintsLiveRun settings.spelling settings.is_open opened.entry.steps opened.entry.world
         (O.contents out.old) (O.contents out.new)) }
 {
     let Opened {
         world,
         steps,
+        lines,
         addresses: _addresses,
     } = opened;
     let mut live = Live::new(alloc, world, settings.is_open, wire, timer, observer)?;
-    let printed = print_all(&mut live, steps, settings.ending, out);
+    let printed = print_all(&mut live, steps, lines, settings, out);
     live.close();
     printed
 }
@@ -149,15 +158,16 @@ pub fn run<W: Wire + Drop, T: Timer + Drop, S: Observer<A> + Drop, A: Allocator 
 fn print_all<W: Wire + Drop, T: Timer + Drop, S: Observer<A> + Drop, A: Allocator + Copy, O: Write>(
     live: &mut Live<W, T, S, A>,
     steps: Items<LiveStep<A>, A>,
-    ending: Ending,
+    lines: LineNumbers<'_>,
+    settings: Settings,
     out: &mut O,
 ) -> io::Result<()>
     requires sound { AllByRecursion IsSoundLiveStep steps }
     requires begins { live.old ≡ begun live.old.is_open live.old.world }
-    ensures { OnOk result (PrintsLiveRun live.old.is_open steps live.old.world
+    ensures { OnOk result (PrintsLiveRun settings.spelling live.old.is_open steps live.old.world
         (O.contents out.old) (O.contents out.new)) }
 {
-    take_all(live, steps, ending, out)?;
+    take_all(live, steps, lines, settings, out)?;
     print_end(live.runner(), out)
 }
 
@@ -165,19 +175,21 @@ fn print_all<W: Wire + Drop, T: Timer + Drop, S: Observer<A> + Drop, A: Allocato
 fn take_all<W: Wire + Drop, T: Timer + Drop, S: Observer<A> + Drop, A: Allocator + Copy, O: Write>(
     live: &mut Live<W, T, S, A>,
     steps: Items<LiveStep<A>, A>,
-    ending: Ending,
+    lines: LineNumbers<'_>,
+    settings: Settings,
     out: &mut O,
 ) -> io::Result<()>
     requires sound { AllByRecursion IsSoundLiveStep steps }
-    ensures lives { OnOk result (Lives (asked_of steps) live.old live.new (O.contents out.old) (O.contents out.new)) }
+    ensures lives { OnOk result
+        (Lives settings.spelling (asked_of steps) live.old live.new (O.contents out.old) (O.contents out.new)) }
     ensures events { OnOk result (AreEventsIfLed live.old live.new) }
 {
-    live.take_round(out)?;
-    take_steps(live, steps, out)?;
-    go_on(live, ending, out)
+    live.take_round(settings.spelling, out)?;
+    take_steps(live, steps, lines, settings.spelling, out)?;
+    go_on(live, settings, out)
 }
 
-/// Takes steps in their order.
+/// Takes steps in their order, which lines of a script ask for that have these numbers.
 #[tactic(auto, using(crate::proofs::LiveLaws::step_laws))]
 fn take_steps<
     W: Wire + Drop,
@@ -185,12 +197,21 @@ fn take_steps<
     S: Observer<A> + Drop,
     A: Allocator + Copy,
     O: Write,
->(live: &mut Live<W, T, S, A>, steps: Items<LiveStep<A>, A>, out: &mut O) -> io::Result<()>
+>(
+    live: &mut Live<W, T, S, A>,
+    steps: Items<LiveStep<A>, A>,
+    lines: LineNumbers<'_>,
+    spelling: Spelling,
+    out: &mut O,
+) -> io::Result<()>
     requires sound { AllByRecursion IsSoundLiveStep steps }
-    ensures { OnOk result (Lives (asked_of steps) live.old live.new (O.contents out.old) (O.contents out.new)) }
+    ensures { OnOk result
+        (Lives spelling (asked_of steps) live.old live.new (O.contents out.old) (O.contents out.new)) }
 {
+    let mut lines = lines;
     for step in steps.into_vec() {
-        live.take_step(step, out)?;
+        let line = lines.next();
+        live.take_step(step, line, spelling, out)?;
     }
     Ok(())
 }
@@ -199,15 +220,16 @@ fn take_steps<
 #[tactic(auto, using(crate::proofs::LiveLaws::live_laws))]
 fn go_on<W: Wire + Drop, T: Timer + Drop, S: Observer<A> + Drop, A: Allocator + Copy, O: Write>(
     live: &mut Live<W, T, S, A>,
-    ending: Ending,
+    settings: Settings,
     out: &mut O,
 ) -> io::Result<()>
-    ensures { OnOk result (Lives [] live.old live.new (O.contents out.old) (O.contents out.new)) }
+    ensures { OnOk result (Lives settings.spelling [] live.old live.new (O.contents out.old) (O.contents out.new)) }
 {
-    match ending {
+    let spelling = settings.spelling;
+    match settings.ending {
         Ending::WithScript => Ok(()),
-        Ending::After { seconds } => live.let_pass(seconds.saturating_mul(1000), out),
-        Ending::Never => live.let_pass(u64::MAX, out),
+        Ending::After { seconds } => { live.let_pass(seconds.saturating_mul(1000), spelling, out) },
+        Ending::Never => live.let_pass(u64::MAX, spelling, out),
     }
 }
 
@@ -238,7 +260,7 @@ pub fn run_over_udp<R: Net + Clock, A: Allocator + Copy, O: Write, E: Write>(
 ) -> u8
     ensures status { result ≤ 1 }
     ensures runs { result ≡ 0
-        → RunsLive A settings.is_open site.now script.now (O.contents out.old) (O.contents out.new) }
+        → RunsLive A settings.spelling settings.is_open site.now script.now (O.contents out.old) (O.contents out.new) }
 {
     run_over_udp_observed(rt, reading, alloc, site, script, settings, Nobody, out, err)
 }
@@ -263,7 +285,7 @@ pub fn run_over_udp_observed<
 ) -> u8
     ensures status { result ≤ 1 }
     ensures runs { result ≡ 0
-        → RunsLive A settings.is_open site.now script.now (O.contents out.old) (O.contents out.new) }
+        → RunsLive A settings.spelling settings.is_open site.now script.now (O.contents out.old) (O.contents out.new) }
 {
     match open(reading, alloc, site, script) {
         Ok(opened) => run_opened(rt, alloc, opened, settings, observer, out, err),
@@ -288,7 +310,7 @@ fn wire_of<'a, R: Net + Clock, A: Allocator + Copy>(
 fn run_opened<R: Net + Clock, S: Observer<A> + Drop, A: Allocator + Copy, O: Write, E: Write>(
     rt: &R,
     alloc: A,
-    opened: Opened<A>,
+    opened: Opened<'_, A>,
     settings: Settings,
     observer: S,
     out: &mut O,
@@ -297,7 +319,8 @@ fn run_opened<R: Net + Clock, S: Observer<A> + Drop, A: Allocator + Copy, O: Wri
     requires sound { AllByRecursion IsSoundLiveStep opened.steps }
     ensures status { result ≤ 1 }
     ensures runs { result ≡ 0
-        → PrintsLiveRun settings.is_open opened.steps opened.world (O.contents out.old) (O.contents out.new) }
+        → PrintsLiveRun settings.spelling settings.is_open opened.entry.steps opened.entry.world (O.contents out.old)
+        (O.contents out.new) }
 {
     match wire_of(rt, alloc, opened.addresses.as_slice()) {
         Ok((wire, timer)) => {

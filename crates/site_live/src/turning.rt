@@ -1,37 +1,45 @@
 //! What is printed of a turn.
 
-ghost use Rattle.std.specs.Prelude.{◌≡◌, ◌++◌, OnOk, drop};
+ghost use Rattle.std.specs.Prelude.{◌≡◌, ◌++◌, OnOk, drop, option_map};
 ghost use Rattle.std.specs.Io.KnownBytes.{Appends};
 ghost use Rattle.site_live.specs.Printed.{answer_text, stray_text, turn_text};
 ghost use Rattle.site_history.specs.Printed.{entries_text};
 
 use runner::{Runner, Turned, WorldEntry};
-use site_history::{print_entries, print_refusal};
+use site_history::{AskedFor, print_entries, print_refused_asked};
 use site_parts::Station;
 use std::alloc::Allocator;
 use std::io;
 use std::io::Write;
 use tags::Fault;
+use words::Spelling;
 
 /// Prints what came of a turn, before which the history had so many entries: that a stray was heard, what is new in the
-/// history, and the turn's refusal.
+/// history, and the turn's refusal with what is told of its event.
 ///
 /// # Errors
 /// Those of writing.
 #[tactic(auto, using(crate::proofs::PrintLaws::turn_laws))]
 pub(crate) fn print_turn<A: Allocator + Copy, W: Write>(
+    spelling: Spelling,
     runner: &Runner<A>,
     entries: usize,
+    asked: Option<&AskedFor<A>>,
     answer: Result<Turned, Fault>,
     out: &mut W,
 ) -> io::Result<()>
-    ensures { OnOk result (Appends (W.contents out.old) (W.contents out.new) (turn_text answer entries runner.now)) }
+    ensures { OnOk result (Appends (W.contents out.old) (W.contents out.new)
+        (turn_text spelling (option_map (λ a. a.now) asked.entry) answer entries runner.now)) }
 {
     let world = runner.world();
+    let history = runner.history();
     print_told(
+        spelling,
         world.site().stations(),
         runner.strayed(),
-        behind(runner.history(), entries),
+        history,
+        behind(history, entries),
+        asked,
         answer,
         world.moment(),
         out,
@@ -40,19 +48,23 @@ pub(crate) fn print_turn<A: Allocator + Copy, W: Write>(
 
 /// Prints the lines of a turn, each on its way out then.
 fn print_told<A: Allocator, W: Write>(
+    spelling: Spelling,
     stations: &[Station<A>],
     strayed: bool,
+    history: &[WorldEntry<A>],
     entries: &[WorldEntry<A>],
+    asked: Option<&AskedFor<A>>,
     answer: Result<Turned, Fault>,
     moment: u64,
     out: &mut W,
 ) -> io::Result<()>
     ensures { OnOk result (Appends (W.contents out.old) (W.contents out.new) (stray_text strayed moment
-        ++ (entries_text stations.now entries.now ++ answer_text answer moment))) }
+        ++ (entries_text spelling stations.now history.now entries.now
+        ++ answer_text (option_map (λ a. a.now) asked.entry) answer moment))) }
 {
     print_stray(strayed, moment, out)?;
-    print_entries(stations, entries, out)?;
-    print_answer(answer, moment, out)?;
+    print_entries(spelling, stations, history, entries, out)?;
+    print_answer(asked, answer, moment, out)?;
     out.flush()
 }
 
@@ -70,12 +82,18 @@ fn print_stray<W: Write>(strayed: bool, moment: u64, out: &mut W) -> io::Result<
 
 /// Prints that a turn was refused, if it was.
 #[tactic(auto, using(crate::proofs::PrintLaws::none_laws))]
-fn print_answer<W: Write>(answer: Result<Turned, Fault>, moment: u64, out: &mut W) -> io::Result<()>
-    ensures { OnOk result (Appends (W.contents out.old) (W.contents out.new) (answer_text answer moment)) }
+fn print_answer<A: Allocator, W: Write>(
+    asked: Option<&AskedFor<A>>,
+    answer: Result<Turned, Fault>,
+    moment: u64,
+    out: &mut W,
+) -> io::Result<()>
+    ensures { OnOk result (Appends (W.contents out.old) (W.contents out.new)
+        (answer_text (option_map (λ a. a.now) asked.entry) answer moment)) }
 {
     match answer {
         Ok(_) => Ok(()),
-        Err(fault) => print_refusal(fault, moment, out),
+        Err(fault) => print_refused_asked(asked, fault, moment, out),
     }
 }
 

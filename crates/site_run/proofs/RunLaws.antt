@@ -1,5 +1,5 @@
 -- What is printed, one thing after another.
-use Rattle.std.proofs.Common.{◌≡◌, refl, sym, ap, subst, arith, ℕ, ◌+◌, ◌-◌, ◌≤◌, List, [], ◌∷◌, ◌++◌, Option, Some, None, Result, Ok, Err, IfOk, OnOk, OnErr, drop, length, inl, inr}
+use Rattle.std.proofs.Common.{◌≡◌, refl, sym, ap, subst, arith, ℕ, ◌+◌, ◌-◌, ◌≤◌, List, [], ◌∷◌, ◌++◌, Option, Some, None, Result, Ok, Err, IfOk, OnOk, OnErr, drop, length, inl, inr, slice_get}
 use Rattle.std.specs.Io.KnownBytes.{Appends}
 use Rattle.std.specs.List.{AllByRecursion}
 use Rattle.bus_traffic.specs.Bus.{BusState}
@@ -16,8 +16,9 @@ use Rattle.simulator.specs.internetwork.World.{WorldState}
 use Rattle.simulator.specs.internetwork.declared.event.Event.{Event}
 use Rattle.simulator.specs.internetwork.declared.event.Event.TheVariants as event
 use Rattle.site_parts.specs.declared.parts.Station.{Station}
-use Rattle.site_history.specs.Printed.{entries_text, line, refused_text}
-use Rattle.site_run.specs.Running.{Known, PrintsAll, PrintsEvent, PrintsEvents, PrintsGrowth, PrintsRefused, PrintsStep, PrintsSteps, PrintsTicks, told, trace_text}
+use Rattle.site_history.specs.Asked.{refused_time_text}
+use Rattle.site_history.specs.Printed.{entries_text, line}
+use Rattle.site_run.specs.Running.{Known, PrintsAll, PrintsEvent, PrintsEvents, PrintsGrowth, PrintsRefused, PrintsStep, PrintsSteps, PrintsTicks, at_line, told, trace_text}
 use Rattle.site_run.specs.declared.running.Telling.{Telling}
 use Rattle.site_trace.specs.Lines.{frames_text, items_text}
 pub use Rattle.site_trace.proofs.TraceLaws.{appends_more, appends_nothing, texts_from}
@@ -32,9 +33,10 @@ none_left (x ∷ xs) e = absurd (omega (arith, e))
 
 module _ {A : Type 0} where
   -- a step before others
-  pub step_before : (t : Telling) (s : Step A) (ss : List (Step A)) (w u v : WorldState A) (old mid new : Known) →
-      PrintsStep t s w u old mid → PrintsSteps t ss u v mid new → PrintsSteps t (s ∷ ss) w v old new
-  step_before t s ss w u v old mid new first rest = record { middle = u; at_middle = mid; first = first; rest = rest }
+  pub step_before : (t : Telling) (ls : List ℕ) (s : Step A) (ss : List (Step A)) (w u v : WorldState A)
+      (old mid new : Known) → PrintsStep (at_line (slice_get ls 0) t) s w u old mid →
+      PrintsSteps t (drop 1 ls) ss u v mid new → PrintsSteps t ls (s ∷ ss) w v old new
+  step_before t ls s ss w u v old mid new first rest = record { middle = u; at_middle = mid; first = first; rest = rest }
 
   -- an event before others
   pub event_before : (t : Telling) (e : Event A) (es : List (Event A)) (w u v : WorldState A) (old mid new : Known) →
@@ -43,17 +45,19 @@ module _ {A : Type 0} where
 
   -- what was put out, and then entries
   pub growth_printed : {T E : Type 0} (r : Result T E) (t : Telling) (items frames entries : ℕ) (v : WorldState A)
-      (stations : List (Station A)) (es : List (Entry npdu.Station (Request A) (Reply A))) (old mid new : Known) →
-      stations ≡ v.site.stations → es ≡ drop entries v.history → Appends old mid (told t items frames v) →
-      OnOk r (Appends mid new (entries_text stations es)) → OnOk r (PrintsGrowth t items frames entries v old new)
-  growth_printed (Ok x) t items frames entries v stations es old mid new s e p q = record {
+      (stations : List (Station A)) (h es : List (Entry npdu.Station (Request A) (Reply A))) (old mid new : Known) →
+      stations ≡ v.site.stations → h ≡ v.history → es ≡ drop entries h → Appends old mid (told t.told items frames v) →
+      OnOk r (Appends mid new (entries_text t.spelling stations h es)) → OnOk r (PrintsGrowth t items frames entries v old new)
+  growth_printed (Ok x) t items frames entries v stations h es old mid new s k e p q = record {
     at_entries = mid;
     trace_printed = p;
     entries_printed = subst (λ (l : List (Entry npdu.Station (Request A) (Reply A))).
-        Appends mid new (entries_text v.site.stations l)) e
-        (subst (λ (l : List (Station A)). Appends mid new (entries_text l es)) s q);
+        Appends mid new (entries_text t.spelling v.site.stations l (drop entries l))) k
+        (subst (λ (l : List (Entry npdu.Station (Request A) (Reply A))).
+        Appends mid new (entries_text t.spelling v.site.stations h l)) e
+        (subst (λ (l : List (Station A)). Appends mid new (entries_text t.spelling l h es)) s q));
   }
-  growth_printed (Err x) t items frames entries v stations es old mid new s e p q = tt
+  growth_printed (Err x) t items frames entries v stations h es old mid new s k e p q = tt
 
   -- items, and then frames
   pub trace_printed : {T E : Type 0} (r : Result T E) (items frames : ℕ) (v : WorldState A)
@@ -78,9 +82,10 @@ module _ {A : Type 0} where
   unmoved w v same = let at = ap (λ (u : WorldState A). u.moment) same in omega (arith, at)
 
   -- an event of a flow is refused, and it is no tick, or one that leads beyond the greatest moment
-  refused_passes : (e : Event A) (w v : WorldState A) (old new : Known) → IsOfFlow e → PrintsRefused e w v old new →
+  refused_passes : (t : Telling) (e : Event A) (w v : WorldState A) (old new : Known) → IsOfFlow e →
+      PrintsRefused t e w v old new →
       w.moment + ticks_of e ≤ MAX_MOMENT_MS → v.moment ≡ w.moment + ticks_of e
-  refused_passes (event.Tick n) w v old new one r fits =
+  refused_passes t (event.Tick n) w v old new one r fits =
       elim r.refused [
         | inl memory ↦ absurd (memory.1)
         | inr refuses ↦ elim (refuses.1) [
@@ -91,19 +96,19 @@ module _ {A : Type 0} where
           ]
         ]
       ]
-  refused_passes (event.Deliver number) w v old new of_flow r fits = unmoved w v r.same
-  refused_passes (event.Hear network station octets) w v old new of_flow r fits = unmoved w v r.same
-  refused_passes (event.Wake station) w v old new of_flow r fits = unmoved w v r.same
-  refused_passes (event.Issue client instance request) w v old new of_flow r fits = unmoved w v r.same
-  refused_passes (event.WhoIs client limits) w v old new of_flow r fits = unmoved w v r.same
-  refused_passes (event.Restart station) w v old new of_flow r fits = unmoved w v r.same
-  refused_passes (event.Register station) w v old new of_flow r fits = unmoved w v r.same
+  refused_passes t (event.Deliver number) w v old new of_flow r fits = unmoved w v r.same
+  refused_passes t (event.Hear network station octets) w v old new of_flow r fits = unmoved w v r.same
+  refused_passes t (event.Wake station) w v old new of_flow r fits = unmoved w v r.same
+  refused_passes t (event.Issue client instance request) w v old new of_flow r fits = unmoved w v r.same
+  refused_passes t (event.WhoIs client limits) w v old new of_flow r fits = unmoved w v r.same
+  refused_passes t (event.Restart station) w v old new of_flow r fits = unmoved w v r.same
+  refused_passes t (event.Register station) w v old new of_flow r fits = unmoved w v r.same
 
   -- an event of a flow lets its milliseconds pass, unless they lead beyond the greatest moment
   event_passes : (t : Telling) (e : Event A) (w v : WorldState A) (old new : Known) → IsOfFlow e →
       PrintsEvent t e w v old new → w.moment + ticks_of e ≤ MAX_MOMENT_MS → v.moment ≡ w.moment + ticks_of e
   event_passes t e w v old new of_flow (inl made) fits = steps_pass e w v made.made
-  event_passes t e w v old new of_flow (inr r) fits = refused_passes e w v old new of_flow r fits
+  event_passes t e w v old new of_flow (inr r) fits = refused_passes t e w v old new of_flow r fits
 
   -- .. so do events, one after another
   events_pass : (t : Telling) (es : List (Event A)) (w v : WorldState A) (old new : Known) →
@@ -196,7 +201,7 @@ module _ {A : Type 0} where
   -- no more events, for want of memory, and that is printed
   pub flow_failed : {T E : Type 0} (r : Result T E) (t : Telling) (n left : ℕ) (w u : WorldState A)
       (old at new : Known) (fault : Fault) (moment : ℕ) → IsUnderWay t n left w u old at → fault ≡ Memory →
-      moment ≡ u.moment → OnOk r (Appends at new (line (refused_text fault moment))) →
+      moment ≡ u.moment → OnOk r (Appends at new (line (refused_time_text t.spelling t.line n fault moment))) →
       OnOk r (PrintsAll t n w u old new)
   flow_failed (Ok x) t n left w u old at new fault moment way is same p = inr (record {
     passed = n - left;
@@ -207,8 +212,8 @@ module _ {A : Type 0} where
       first = way.leads (n - left) [] u at (let few = way.few in omega (arith, few)) tt (refl, refl);
       rest = record {
         same = refl;
-        printed = subst (λ (f : Fault). Appends at new (line (refused_text f u.moment))) is
-            (subst (λ (m : ℕ). Appends at new (line (refused_text fault m))) same p);
+        printed = subst (λ (f : Fault). Appends at new (line (refused_time_text t.spelling t.line n f u.moment))) is
+            (subst (λ (m : ℕ). Appends at new (line (refused_time_text t.spelling t.line n fault m))) same p);
       };
     };
   })

@@ -1,5 +1,5 @@
 -- What is printed of the steps of a script, one after another.
-use Rattle.std.specs.Prelude.{◌≡◌, ◌⊎◌, ◌<◌, ◌≤◌, ◌+◌, ℕ, List, [], ◌∷◌, ◌++◌, drop, length}
+use Rattle.std.specs.Prelude.{◌≡◌, ◌⊎◌, ◌<◌, ◌≤◌, ◌+◌, ℕ, List, [], ◌∷◌, ◌++◌, Option, None, drop, length, slice_get}
 use Rattle.std.specs.Io.KnownBytes.{Appends}
 use Rattle.std.specs.List.{AllByRecursion}
 use Rattle.profile.specs.Times.{MAX_MOMENT_MS, MAX_TICK_MS}
@@ -12,12 +12,27 @@ use Rattle.simulator.specs.internetwork.World.{WorldState}
 use Rattle.simulator.specs.internetwork.declared.event.Event.{Event}
 use Rattle.simulator.specs.internetwork.declared.event.Event.TheVariants as event
 pub use Rattle.site_history.specs.Printed.{Known}
-use Rattle.site_history.specs.Printed.{entries_text, line, refused_text}
+use Rattle.site_history.specs.Asked.{refused_asked_text, refused_time_text, told_of}
+use Rattle.site_history.specs.Printed.{entries_text, line}
 use Rattle.site_run.specs.declared.running.Telling.{Telling}
-use Rattle.site_run.specs.declared.running.Telling.TheVariants as telling
+use Rattle.site_run.specs.declared.running.Told.{Told}
+use Rattle.site_run.specs.declared.running.Told.TheVariants as telling
 use Rattle.site_trace.specs.Lines.{frames_text, items_text}
 use Rattle.tags.specs.declared.fault.Fault.{Fault}
 use Rattle.tags.specs.declared.fault.Fault.TheVariants.{Memory, NoSuch}
+use Rattle.words.specs.printing.declared.spelling.Spelling.{Spelling}
+
+-- entries alone are told, so spelled
+abbrev pub entries_in : Spelling → Telling
+entries_in s = record { told = telling.Entries; spelling = s; line = None }
+
+-- all is told, so spelled
+abbrev pub all_in : Spelling → Telling
+all_in s = record { told = telling.All; spelling = s; line = None }
+
+-- the same of what a line of a script asks for
+abbrev pub at_line : Option ℕ → Telling → Telling
+at_line l t = record { told = t.told; spelling = t.spelling; line = l }
 
 -- what was put out behind so many items and frames
 abbrev pub trace_text : {A : Type 0} → (items frames : ℕ) → WorldState A → List ℕ
@@ -26,7 +41,7 @@ trace_text items frames v =
     ++ frames_text v.site.stations frames v.buses.buses v.moment
 
 -- .. where it is told
-abbrev pub told : {A : Type 0} → Telling → (items frames : ℕ) → WorldState A → List ℕ
+abbrev pub told : {A : Type 0} → Told → (items frames : ℕ) → WorldState A → List ℕ
 told telling.Entries items frames v = []
 told telling.All items frames v = trace_text items frames v
 
@@ -34,8 +49,9 @@ told telling.All items frames v = trace_text items frames v
 pub record PrintsGrowth {A : Type 0} (t : Telling) (items frames entries : ℕ) (v : WorldState A) (old new : Known) :
     Type 0 where
   pub at_entries : Known
-  pub trace_printed : Appends old at_entries (told t items frames v)
-  pub entries_printed : Appends at_entries new (entries_text v.site.stations (drop entries v.history))
+  pub trace_printed : Appends old at_entries (told t.told items frames v)
+  pub entries_printed : Appends at_entries new
+      (entries_text t.spelling v.site.stations v.history (drop entries v.history))
 
 -- an event was made, and all that came of it is printed
 pub record PrintsMade {A : Type 0} (t : Telling) (e : Event A) (w v : WorldState A) (old new : Known) : Type 0 where
@@ -43,15 +59,16 @@ pub record PrintsMade {A : Type 0} (t : Telling) (e : Event A) (w v : WorldState
   pub growth : PrintsGrowth t (length w.items) w.buses.frames (length w.history) v old new
 
 -- it was refused and changed nothing, and that is printed
-pub record PrintsRefused {A : Type 0} (e : Event A) (w v : WorldState A) (old new : Known) : Type 0 where
+pub record PrintsRefused {A : Type 0} (t : Telling) (e : Event A) (w v : WorldState A) (old new : Known) :
+    Type 0 where
   pub fault : Fault
   pub refused : IsRefused e w fault
   pub same : v ≡ w
-  pub printed : Appends old new (line (refused_text fault w.moment))
+  pub printed : Appends old new (line (refused_asked_text (told_of t.spelling t.line e) fault w.moment))
 
 -- an event happened or was refused
 abbrev pub PrintsEvent : {A : Type 0} → Telling → Event A → WorldState A → WorldState A → Known → Known → Type 0
-PrintsEvent t e w v old new = PrintsMade t e w v old new ⊎ PrintsRefused e w v old new
+PrintsEvent t e w v old new = PrintsMade t e w v old new ⊎ PrintsRefused t e w v old new
 
 -- one thing happened and is printed, and then others
 pub record Then {A : Type 0} (First Rest : WorldState A → Known → Type 0) : Type 0 where
@@ -65,10 +82,11 @@ abbrev pub PrintsEvents : {A : Type 0} → Telling → List (Event A) → WorldS
 PrintsEvents t [] w v old new = (v ≡ w) × (new ≡ old)
 PrintsEvents t (e ∷ es) w v old new = Then (λ u at. PrintsEvent t e w u old at) (λ u at. PrintsEvents t es u v at new)
 
--- nothing happened, and this refusal is printed
-pub record PrintsNothing {A : Type 0} (fault : Fault) (w v : WorldState A) (old new : Known) : Type 0 where
+-- nothing happened where so many milliseconds were asked for, and that refusal is printed
+pub record PrintsNothing {A : Type 0} (t : Telling) (n : ℕ) (fault : Fault) (w v : WorldState A) (old new : Known) :
+    Type 0 where
   pub same : v ≡ w
-  pub printed : Appends old new (line (refused_text fault w.moment))
+  pub printed : Appends old new (line (refused_time_text t.spelling t.line n fault w.moment))
 
 -- so did events of a flow, one after another, that ask for so many milliseconds in all; these pass, but not beyond the
 -- greatest moment
@@ -83,7 +101,7 @@ pub record PrintsTicks {A : Type 0} (t : Telling) (n : ℕ) (w v : WorldState A)
 pub record PrintsShort {A : Type 0} (t : Telling) (n : ℕ) (w v : WorldState A) (old new : Known) : Type 0 where
   pub passed : ℕ
   pub few : passed ≤ n
-  pub printed : Then (λ u at. PrintsTicks t passed w u old at) (λ u at. PrintsNothing Memory u v at new)
+  pub printed : Then (λ u at. PrintsTicks t passed w u old at) (λ u at. PrintsNothing t n Memory u v at new)
 
 -- a flow came to its end with the last of its milliseconds, or was cut short
 abbrev pub PrintsAll : {A : Type 0} → Telling → (n : ℕ) → WorldState A → WorldState A → Known → Known → Type 0
@@ -96,9 +114,9 @@ pub record PrintsFlow {A : Type 0} (t : Telling) (n : ℕ) (w v : WorldState A) 
   pub all : PrintsAll t n w v old new
 
 -- a flow of so many milliseconds is none
-pub record PrintsNoFlow {A : Type 0} (n : ℕ) (w v : WorldState A) (old new : Known) : Type 0 where
+pub record PrintsNoFlow {A : Type 0} (t : Telling) (n : ℕ) (w v : WorldState A) (old new : Known) : Type 0 where
   pub outside : (n < 1) ⊎ (MAX_TICK_MS < n)
-  pub refused : PrintsNothing NoSuch w v old new
+  pub refused : PrintsNothing t n NoSuch w v old new
 
 -- a step of a script was taken
 abbrev pub PrintsStep : {A : Type 0} → Telling → Step A → WorldState A → WorldState A → Known → Known → Type 0
@@ -112,9 +130,12 @@ PrintsStep t (step.Hear network station octets) w v old new =
     PrintsEvent t (event.Hear network station octets) w v old new
 PrintsStep t (step.Register name) w v old new = PrintsEvent t (event.Register name) w v old new
 PrintsStep t (step.Restart name) w v old new = PrintsEvent t (event.Restart name) w v old new
-PrintsStep t (step.Flow n) w v old new = PrintsFlow t n w v old new ⊎ PrintsNoFlow n w v old new
+PrintsStep t (step.Flow n) w v old new = PrintsFlow t n w v old new ⊎ PrintsNoFlow t n w v old new
 
--- so were these steps, one after another
-abbrev pub PrintsSteps : {A : Type 0} → Telling → List (Step A) → WorldState A → WorldState A → Known → Known → Type 0
-PrintsSteps t [] w v old new = (v ≡ w) × (new ≡ old)
-PrintsSteps t (s ∷ ss) w v old new = Then (λ u at. PrintsStep t s w u old at) (λ u at. PrintsSteps t ss u v at new)
+-- so were these steps, one after another, which lines of a script ask for that have these numbers
+abbrev pub PrintsSteps : {A : Type 0} → Telling → (lines : List ℕ) → List (Step A) → WorldState A → WorldState A →
+    Known → Known → Type 0
+PrintsSteps t ls [] w v old new = (v ≡ w) × (new ≡ old)
+PrintsSteps t ls (s ∷ ss) w v old new =
+    Then (λ u at. PrintsStep (at_line (slice_get ls 0) t) s w u old at)
+    (λ u at. PrintsSteps t (drop 1 ls) ss u v at new)

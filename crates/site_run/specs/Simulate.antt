@@ -4,6 +4,7 @@ use Rattle.std.specs.Io.KnownBytes.{Appends}
 use Rattle.std.specs.List.{AllByRecursion}
 use Rattle.simulator.specs.carry_world.Laws.{IsLegal}
 use Rattle.script.specs.Lines.{SaysSteps}
+use Rattle.script.specs.Numbers.{line_numbers}
 use Rattle.script.specs.Steps.{IsSoundStep}
 use Rattle.script.specs.declared.step.Step.{Step}
 use Rattle.simulator.specs.Judged.{instances_of, judged_of}
@@ -25,13 +26,13 @@ pub record IsOpened {A : Type 0} (site script : List ℕ) (fresh : WorldState A)
   pub said : SaysSteps script steps
   pub fit : AllByRecursion IsSoundStep steps
 
--- steps were taken in a world, one after another, each is printed, and at last what there was of all; the history that
--- was printed is legal (5.4)
-pub record PrintsRun {A : Type 0} (t : Telling) (steps : List (Step A)) (fresh : WorldState A) (old new : Known) :
-    Type 0 where
+-- steps were taken in a world, one after another, which lines of a script ask for that have these numbers; each is
+-- printed, and at last what there was of all; the history that was printed is legal (5.4)
+pub record PrintsRun {A : Type 0} (t : Telling) (lines : List ℕ) (steps : List (Step A)) (fresh : WorldState A)
+    (old new : Known) : Type 0 where
   pub left : WorldState A
   pub at_end : Known
-  pub taken : PrintsSteps t steps fresh left old at_end
+  pub taken : PrintsSteps t lines steps fresh left old at_end
   pub end_printed : Appends at_end new (line (end_text (counts_of left.history) left.moment))
   pub legal : IsLegal (instances_of left.site) left.history (judged_of left)
 
@@ -40,4 +41,4 @@ pub record Simulates (A : Type 0) (t : Telling) (site script : List ℕ) (old ne
   pub fresh : WorldState A
   pub steps : List (Step A)
   pub opened : IsOpened site script fresh steps
-  pub run : PrintsRun t steps fresh old new
+  pub run : PrintsRun t (line_numbers script) steps fresh old new

@@ -13,8 +13,9 @@
 mod running;
 mod simulating;
 
-pub use running::{Telling, make, take_steps};
-pub use script::Step;
-pub use simulating::{Opened, open, print_end, simulate, simulate_traced};
+pub use running::{Telling, Told, make, take_steps};
+pub use script::{LineNumbers, Step};
+pub use simulating::{Opened, open, print_end, simulate, simulate_told, simulate_traced};
 pub use simulator::{Event, Flow, World, WorldEntry};
-pub use site_history::{EndLine, EntryLine, Stop, counted, say_failed, say_stop};
+pub use site_history::{EndLine, EntryLine, EventLine, Stop, counted, say_failed, say_stop};
+pub use words::Spelling;

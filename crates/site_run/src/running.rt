@@ -8,26 +8,74 @@ ghost use Rattle.script.specs.declared.step.Step.TheVariants as step;
 ghost use Rattle.simulator.specs.internetwork.Step.{IsSoundEvent};
 ghost use Rattle.site_run.specs.Running.{PrintsAll, PrintsEvent, PrintsGrowth, PrintsStep, PrintsSteps, told};
 ghost use Rattle.site_run.specs.Running.{trace_text};
+ghost use Rattle.site_run.specs.Running as spec;
 
-use script::Step;
+use script::{LineNumbers, Step};
 use simulator::{Event, Flow, World};
-use site_history::{print_entries, print_refusal};
+use site_history::{print_entries, print_refused_event, print_refused_time};
 use site_trace::{print_frames, print_items};
 use std::alloc::Allocator;
 use std::io;
 use std::io::Write;
 use tags::Items;
+use words::Spelling;
 
 /// What is told of an event.
 #[derive(Clone, Copy, Debug, PartialEq, Eq)]
-pub enum Telling {
+pub enum Told {
     /// The entries of the history.
     Entries,
     /// Before them each item and each frame that was put out.
     All,
 }
 
-/// Takes the steps in their order, and prints what comes of each.
+/// What is told of an event, and how.
+#[derive(Clone, Copy, Debug, PartialEq, Eq)]
+pub struct Telling {
+    pub told: Told,
+    /// The standard's numbers, or its names.
+    pub spelling: Spelling,
+    /// The number of the script's line that asks for it, if one does.
+    pub line: Option<u64>,
+}
+
+impl Telling {
+    /// The entries of the history alone.
+    pub fn entries(spelling: Spelling) -> Telling
+        ensures { result ≡ spec.entries_in spelling }
+    {
+        Telling {
+            told: Told::Entries,
+            spelling,
+            line: None,
+        }
+    }
+
+    /// Before them each item and each frame that was put out.
+    pub fn all(spelling: Spelling) -> Telling
+        ensures { result ≡ spec.all_in spelling }
+    {
+        Telling {
+            told: Told::All,
+            spelling,
+            line: None,
+        }
+    }
+
+    /// The same of what a line of a script asks for.
+    pub fn at(self, line: Option<u64>) -> Telling
+        ensures { result ≡ spec.at_line line self }
+    {
+        Telling {
+            told: self.told,
+            spelling: self.spelling,
+            line,
+        }
+    }
+}
+
+/// Takes the steps in their order, which lines of a script ask for that have these numbers, and prints what comes of
+/// each.
 ///
 /// # Errors
 /// Those of writing.
@@ -35,14 +83,18 @@ pub enum Telling {
 pub fn take_steps<A: Allocator + Copy, W: Write>(
     world: &mut World<A>,
     steps: Items<Step<A>, A>,
+    lines: LineNumbers<'_>,
     telling: Telling,
     out: &mut W,
 ) -> io::Result<()>
     requires sound { AllByRecursion IsSoundStep steps }
-    ensures { OnOk result (PrintsSteps telling steps world.old world.new (W.contents out.old) (W.contents out.new)) }
+    ensures { OnOk result
+        (PrintsSteps telling lines.entry steps world.old world.new (W.contents out.old) (W.contents out.new)) }
 {
+    let mut lines = lines;
     for step in steps.into_vec() {
-        take_step(world, step, telling, out)?;
+        let line = lines.next();
+        take_step(world, step, telling.at(line), out)?;
     }
     Ok(())
 }
@@ -108,21 +160,31 @@ fn flow<A: Allocator + Copy, W: Write>(
         (PrintsStep telling (step.Flow n) world.old world.new (W.contents out.old) (W.contents out.new)) }
 {
     match Flow::new(n) {
-        Ok(flow) => make_all(world, flow, telling, out),
-        Err(fault) => print_refusal(fault, world.moment(), out),
+        Ok(flow) => make_all(world, n, flow, telling, out),
+        Err(fault) => print_refused_time(
+            telling.spelling,
+            telling.line,
+            n,
+            fault,
+            world.moment(),
+            out,
+        ),
     }
 }
 
-/// Makes the events of a flow, one after another, up to its end, or until there is no memory for the next one.
+/// Makes the events of a flow of so many milliseconds, one after another, up to its end, or until there is no memory
+/// for the next one.
 #[tactic(auto, using(crate::proofs::RunLaws::run_rules))]
 fn make_all<A: Allocator + Copy, W: Write>(
     world: &mut World<A>,
+    n: u64,
     flow: Flow,
     telling: Telling,
     out: &mut W,
 ) -> io::Result<()>
+    requires whole { flow.left ≡ n }
     ensures { OnOk result
-        (PrintsAll telling flow.left world.old world.new (W.contents out.old) (W.contents out.new)) }
+        (PrintsAll telling n world.old world.new (W.contents out.old) (W.contents out.new)) }
 {
     let mut flow = flow;
     let mut next = world.next_of(&mut flow);
@@ -132,7 +194,14 @@ fn make_all<A: Allocator + Copy, W: Write>(
     }
     match next {
         Ok(_) => Ok(()),
-        Err(fault) => print_refusal(fault, world.moment(), out),
+        Err(fault) => print_refused_time(
+            telling.spelling,
+            telling.line,
+            n,
+            fault,
+            world.moment(),
+            out,
+        ),
     }
 }
 
@@ -155,7 +224,14 @@ pub fn make<A: Allocator + Copy, W: Write>(
     let entries = world.history().len();
     match world.step(event) {
         Ok(()) => print_growth(world, items, frames, entries, telling, out),
-        Err(fault) => print_refusal(fault, world.moment(), out),
+        Err(fault) => print_refused_event(
+            telling.spelling,
+            telling.line,
+            event,
+            fault,
+            world.moment(),
+            out,
+        ),
     }
 }
 
@@ -172,10 +248,13 @@ fn print_growth<A: Allocator + Copy, W: Write>(
     ensures { OnOk result
         (PrintsGrowth telling items frames entries world.now (W.contents out.old) (W.contents out.new)) }
 {
-    print_told(world, items, frames, telling, out)?;
+    print_told(world, items, frames, telling.told, out)?;
+    let history = world.history();
     print_entries(
+        telling.spelling,
         world.site().stations(),
-        behind(world.history(), entries),
+        history,
+        behind(history, entries),
         out,
     )
 }
@@ -195,14 +274,14 @@ fn print_told<A: Allocator + Copy, W: Write>(
     world: &World<A>,
     items: usize,
     frames: u64,
-    telling: Telling,
+    what: Told,
     out: &mut W,
 ) -> io::Result<()>
-    ensures { OnOk result (Appends (W.contents out.old) (W.contents out.new) (told telling items frames world.now)) }
+    ensures { OnOk result (Appends (W.contents out.old) (W.contents out.new) (told what items frames world.now)) }
 {
-    match telling {
-        Telling::Entries => Ok(()),
-        Telling::All => print_trace(world, items, frames, out),
+    match what {
+        Told::Entries => Ok(()),
+        Told::All => print_trace(world, items, frames, out),
     }
 }
 

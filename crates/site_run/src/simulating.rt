@@ -4,14 +4,16 @@ ghost use Rattle.std.specs.Prelude.{◌≡◌, ◌≤◌, IfOk, OnOk};
 ghost use Rattle.std.specs.Io.KnownBytes.{Appends};
 ghost use Rattle.std.specs.List.{AllByRecursion};
 ghost use Rattle.simulator.specs.carry_world.Laws.{IsLegal};
+ghost use Rattle.script.specs.Numbers.{line_numbers};
 ghost use Rattle.script.specs.Steps.{IsSoundStep};
 ghost use Rattle.simulator.specs.Judged.{instances_of, judged_of};
 ghost use Rattle.site_history.specs.Counting.{counts_of};
 ghost use Rattle.site_history.specs.Printed.{end_text, line};
+ghost use Rattle.site_run.specs.Running.{all_in, entries_in};
 ghost use Rattle.site_run.specs.Simulate.{IsOpened, PrintsRun, Simulates};
 
 use crate::running::{Telling, take_steps};
-use script::{Step, script_of};
+use script::{LineNumbers, Step, script_of};
 use simulator::World;
 use site_history::{EndLine, Stop, counted, say_failed, say_stop};
 use site_text::site_of;
@@ -19,6 +21,7 @@ use std::alloc::{Allocator, Global};
 use std::io;
 use std::io::Write;
 use tags::Items;
+use words::Spelling;
 
 /// Takes the steps of a script in a world of a site, as their texts describe them, and prints on `out` each entry of
 /// its history, each refusal at its place, and at last what there was of all. Answers the exit status: 0; or 1 for a
@@ -34,9 +37,10 @@ pub fn simulate<A: Allocator + Copy, W: Write, E: Write>(
 ) -> u8
     ensures status { result ≤ 1 }
     ensures simulates { result ≡ 0
-        → Simulates A Telling.Entries site.now script.now (W.contents out.old) (W.contents out.new) }
+        → Simulates A (entries_in Spelling.Numbers) site.now script.now (W.contents out.old) (W.contents out.new) }
 {
-    simulation(reading, alloc, site, script, Telling::Entries, out, err)
+    let telling = Telling::entries(Spelling::Numbers);
+    simulate_told(reading, alloc, site, script, telling, out, err)
 }
 
 /// The same; before the entries of an event each item and each frame is printed that was put out, with its number.
@@ -50,13 +54,14 @@ pub fn simulate_traced<A: Allocator + Copy, W: Write, E: Write>(
 ) -> u8
     ensures status { result ≤ 1 }
     ensures simulates { result ≡ 0
-        → Simulates A Telling.All site.now script.now (W.contents out.old) (W.contents out.new) }
+        → Simulates A (all_in Spelling.Numbers) site.now script.now (W.contents out.old) (W.contents out.new) }
 {
-    simulation(reading, alloc, site, script, Telling::All, out, err)
+    let telling = Telling::all(Spelling::Numbers);
+    simulate_told(reading, alloc, site, script, telling, out, err)
 }
 
-/// The same, with what is told of an event.
-fn simulation<A: Allocator + Copy, W: Write, E: Write>(
+/// The same, with what is told of an event, and with the standard's numbers or its names.
+pub fn simulate_told<A: Allocator + Copy, W: Write, E: Write>(
     reading: Global,
     alloc: A,
     site: &[u8],
@@ -76,27 +81,34 @@ fn simulation<A: Allocator + Copy, W: Write, E: Write>(
 }
 
 /// A world as it opens, and the steps that are to be taken in it. It is not dropped: its world is closed.
-pub struct Opened<A: Allocator + Copy> {
+pub struct Opened<'s, A: Allocator + Copy> {
     pub world: World<A>,
     pub steps: Items<Step<A>, A>,
+    /// The numbers of the lines that ask for the steps.
+    pub lines: LineNumbers<'s>,
 }
 
 /// The world of a site and the steps of a script, as their texts describe them. The site is judged first.
 ///
 /// # Errors
 /// `BadSite` for a text that describes no site; the first line that asks for no step; or `Memory`.
-pub fn open<A: Allocator + Copy>(
+pub fn open<'s, A: Allocator + Copy>(
     reading: Global,
     alloc: A,
     site: &[u8],
-    script: &[u8],
-) -> Result<Opened<A>, Stop>
-    ensures { IfOk result (λ o. IsOpened site.now script.now o.world o.steps) }
+    script: &'s [u8],
+) -> Result<Opened<'s, A>, Stop>
+    ensures opened { IfOk result (λ o. IsOpened site.now script.now o.world o.steps) }
+    ensures lines { IfOk result (λ o. o.lines ≡ line_numbers script.now) }
 {
     let site = site_of(reading, alloc, site)?;
     let world = World::new(alloc, site)?;
     match script_of(alloc, script) {
-        Ok(steps) => Ok(Opened { world, steps }),
+        Ok(steps) => Ok(Opened {
+            world,
+            steps,
+            lines: LineNumbers::of(script),
+        }),
         Err(stop) => {
             world.close();
             Err(Stop::from(stop))
@@ -106,7 +118,7 @@ pub fn open<A: Allocator + Copy>(
 
 /// Takes the steps, prints what comes of them, and answers the exit status.
 fn run<A: Allocator + Copy, W: Write, E: Write>(
-    opened: Opened<A>,
+    opened: Opened<'_, A>,
     telling: Telling,
     out: &mut W,
     err: &mut E,
@@ -114,7 +126,8 @@ fn run<A: Allocator + Copy, W: Write, E: Write>(
     requires sound { AllByRecursion IsSoundStep opened.steps }
     ensures status { result ≤ 1 }
     ensures runs { result ≡ 0
-        → PrintsRun telling opened.steps opened.world (W.contents out.old) (W.contents out.new) }
+        → PrintsRun telling opened.entry.lines opened.entry.steps opened.entry.world
+        (W.contents out.old) (W.contents out.new) }
 {
     match print_run(opened, telling, out) {
         Ok(()) => 0,
@@ -124,16 +137,21 @@ fn run<A: Allocator + Copy, W: Write, E: Write>(
 
 /// Takes the steps, and prints what comes of them.
 fn print_run<A: Allocator + Copy, W: Write>(
-    opened: Opened<A>,
+    opened: Opened<'_, A>,
     telling: Telling,
     out: &mut W,
 ) -> io::Result<()>
     requires sound { AllByRecursion IsSoundStep opened.steps }
-    ensures { OnOk result (PrintsRun telling opened.steps opened.world (W.contents out.old) (W.contents out.new)) }
+    ensures { OnOk result (PrintsRun telling opened.entry.lines opened.entry.steps opened.entry.world
+        (W.contents out.old) (W.contents out.new)) }
 {
-    let Opened { world, steps } = opened;
+    let Opened {
+        world,
+        steps,
+        lines,
+    } = opened;
     let mut world = world;
-    let printed = print_all(&mut world, steps, telling, out);
+    let printed = print_all(&mut world, steps, lines, telling, out);
     world.close();
     printed
 }
@@ -142,13 +160,14 @@ fn print_run<A: Allocator + Copy, W: Write>(
 fn print_all<A: Allocator + Copy, W: Write>(
     world: &mut World<A>,
     steps: Items<Step<A>, A>,
+    lines: LineNumbers<'_>,
     telling: Telling,
     out: &mut W,
 ) -> io::Result<()>
     requires sound { AllByRecursion IsSoundStep steps }
-    ensures { OnOk result (PrintsRun telling steps world.old (W.contents out.old) (W.contents out.new)) }
+    ensures { OnOk result (PrintsRun telling lines.entry steps world.old (W.contents out.old) (W.contents out.new)) }
 {
-    take_steps(world, steps, telling, out)?;
+    take_steps(world, steps, lines, telling, out)?;
     print_end(world, out)
 }
 

@@ -2,6 +2,7 @@
 use Rattle.std.specs.Prelude.{◌≡◌, ◌≤◌, ℕ, List, [], ◌∷◌, ◌++◌, Some, length}
 use Rattle.std.specs.Io.KnownBytes.{Appends}
 use Rattle.std.specs.List.{AllByRecursion}
+use Rattle.site_storm.specs.site_run.script.Numbers.{line_numbers}
 use Rattle.site_storm.specs.site_run.script.declared.step.Step.{Step}
 use Rattle.site_storm.specs.site_run.simulator.carry_world.Laws.{IsLegal}
 use Rattle.site_storm.specs.site_run.simulator.Judged.{instances_of, judged_of}
@@ -10,13 +11,14 @@ use Rattle.site_storm.specs.site_run.simulator.internetwork.Step.{IsSoundEvent, 
 use Rattle.site_storm.specs.site_run.simulator.internetwork.World.{WorldState}
 use Rattle.site_storm.specs.site_run.simulator.internetwork.declared.event.Event.{Event}
 use Rattle.site_storm.specs.site_run.site_history.Printed.{Known}
-use Rattle.site_storm.specs.site_run.Running.{PrintsSteps}
+use Rattle.site_storm.specs.site_run.Running.{PrintsSteps, entries_in}
 use Rattle.site_storm.specs.site_run.Simulate.{IsOpened}
-use Rattle.site_storm.specs.site_run.declared.running.Telling.TheVariants.{Entries}
 use Rattle.site_search.specs.declared.searching.Found.{Found}
 use Rattle.site_search.specs.declared.searching.Found.TheVariants.{Written, NoneWithin}
 use Rattle.site_search.specs.Words.{HasNewEntry}
 use Rattle.site_storm.specs.Lines.{end_missing, events_text}
+use Rattle.site_storm.specs.words.printing.declared.spelling.Spelling.{Spelling}
+use Rattle.site_storm.specs.words.printing.declared.spelling.Spelling.TheVariants.{Numbers}
 
 -- events happened in a world, one after another, and none was refused
 abbrev pub Happen : {A : Type 0} → List (Event A) → WorldState A → WorldState A → Type 0
@@ -43,29 +45,30 @@ WritesNothingIfNone old new Written = Unit {0}
 WritesNothingIfNone old new (NoneWithin depth) = new ≡ old
 
 -- a script is written, and behind it events that lead to a new entry of these words, each on a line
-pub record WritesFound {A : Type 0} (script words : List ℕ) (depth : ℕ) (begun : WorldState A) (old new : Known) :
-    Type 0 where
+pub record WritesFound {A : Type 0} (s : Spelling) (script words : List ℕ) (depth : ℕ) (begun : WorldState A)
+    (old new : Known) : Type 0 where
   pub events : List (Event A)
   pub left : WorldState A
   pub leads : Leads words depth events begun left
-  pub written : IsWritten script (events_text events) old new
+  pub written : IsWritten script (events_text s events) old new
 
--- steps were taken in a world, one after another
-pub record Begins {A : Type 0} (steps : List (Step A)) (fresh begun : WorldState A) : Type 0 where
+-- the steps of a script were taken in a world, one after another
+pub record Begins {A : Type 0} (script : List ℕ) (steps : List (Step A)) (fresh begun : WorldState A) : Type 0 where
   pub printed : Known
-  pub taken : PrintsSteps Entries steps fresh begun (Some []) printed
+  pub taken : PrintsSteps (entries_in Numbers) (line_numbers script) steps fresh begun (Some []) printed
 
 -- .. and from there events lead to a new entry of these words
-pub record Continues {A : Type 0} (script words : List ℕ) (depth : ℕ) (steps : List (Step A)) (fresh : WorldState A)
-    (old new : Known) : Type 0 where
+pub record Continues {A : Type 0} (s : Spelling) (script words : List ℕ) (depth : ℕ) (steps : List (Step A))
+    (fresh : WorldState A) (old new : Known) : Type 0 where
   pub begun : WorldState A
-  pub begins : Begins steps fresh begun
-  pub found : WritesFound script words depth begun old new
+  pub begins : Begins script steps fresh begun
+  pub found : WritesFound s script words depth begun old new
 
 -- the texts are those of a sound site and of a script, its steps were taken there, and from there events lead to a new
 -- entry of these words
-pub record Searches (A : Type 0) (site script words : List ℕ) (depth : ℕ) (old new : Known) : Type 0 where
+pub record Searches (A : Type 0) (s : Spelling) (site script words : List ℕ) (depth : ℕ) (old new : Known) :
+    Type 0 where
   pub fresh : WorldState A
   pub steps : List (Step A)
   pub opened : IsOpened site script fresh steps
-  pub continues : Continues script words depth steps fresh old new
+  pub continues : Continues s script words depth steps fresh old new

@@ -18,4 +18,4 @@ mod until;
 
 pub use failure::{Failure, say_found};
 pub use searching::{Found, search};
-pub use site_storm::{Chances, Weather, end_missing, storm, storm_counted};
+pub use site_storm::{Chances, Spelling, Weather, end_missing, storm, storm_counted};

@@ -12,7 +12,10 @@ ghost use Rattle.site_storm.specs.Lines.{event_text, events_text, line};
 use crate::failure::Failure;
 use crate::until::{Until, behind_moment, has_entry, has_words};
 use search::Outcome;
-use site_storm::{Event, EventLine, Opened, Step, Telling, World, end_missing, open, take_steps};
+use site_storm::{
+    Event, EventLine, LineNumbers, Opened, Spelling, Step, Telling, World, end_missing, open,
+    take_steps,
+};
 use std::alloc::{Allocator, Global};
 use std::io;
 use std::io::Write;
@@ -30,7 +33,8 @@ pub enum Found {
 
 /// Takes the steps of a script in a world of a site, as their texts describe them, and searches for the fewest
 /// events, at most so many, behind which the history has a new entry of these words: behind its moment it has them,
-/// or begins with them. Writes the script on `out`, and a line for each of these events. The document is read in
+/// or begins with them. Writes the script on `out`, and a line for each of these events, with the
+/// standard's numbers or its names. The document is read in
 /// memory of `reading`.
 ///
 /// # Errors
@@ -42,15 +46,22 @@ pub fn search<W: Write, A: Allocator + Copy>(
     script: &[u8],
     until: &[u8],
     depth: u64,
+    spelling: Spelling,
     out: &mut W,
 ) -> Result<Found, Failure>
     ensures written { IfOk result (λ found. found ≡ Found.Written →
-        Searches A site.now script.now until.now depth (W.contents out.old) (W.contents out.new)) }
+        Searches A spelling site.now script.now until.now depth (W.contents out.old) (W.contents out.new)) }
     ensures none { IfOk result (WritesNothingIfNone (W.contents out.old) (W.contents out.new)) }
 {
-    let Opened { world, steps } = open(reading, alloc, site, script)?;
+    let Opened {
+        world,
+        steps,
+        lines: _,
+    } = open(reading, alloc, site, script)?;
     let mut world = world;
-    let found = search_in(alloc, &mut world, steps, script, until, depth, out);
+    let found = search_in(
+        alloc, &mut world, steps, script, until, depth, spelling, out,
+    );
     world.close();
     found
 }
@@ -63,28 +74,32 @@ fn search_in<W: Write, A: Allocator + Copy>(
     script: &[u8],
     until: &[u8],
     depth: u64,
+    spelling: Spelling,
     out: &mut W,
 ) -> Result<Found, Failure>
     requires sound { AllByRecursion IsSoundStep steps }
     ensures written { IfOk result (λ found. found ≡ Found.Written →
-        Continues script.now until.now depth steps world.old (W.contents out.old) (W.contents out.new)) }
+        Continues spelling script.now until.now depth steps world.old (W.contents out.old) (W.contents out.new)) }
     ensures none { IfOk result (WritesNothingIfNone (W.contents out.old) (W.contents out.new)) }
 {
-    begin(alloc, world, steps)?;
-    search_on(alloc, world, script, until, depth, out)
+    begin(alloc, world, script, steps)?;
+    search_on(alloc, world, script, until, depth, spelling, out)
 }
 
 /// Takes the steps of a script in a world. What is printed of them is looked at for a refusal of memory alone.
 fn begin<A: Allocator + Copy>(
     alloc: A,
     world: &mut World<A>,
+    script: &[u8],
     steps: Items<Step<A>, A>,
 ) -> Result<(), Failure>
     requires sound { AllByRecursion IsSoundStep steps }
-    ensures taken { OnOk result (Begins steps world.old world.new) }
+    ensures taken { OnOk result (Begins script.now steps world.old world.new) }
 {
     let mut text = Vec::new(alloc);
-    take_steps(world, steps, Telling::Entries, &mut text)?;
+    let telling = Telling::entries(Spelling::Numbers);
+    let lines = LineNumbers::of(script);
+    take_steps(world, steps, lines, telling, &mut text)?;
     match std::str::from_utf8(text.as_slice()) {
         Ok(text) if !is_any_short(text) => Ok(()),
         Ok(_) | Err(_) => Err(Failure::from(Fault::Memory)),
@@ -108,10 +123,11 @@ fn search_on<W: Write, A: Allocator + Copy>(
     script: &[u8],
     until: &[u8],
     depth: u64,
+    spelling: Spelling,
     out: &mut W,
 ) -> Result<Found, Failure>
     ensures written { IfOk result (λ found. found ≡ Found.Written →
-        WritesFound script.now until.now depth world.old (W.contents out.old) (W.contents out.new)) }
+        WritesFound spelling script.now until.now depth world.old (W.contents out.old) (W.contents out.new)) }
     ensures none { IfOk result (WritesNothingIfNone (W.contents out.old) (W.contents out.new)) }
 {
     let goal = Until {
@@ -125,7 +141,7 @@ fn search_on<W: Write, A: Allocator + Copy>(
             if !leads(alloc, world, events.as_slice(), until, depth)? {
                 return Ok(Found::NoneWithin(0));
             }
-            write_script(script, events.as_slice(), out)?;
+            write_script(script, events.as_slice(), spelling, out)?;
             Ok(Found::Written)
         }
         Outcome::NoneWithin(depth) => Ok(Found::NoneWithin(depth)),
@@ -173,31 +189,41 @@ fn make_all<A: Allocator + Copy>(world: &mut World<A>, events: &[Event<A>]) -> R
 fn write_script<A: Allocator, W: Write>(
     script: &[u8],
     events: &[Event<A>],
+    spelling: Spelling,
     out: &mut W,
 ) -> io::Result<()>
-    ensures { OnOk result (IsWritten script.now (events_text events.now) (W.contents out.old) (W.contents out.new)) }
+    ensures { OnOk result
+        (IsWritten script.now (events_text spelling events.now) (W.contents out.old) (W.contents out.new)) }
 {
     out.write_all(script)?;
     out.write_all(end_missing(script))?;
-    write_events(events, out)
+    write_events(events, spelling, out)
 }
 
 /// Writes a line for each of these events.
 #[tactic(auto, using(crate::proofs::SearchLaws::search_rules))]
-fn write_events<A: Allocator, W: Write>(events: &[Event<A>], out: &mut W) -> io::Result<()>
-    ensures { OnOk result (Appends (W.contents out.old) (W.contents out.new) (events_text events.now)) }
+fn write_events<A: Allocator, W: Write>(
+    events: &[Event<A>],
+    spelling: Spelling,
+    out: &mut W,
+) -> io::Result<()>
+    ensures { OnOk result (Appends (W.contents out.old) (W.contents out.new) (events_text spelling events.now)) }
 {
     let mut left = events;
     while let [event, rest @ ..] = left {
-        write_event(event, out)?;
+        write_event(event, spelling, out)?;
         left = rest;
     }
     Ok(())
 }
 
 /// Writes the line of an event.
-fn write_event<A: Allocator, W: Write>(event: &Event<A>, out: &mut W) -> io::Result<()>
-    ensures { OnOk result (Appends (W.contents out.old) (W.contents out.new) (line (event_text event.now))) }
+fn write_event<A: Allocator, W: Write>(
+    event: &Event<A>,
+    spelling: Spelling,
+    out: &mut W,
+) -> io::Result<()>
+    ensures { OnOk result (Appends (W.contents out.old) (W.contents out.new) (line (event_text spelling event.now))) }
 {
-    writeln!(out, "{}", EventLine(event))
+    writeln!(out, "{}", EventLine { event, spelling })
 }

@@ -3,11 +3,11 @@
 ghost use Rattle.std.specs.Prelude.{◌≡◌, true, IfOk};
 ghost use Rattle.site_storm.specs.site_run.site_history.Printed.{entry_text};
 ghost use Rattle.site_search.specs.Words as spec;
-ghost use Rattle.site_search.specs.Words.{HasEntry, HasNewEntry, HasWords, IsWordEnd};
+ghost use Rattle.site_search.specs.Words.{HasEntry, HasNewEntry, HasWords, IsWordEnd, SaysWords};
 
 use search::Goal;
 use site_parts::Station;
-use site_storm::{EntryLine, World, WorldEntry};
+use site_storm::{EntryLine, Spelling, World, WorldEntry};
 use std::alloc::{AllocError, Allocator};
 
 /// An entry of the history behind so many, whose words behind its moment are these or begin with them.
@@ -57,24 +57,69 @@ pub(crate) fn has_entry<A: Allocator + Copy>(
     ensures { IfOk result (λ b. b ≡ true → HasEntry words.now stations.now first history.now) }
 {
     for place in first..history.len() {
-        if is_entry(alloc, stations, &history[place], words)? {
+        if is_entry(alloc, stations, history, &history[place], words)? {
             return Ok(true);
         }
     }
     Ok(false)
 }
 
-/// Whether an entry has these words.
+/// Whether an entry of a history has these words, with the standard's numbers or its names.
+#[tactic(auto, using(crate::proofs::WordLaws::word_laws))]
 fn is_entry<A: Allocator + Copy>(
     alloc: A,
     stations: &[Station<A>],
+    history: &[WorldEntry<A>],
     entry: &WorldEntry<A>,
     words: &[u8],
 ) -> Result<bool, AllocError>
-    ensures { IfOk result (λ b. b ≡ true → HasWords words.now
-        (spec.behind_moment (entry_text stations.now entry.now))) }
+    ensures { IfOk result (λ b. b ≡ true → SaysWords words.now stations.now history.now entry.now) }
 {
-    let line = format!(in alloc; "{}", EntryLine { entry, stations })?;
+    let in_numbers = is_spelled(alloc, stations, history, entry, Spelling::Numbers, words)?;
+    if in_numbers || !may_be_named(words) {
+        return Ok(in_numbers);
+    }
+    let in_names = is_spelled(alloc, stations, history, entry, Spelling::Names, words)?;
+    Ok(in_names)
+}
+
+/// Whether there may be a name in these words: a quote, `error `, or a hyphen, a comma or a bracket behind a letter. An
+/// entry is printed once more for these alone.
+fn may_be_named(words: &[u8]) -> bool {
+    let mut left = words;
+    let mut last = b' ';
+    while let [first, rest @ ..] = left {
+        if *first == b'"' || left.starts_with(b"error ") {
+            return true;
+        }
+        if last.is_ascii_alphabetic() && matches!(first, b'-' | b',' | b'[') {
+            return true;
+        }
+        last = *first;
+        left = rest;
+    }
+    false
+}
+
+/// Whether an entry of a history that is spelled so has these words.
+fn is_spelled<A: Allocator + Copy>(
+    alloc: A,
+    stations: &[Station<A>],
+    history: &[WorldEntry<A>],
+    entry: &WorldEntry<A>,
+    spelling: Spelling,
+    words: &[u8],
+) -> Result<bool, AllocError>
+    ensures { IfOk result (λ b. b ≡ true → HasWords words.now
+        (spec.behind_moment (entry_text spelling stations.now history.now entry.now))) }
+{
+    let shown = EntryLine {
+        entry,
+        history,
+        stations,
+        spelling,
+    };
+    let line = format!(in alloc; "{shown}")?;
     Ok(has_words(behind_moment(line.as_bytes()), words))
 }
 

@@ -8,6 +8,7 @@
 mod watching;
 
 pub use site_run::{
-    EndLine, EntryLine, Event, Stop, World, WorldEntry, counted, open, simulate, simulate_traced,
+    EndLine, EntryLine, Event, Spelling, Stop, Telling, World, WorldEntry, counted, open, simulate,
+    simulate_told, simulate_traced,
 };
 pub use watching::{Watcher, watch};

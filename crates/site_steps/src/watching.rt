@@ -49,7 +49,11 @@ pub fn watch<A: Allocator + Copy, V: Watcher<A>>(
     script: &[u8],
     watcher: &mut V,
 ) -> Result<(), Stop> {
-    let Opened { world, steps } = open(reading, alloc, site, script)?;
+    let Opened {
+        world,
+        steps,
+        lines: _,
+    } = open(reading, alloc, site, script)?;
     let mut world = world;
     let watched = watch_all(&mut world, steps, watcher);
     world.close();

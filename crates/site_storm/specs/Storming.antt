@@ -1,34 +1,37 @@
 -- What is printed of a storm behind a script at a site, as their texts describe them.
-use Rattle.std.specs.Prelude.{◌≡◌, ℕ, List, None}
+use Rattle.std.specs.Prelude.{ℕ, List, None}
 use Rattle.std.specs.Io.KnownBytes.{Appends}
 use Rattle.site_run.specs.simulator.carry_world.Laws.{IsLegal}
+use Rattle.script.specs.Numbers.{line_numbers}
 use Rattle.script.specs.declared.step.Step.{Step}
 use Rattle.site_run.specs.simulator.Judged.{instances_of, judged_of}
 use Rattle.site_run.specs.simulator.internetwork.World.{WorldState}
 use Rattle.site_run.specs.site_history.Counting.{counts_of}
 use Rattle.site_run.specs.site_history.Printed.{end_text}
-use Rattle.site_run.specs.Running.{PrintsSteps}
+use Rattle.site_run.specs.Running.{PrintsSteps, entries_in}
 use Rattle.site_run.specs.Simulate.{IsOpened}
-use Rattle.site_run.specs.declared.running.Telling.TheVariants.{Entries}
 use Rattle.site_storm.specs.Counting.{AreCounts, count_text}
 use Rattle.site_storm.specs.Lines.{Known, line}
 use Rattle.site_storm.specs.Raging.{Rages}
 use Rattle.site_storm.specs.declared.counts.Counts.{Counts}
+use Rattle.words.specs.printing.declared.spelling.Spelling.{Spelling}
+use Rattle.words.specs.printing.declared.spelling.Spelling.TheVariants.{Numbers}
 
--- steps were taken in a world, one after another, then so many events of a storm were made, and all is printed
-pub record StormsOver {A : Type 0} (steps : List (Step A)) (n : ℕ) (fresh left : WorldState A)
-    (lines_old lines_new old new : Known) : Type 0 where
+-- steps were taken in a world, one after another, which lines of a script ask for that have these numbers; then so many
+-- events of a storm were made, and all is printed
+pub record StormsOver {A : Type 0} (s : Spelling) (lines : List ℕ) (steps : List (Step A)) (n : ℕ)
+    (fresh left : WorldState A) (lines_old lines_new old new : Known) : Type 0 where
   pub begun : WorldState A
   pub at_storm : Known
-  pub taken : PrintsSteps Entries steps fresh begun old at_storm
-  pub rages : Rages n begun left lines_old lines_new at_storm new
+  pub taken : PrintsSteps (entries_in s) lines steps fresh begun old at_storm
+  pub rages : Rages s n begun left lines_old lines_new at_storm new
 
 -- so it was, and at last what there was of all is printed; the history that was printed is legal (5.4)
-pub record PrintsStorm {A : Type 0} (steps : List (Step A)) (n : ℕ) (fresh : WorldState A)
-    (lines_old lines_new old new : Known) : Type 0 where
+pub record PrintsStorm {A : Type 0} (s : Spelling) (lines : List ℕ) (steps : List (Step A)) (n : ℕ)
+    (fresh : WorldState A) (lines_old lines_new old new : Known) : Type 0 where
   pub left : WorldState A
   pub at_end : Known
-  pub storms : StormsOver steps n fresh left lines_old lines_new old at_end
+  pub storms : StormsOver s lines steps n fresh left lines_old lines_new old at_end
   pub end_printed : Appends at_end new (line (end_text (counts_of left.history) left.moment))
   pub legal : IsLegal (instances_of left.site) left.history (judged_of left)
 
@@ -39,23 +42,24 @@ pub record PrintsCountsOf {A : Type 0} (left : WorldState A) (old new : Known) :
   pub printed : Appends old new (line (count_text counts))
 
 -- so it was, and how many there were of what is all that is printed; the history that was counted is legal
-pub record PrintsCounts {A : Type 0} (steps : List (Step A)) (n : ℕ) (fresh : WorldState A)
+pub record PrintsCounts {A : Type 0} (lines : List ℕ) (steps : List (Step A)) (n : ℕ) (fresh : WorldState A)
     (lines_old lines_new old new : Known) : Type 0 where
   pub left : WorldState A
-  pub storms : StormsOver steps n fresh left lines_old lines_new None None
+  pub storms : StormsOver Numbers lines steps n fresh left lines_old lines_new None None
   pub printed : PrintsCountsOf left old new
   pub legal : IsLegal (instances_of left.site) left.history (judged_of left)
 
 -- the texts are those of a sound site and of a script, and a storm went on behind its steps there
-pub record Storms (A : Type 0) (site script : List ℕ) (n : ℕ) (lines_old lines_new old new : Known) : Type 0 where
+pub record Storms (A : Type 0) (s : Spelling) (site script : List ℕ) (n : ℕ) (lines_old lines_new old new : Known) :
+    Type 0 where
   pub fresh : WorldState A
   pub steps : List (Step A)
   pub opened : IsOpened site script fresh steps
-  pub run : PrintsStorm steps n fresh lines_old lines_new old new
+  pub run : PrintsStorm s (line_numbers script) steps n fresh lines_old lines_new old new
 
 -- .. of which the counts are printed
 pub record CountsStorm (A : Type 0) (site script : List ℕ) (n : ℕ) (lines_old lines_new old new : Known) : Type 0 where
   pub fresh : WorldState A
   pub steps : List (Step A)
   pub opened : IsOpened site script fresh steps
-  pub run : PrintsCounts steps n fresh lines_old lines_new old new
+  pub run : PrintsCounts (line_numbers script) steps n fresh lines_old lines_new old new

@@ -6,7 +6,7 @@
 //! sound events, in a world of that site, each refusal at its place; the lines that are put down are those of these
 //! very events; and the history that is told is legal. Which events they are, no contract says.
 //!
-//! - `event_line`: an event as the line of a script, and where such a line begins.
+//! - `script_end`: where a line behind a script begins.
 //! - `raging`: so many events of a storm, one after another.
 //! - `counts`: what there was of all, in one line.
 //! - `waits`: how long clients waited.
@@ -15,17 +15,18 @@
 #![tactic(auto)]
 
 mod counts;
-mod event_line;
 mod raging;
+mod script_end;
 mod storming;
 mod unwritten;
 mod waits;
 
 pub use counts::{CountLine, Counts, MessageCounts, OutcomeCounts, counts_of};
-pub use event_line::{EventLine, end_missing};
 pub use raging::Weather;
+pub use script_end::end_missing;
 pub use site_run::{
-    EntryLine, Event, Opened, Step, Stop, Telling, World, WorldEntry, open, say_stop, take_steps,
+    EntryLine, Event, EventLine, LineNumbers, Opened, Spelling, Step, Stop, Telling, World,
+    WorldEntry, open, say_stop, take_steps,
 };
 pub use storm::Chances;
 pub use storming::{storm, storm_counted};

@@ -14,33 +14,38 @@ use crate::counts::{CountLine, Counts, counts_of};
 use crate::raging::{Weather, rage};
 use crate::unwritten::Unwritten;
 use script::Step;
-use site_run::{Opened, Telling, World, open, print_end, say_failed, say_stop, take_steps};
+use site_run::{
+    LineNumbers, Opened, Spelling, Telling, World, open, print_end, say_failed, say_stop,
+    take_steps,
+};
 use std::alloc::{Allocator, Global};
 use std::io;
 use std::io::Write;
 use tags::Items;
 
 /// Takes the steps of a script in a world of a site, as their texts describe them, and then the events of a storm, and
-/// prints on `out` each entry of its history, each refusal at its place, and at last what there was of all. Puts down
-/// the lines of the storm's events on `lines`: behind those of the script they are a script of all that happened.
-/// Answers the exit status: 0; or 1 for a text that is none, which is told on `err` and nothing runs then, for want of
-/// memory where it ends the program, and for a failed write. The document is read in memory of `reading`.
+/// prints on `out` each entry of its history, with the standard's numbers or its names, each refusal at its place, and
+/// at last what there was of all. Puts down the lines of the storm's events on `lines`: behind those of the script
+/// they are a script of all that happened. Answers the exit status: 0; or 1 for a text that is none, which is told on
+/// `err` and nothing runs then, for want of memory where it ends the program, and for a failed write. The document is
+/// read in memory of `reading`.
 pub fn storm<A: Allocator + Copy, L: Write, W: Write, E: Write>(
     reading: Global,
     alloc: A,
     site: &[u8],
     script: &[u8],
     weather: Weather,
+    spelling: Spelling,
     lines: &mut L,
     out: &mut W,
     err: &mut E,
 ) -> u8
     ensures status { result ≤ 1 }
-    ensures storms { result ≡ 0 → Storms A site.now script.now weather.steps
+    ensures storms { result ≡ 0 → Storms A spelling site.now script.now weather.steps
         (L.contents lines.old) (L.contents lines.new) (W.contents out.old) (W.contents out.new) }
 {
     match open(reading, alloc, site, script) {
-        Ok(opened) => match run(alloc, opened, weather, lines, out) {
+        Ok(opened) => match run(alloc, opened, weather, spelling, lines, out) {
             Ok(()) => 0,
             Err(error) => say_failed(&error, err),
         },
@@ -76,18 +81,25 @@ pub fn storm_counted<A: Allocator + Copy, L: Write, W: Write, E: Write>(
 /// Takes the steps, and then the events of a storm, and prints what comes of them, and what there was of all.
 fn run<A: Allocator + Copy, L: Write, W: Write>(
     alloc: A,
-    opened: Opened<A>,
+    opened: Opened<'_, A>,
     weather: Weather,
+    spelling: Spelling,
     lines: &mut L,
     out: &mut W,
 ) -> io::Result<()>
     requires sound { AllByRecursion IsSoundStep opened.steps }
-    ensures { OnOk result (PrintsStorm opened.steps weather.steps opened.world
+    ensures { OnOk result (PrintsStorm spelling opened.entry.lines opened.entry.steps weather.steps opened.entry.world
         (L.contents lines.old) (L.contents lines.new) (W.contents out.old) (W.contents out.new)) }
 {
-    let Opened { world, steps } = opened;
+    let Opened {
+        world,
+        steps,
+        lines: numbers,
+    } = opened;
     let mut world = world;
-    let printed = print_all(alloc, &mut world, steps, weather, lines, out);
+    let printed = print_all(
+        alloc, &mut world, steps, numbers, weather, spelling, lines, out,
+    );
     world.close();
     printed
 }
@@ -97,15 +109,17 @@ fn print_all<A: Allocator + Copy, L: Write, W: Write>(
     alloc: A,
     world: &mut World<A>,
     steps: Items<Step<A>, A>,
+    numbers: LineNumbers<'_>,
     weather: Weather,
+    spelling: Spelling,
     lines: &mut L,
     out: &mut W,
 ) -> io::Result<()>
     requires sound { AllByRecursion IsSoundStep steps }
-    ensures { OnOk result (PrintsStorm steps weather.steps world.old
+    ensures { OnOk result (PrintsStorm spelling numbers.entry steps weather.steps world.old
         (L.contents lines.old) (L.contents lines.new) (W.contents out.old) (W.contents out.new)) }
 {
-    take_all(alloc, world, steps, weather, lines, out)?;
+    take_all(alloc, world, steps, numbers, weather, spelling, lines, out)?;
     print_end(world, out)
 }
 
@@ -114,33 +128,39 @@ fn take_all<A: Allocator + Copy, L: Write, W: Write>(
     alloc: A,
     world: &mut World<A>,
     steps: Items<Step<A>, A>,
+    numbers: LineNumbers<'_>,
     weather: Weather,
+    spelling: Spelling,
     lines: &mut L,
     out: &mut W,
 ) -> io::Result<()>
     requires sound { AllByRecursion IsSoundStep steps }
-    ensures { OnOk result (StormsOver steps weather.steps world.old world.new
+    ensures { OnOk result (StormsOver spelling numbers.entry steps weather.steps world.old world.new
         (L.contents lines.old) (L.contents lines.new) (W.contents out.old) (W.contents out.new)) }
 {
-    take_steps(world, steps, Telling::Entries, out)?;
-    rage(alloc, world, weather, lines, out)
+    take_steps(world, steps, numbers, Telling::entries(spelling), out)?;
+    rage(alloc, world, weather, spelling, lines, out)
 }
 
 /// Takes the steps, and then the events of a storm, and prints how many there were of what.
 fn run_counted<A: Allocator + Copy, L: Write, W: Write>(
     alloc: A,
-    opened: Opened<A>,
+    opened: Opened<'_, A>,
     weather: Weather,
     lines: &mut L,
     out: &mut W,
 ) -> io::Result<()>
     requires sound { AllByRecursion IsSoundStep opened.steps }
-    ensures { OnOk result (PrintsCounts opened.steps weather.steps opened.world
+    ensures { OnOk result (PrintsCounts opened.entry.lines opened.entry.steps weather.steps opened.entry.world
         (L.contents lines.old) (L.contents lines.new) (W.contents out.old) (W.contents out.new)) }
 {
-    let Opened { world, steps } = opened;
+    let Opened {
+        world,
+        steps,
+        lines: numbers,
+    } = opened;
     let mut world = world;
-    let printed = print_counted(alloc, &mut world, steps, weather, lines, out);
+    let printed = print_counted(alloc, &mut world, steps, numbers, weather, lines, out);
     world.close();
     printed
 }
@@ -150,16 +170,26 @@ fn print_counted<A: Allocator + Copy, L: Write, W: Write>(
     alloc: A,
     world: &mut World<A>,
     steps: Items<Step<A>, A>,
+    numbers: LineNumbers<'_>,
     weather: Weather,
     lines: &mut L,
     out: &mut W,
 ) -> io::Result<()>
     requires sound { AllByRecursion IsSoundStep steps }
-    ensures { OnOk result (PrintsCounts steps weather.steps world.old
+    ensures { OnOk result (PrintsCounts numbers.entry steps weather.steps world.old
         (L.contents lines.old) (L.contents lines.new) (W.contents out.old) (W.contents out.new)) }
 {
     let mut unwritten = Unwritten;
-    take_all(alloc, world, steps, weather, lines, &mut unwritten)?;
+    take_all(
+        alloc,
+        world,
+        steps,
+        numbers,
+        weather,
+        Spelling::Numbers,
+        lines,
+        &mut unwritten,
+    )?;
     print_counts(alloc, world, out)
 }
 

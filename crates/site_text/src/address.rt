@@ -4,7 +4,7 @@ use bvll::Address;
 use std::net::SocketAddrV4;
 
 /// The address that a text says: four octets and a port, all without leading zeros (J.1.2).
-pub(crate) fn address_of(text: &str) -> Option<Address> {
+pub fn address_of(text: &str) -> Option<Address> {
     let Ok(address) = text.parse::<SocketAddrV4>() else {
         return None;
     };

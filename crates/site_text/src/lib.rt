@@ -22,5 +22,10 @@ mod row;
 mod stations;
 mod unread;
 
+pub use address::address_of;
 pub use document::{parts_of, site_of};
+pub use object::{BINARY, INSTANCE, INTEGER, STATES, UNITS};
+pub use place::{MAC, NETWORK, SECONDS_TO_LIVE, SUBNET};
+pub use row::Range;
+pub use stations::VENDOR;
 pub use unread::{BadKey, KeyFault, NoParts};

@@ -7,19 +7,19 @@ use std::alloc::Allocator;
 use tags::{Items, Value};
 
 /// Numbers of instances (12.1.1).
-pub(crate) const INSTANCE: Range = Range {
+pub const INSTANCE: Range = Range {
     least: 0,
     greatest: 4_194_302,
 };
 
 /// Numbers of states (12.20).
-const STATES: Range = Range {
+pub const STATES: Range = Range {
     least: 1,
     greatest: 65_535,
 };
 
 /// Units (12.43).
-const UNITS: Range = Range {
+pub const UNITS: Range = Range {
     least: 0,
     greatest: 4_294_967_295,
 };
@@ -28,13 +28,13 @@ const UNITS: Range = Range {
 const NO_UNITS: u32 = 95;
 
 /// Inactive and active (21, BACnetBinaryPV).
-const BINARY: Range = Range {
+pub const BINARY: Range = Range {
     least: 0,
     greatest: 1,
 };
 
 /// Numbers of an Integer Value (20.2.5).
-const INTEGER: Range = Range {
+pub const INTEGER: Range = Range {
     least: -2_147_483_648,
     greatest: 2_147_483_647,
 };

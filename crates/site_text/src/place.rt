@@ -5,25 +5,25 @@ use site_parts::{Foreign, Link, Place};
 use std::alloc::Allocator;
 
 /// Numbers of networks (6.2.2).
-pub(crate) const NETWORK: Range = Range {
+pub const NETWORK: Range = Range {
     least: 1,
     greatest: 65_534,
 };
 
 /// Numbers of the subnets of a network.
-const SUBNET: Range = Range {
+pub const SUBNET: Range = Range {
     least: 1,
     greatest: 255,
 };
 
 /// Addresses of master nodes (9).
-const MAC: Range = Range {
+pub const MAC: Range = Range {
     least: 0,
     greatest: 127,
 };
 
 /// Seconds to live of a foreign device (J.5.2).
-const SECONDS_TO_LIVE: Range = Range {
+pub const SECONDS_TO_LIVE: Range = Range {
     least: 1,
     greatest: 65_535,
 };

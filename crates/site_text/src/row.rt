@@ -11,9 +11,9 @@ use toml::{Table, Value};
 
 /// The numbers that may stand under a key.
 #[derive(Clone, Copy)]
-pub(crate) struct Range {
-    pub(crate) least: i64,
-    pub(crate) greatest: i64,
+pub struct Range {
+    pub least: i64,
+    pub greatest: i64,
 }
 
 /// How a row is called.

@@ -11,7 +11,7 @@ use std::alloc::Allocator;
 use tags::Items;
 
 /// Identifiers of vendors (12.11).
-const VENDOR: Range = Range {
+pub const VENDOR: Range = Range {
     least: 0,
     greatest: 65_535,
 };

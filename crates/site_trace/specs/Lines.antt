@@ -8,7 +8,7 @@ use Rattle.bus_traffic.specs.declared.sending.Sending.{Sending}
 use Rattle.npdu.specs.declared.mac.Mac.TheVariants.{One}
 use Rattle.site_parts.specs.declared.parts.Station.{Station}
 use Rattle.traffic.specs.declared.item.Item.{Item}
-use Rattle.words.specs.Printed.{octets_text}
+use Rattle.words.specs.printing.Printed.{octets_text}
 use Rattle.site_trace.specs.Naming.{name_at}
 
 -- words, with a space between each and the next

@@ -1,31 +1,33 @@
 //! How often what happens.
 
-/// How often what happens, each in whole percents; one over 100 counts as 100.
+use crate::percent::Percent;
+
+/// How often what happens.
 #[derive(Clone, Copy, Debug, PartialEq, Eq)]
 pub struct Chances {
     /// Of all events: how many begin something new, most of them a request.
-    pub issue: u8,
+    pub issue: Percent,
     /// Of the datagrams, and of the frames at each station of their bus: how many are never heard there.
-    pub lose: u8,
+    pub lose: Percent,
     /// Of the deliveries: how many are of what was delivered before.
-    pub repeat: u8,
+    pub repeat: Percent,
     /// Of the deliveries, wakes and ticks: how many are of another thing than what is next.
-    pub reorder: u8,
+    pub reorder: Percent,
     /// Of the frames at each station of their bus: how many are heard with wrong octets, and never whole.
-    pub damage: u8,
+    pub damage: Percent,
     /// Of what begins: how often a device restarts.
-    pub restart: u8,
+    pub restart: Percent,
 }
 
 impl Chances {
     /// A plant in common weather: a twentieth of all events begins something, of a hundred frames and datagrams two are
     /// lost, two repeated, two overtaken and one is damaged, and of a hundred things that begin one is a restart.
     pub const USUAL: Chances = Chances {
-        issue: 5,
-        lose: 2,
-        repeat: 2,
-        reorder: 2,
-        damage: 1,
-        restart: 1,
+        issue: Percent { tenths: 50 },
+        lose: Percent { tenths: 20 },
+        repeat: Percent { tenths: 20 },
+        reorder: Percent { tenths: 20 },
+        damage: Percent { tenths: 10 },
+        restart: Percent { tenths: 10 },
     };
 }

@@ -2,6 +2,7 @@
 
 ghost use Rattle.std.specs.Prelude.{◌<◌, ◌≤◌};
 
+use crate::percent::{Percent, part_of};
 use rand_core::{Rng, SeedableRng};
 use rand_xoshiro::{SplitMix64, Xoshiro256PlusPlus};
 
@@ -48,9 +49,9 @@ impl Dice {
         (self.word() % u64::from(count)) as u32
     }
 
-    /// Whether what comes to pass so often of a hundred times does.
-    pub(crate) fn happens(&mut self, percent: u8) -> bool {
-        self.word() % 100 < u64::from(percent)
+    /// Whether what comes to pass so often does.
+    pub(crate) fn happens(&mut self, percent: Percent) -> bool {
+        part_of(self.word()) < u64::from(percent.tenths)
     }
 
     /// Whether what comes to pass once in so many times does.
@@ -64,11 +65,11 @@ impl Dice {
         list.get(place)
     }
 
-    /// A number below 100 that is always the same for this seed, thing and place.
+    /// A number below 1000 that is always the same for this seed, thing and place.
     pub(crate) fn fate(&self, thing: u64, place: u64) -> u64
-        ensures { result < 100 }
+        ensures { result < 1000 }
     {
         let mixed = SplitMix64::seed_from_u64(thing ^ place.rotate_left(48)).next_u64();
-        SplitMix64::seed_from_u64(self.seed ^ mixed).next_u64() % 100
+        part_of(SplitMix64::seed_from_u64(self.seed ^ mixed).next_u64())
     }
 }

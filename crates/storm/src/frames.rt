@@ -26,10 +26,10 @@ enum Fate {
 /// What becomes of a frame at the station of an address: always the same.
 fn fate_of<A: Allocator>(storm: &Storm, sending: &Sending<A>, address: u8) -> Fate {
     let fate = storm.dice.fate(sending.place.frames, u64::from(address));
-    let lose = u64::from(storm.chances.lose);
+    let lose = u64::from(storm.chances.lose.tenths);
     if fate < lose {
         Fate::Lost
-    } else if fate < lose + u64::from(storm.chances.damage) {
+    } else if fate < lose + u64::from(storm.chances.damage.tenths) {
         Fate::Damaged
     } else {
         Fate::Heard

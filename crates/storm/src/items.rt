@@ -14,7 +14,7 @@ const ITEM: u64 = 256;
 
 /// Whether the item of a number is never delivered.
 fn is_lost(storm: &Storm, number: usize) -> bool {
-    storm.dice.fate(number as u64, ITEM) < u64::from(storm.chances.lose)
+    storm.dice.fate(number as u64, ITEM) < u64::from(storm.chances.lose.tenths)
 }
 
 /// The next item from this one on, and before another, that waits and isn't lost.

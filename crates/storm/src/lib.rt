@@ -7,7 +7,7 @@
 //! Which one it is, no contract says. It sees a world by its public calls alone, and tells equal events of equal worlds
 //! where the seed is equal.
 //!
-//! - `chances`: how often what happens.
+//! - `chances`, `percent`: how often what happens.
 //! - `dice`: what is drawn from the generator.
 //! - `storm`: a storm, and its next event.
 //! - `asking`: what begins: issues, Who-Is, registrations and restarts.
@@ -22,6 +22,7 @@ mod chances;
 mod dice;
 mod frames;
 mod items;
+mod percent;
 mod requests;
 mod storm;
 mod ticks;
@@ -29,5 +30,6 @@ mod wakes;
 mod writes;
 
 pub use chances::Chances;
+pub use percent::Percent;
 pub use simulator::SaidMessage;
 pub use storm::Storm;

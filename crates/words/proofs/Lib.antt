@@ -2,7 +2,7 @@ pub mod Groups
 pub mod HexLaws
 pub mod Lists
 pub mod Marks
-pub mod Printing
+pub mod QuotedLaws
 pub mod Replies
 pub mod Requests
 pub mod Unsaid

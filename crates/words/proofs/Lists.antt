@@ -148,6 +148,15 @@ pub writes_go_on : {A : Type 0} (whole : Option (List ℕ)) (writes : List (Obje
     ReadsWrites whole (writes ++ x ∷ []) (other_parts (codes "; ") here)
 writes_go_on whole writes here x r said = goes_on (other_parts (codes "; ")) (λ w x. SaysObjectWrite (first_part (codes "; ") w) x) whole writes here x r said
 
+pub batch_goes_on : {A : Type 0} (whole : Option (List ℕ)) (old new : List (ObjectWrites A)) (rest left : Option (List ℕ)) (here front : List ℕ)
+    (x : ObjectId × PropertyWrite A) → ReadsWrites whole (all_writes old) rest → rest ≡ Some here → front ≡ first_part (codes "; ") here →
+    left ≡ other_parts (codes "; ") here → SaysObjectWrite front x → all_writes new ≡ all_writes old ++ x ∷ [] → ReadsWrites whole (all_writes new) left
+batch_goes_on whole old new rest left here front x r is cut behind said added =
+    subst (λ (ws : List (ObjectId × PropertyWrite _)). ReadsWrites whole ws left) (sym added)
+    (subst (λ (l : Option (List ℕ)). ReadsWrites whole (all_writes old ++ x ∷ []) l) (sym behind)
+    (writes_go_on whole (all_writes old) here x (subst (λ (l : Option (List ℕ)). ReadsWrites whole (all_writes old) l) is r)
+    (subst (λ (w : List ℕ). SaysObjectWrite w x) cut said)))
+
 pub writes_end : {A : Type 0} (words : List ℕ) (groups : List (ObjectWrites A)) → ReadsWrites (Some words) (all_writes groups) None → AreGrouped groups →
     SaysBatch words groups
 writes_end words groups r grouped = record {

@@ -125,6 +125,15 @@ pub objects_go_on : {A : Type 0} (whole : Option (List ℕ)) (rs : List (ObjectR
     ReadsObjects whole rs (Some here) → SaysResults (first_part (codes "] [") here) x → ReadsObjects whole (rs ++ x ∷ []) (other_parts (codes "] [") here)
 objects_go_on whole rs here x r said = goes_on (other_parts (codes "] [")) (λ w r. SaysResults (first_part (codes "] [") w) r) whole rs here x r said
 
+pub objects_more : {A : Type 0} (whole : Option (List ℕ)) (rs all : List (ObjectResults A)) (rest left : Option (List ℕ)) (here front : List ℕ)
+    (x : ObjectResults A) → ReadsObjects whole rs rest → rest ≡ Some here → front ≡ first_part (codes "] [") here →
+    left ≡ other_parts (codes "] [") here → SaysResults front x → all ≡ rs ++ x ∷ [] → ReadsObjects whole all left
+objects_more whole rs all rest left here front x r is cut behind said added =
+    subst (λ (xs : List (ObjectResults _)). ReadsObjects whole xs left) (sym added)
+    (subst (λ (l : Option (List ℕ)). ReadsObjects whole (rs ++ x ∷ []) l) (sym behind)
+    (objects_go_on whole rs here x (subst (λ (l : Option (List ℕ)). ReadsObjects whole rs l) is r)
+    (subst (λ (w : List ℕ). SaysResults w x) cut said)))
+
 pub objects_end : {A : Type 0} (words : List ℕ) (rs : List (ObjectResults A)) → ReadsObjects (Some words) rs None → SaysObjects words rs
 objects_end words rs r = ends (other_parts (codes "] [")) (λ w r. SaysResults (first_part (codes "] [") w) r) (Some words) rs r
 

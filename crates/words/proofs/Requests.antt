@@ -1,12 +1,12 @@
 -- A part of a request that isn't said leaves the whole unsaid.
-use Rattle.std.proofs.Common.{◌≡◌, ◌∙◌, sym, refl, ap, subst, ℕ, List, [], ◌∷◌, length, Option, Some, arith}
+use Rattle.std.proofs.Common.{◌≡◌, ◌∙◌, inl, inr, sym, refl, ap, subst, ℕ, List, [], ◌∷◌, length, Option, Some, arith}
 use Rattle.std.specs.Prelude.{◌≢◌, slice_index, codes}
 use Rattle.primitives.specs.declared.plain_data.Request.{Request}
 use Rattle.primitives.specs.declared.plain_data.Request.TheVariants as request
 use Rattle.tags.specs.declared.value.Value.{Value}
 use Rattle.tags.specs.declared.value.Value.TheVariants as value
 use Rattle.words.specs.Marks.{first_part, other_parts, but_last_part, last_part}
-use Rattle.words.specs.Says.{HasNo, before, behind, space, IsOfKind, SaysValue}
+use Rattle.words.specs.Says.{HasNo, before, behind, space, IsOfKind, SaysState, SaysValue}
 use Rattle.words.specs.Unsaid.{NoObject, NoReference}
 use Rattle.words.specs.Requests.{SaysGiven, SaysRequest}
 use Rattle.words.specs.NoRequests.{NoBatch, NoGiven, NoMany, NoObjectWrite, NoPlace, NoPriority, NoReferences, NoRefs, NoRequest, NoWrite}
@@ -29,13 +29,19 @@ write_no_property A words none = record { none = λ w s. none.none (record { pro
 pub write_no_values : (A : Type 0) (words : List ℕ) → NoGiven A (other_parts (codes " ") (but_last_part (codes " at ") words)) → NoWrite A words
 write_no_values A words none = record { none = λ w s. none.none w.values s.values_said }
 
+nothing_is_no_state : (n : ℕ) → SaysState [] n → ⊥
+nothing_is_no_state n s = cc
+
 -- no value is said by no words
 nothing_says_none : {A : Type 0} (v : Value A) → SaysValue [] v → ⊥
 nothing_says_none value.Null s = absurd (omega (arith, ap length s))
 nothing_says_none (value.Bool b) s = absurd (omega (arith, s.0.parted))
 nothing_says_none (value.Unsigned n) s = absurd (omega (arith, s.0.parted))
 nothing_says_none (value.Signed z) s = absurd (omega (arith, s.0.parted))
-nothing_says_none (value.Enum n) s = absurd (omega (arith, s.0.parted))
+nothing_says_none (value.Enum n) s = elim s.form [
+  | inl t ↦ absurd (omega (arith, t.0.parted))
+  | inr t ↦ nothing_is_no_state n t.1
+]
 nothing_says_none (value.Object o) s = absurd (omega (arith, s.0.parted))
 nothing_says_none (value.Text set octets) s = absurd (omega (arith, s.0))
 nothing_says_none (value.Bits n octets) s = absurd (omega (arith, s.0.parted))

@@ -1,10 +1,12 @@
 -- What words say: numbers, objects, properties and values, in forms that a person reads (the types of 20.2).
-use Rattle.std.specs.Prelude.{◌≡◌, ◌≢◌, slice_index, ◌<◌, ◌^◌, ◌==◌, ◌⊎◌, FitsSigned, ℕ, ℤ, List, length, Option, Some}
+use Rattle.std.specs.Prelude.{◌≡◌, ◌≢◌, slice_index, ◌<◌, ◌^◌, ◌==◌, ◌⊎◌, FitsSigned, ℕ, ℤ, List, [], length, Option, Some}
 use Rattle.std.specs.Prelude.{None, Bool, true, false}
 use Rattle.std.specs.Prelude.{codes}
 use Rattle.std.specs.Int.{w32}
 use Rattle.std.specs.List.{position_or_len, before_first, after_first}
 use Rattle.std.specs.Str.Parse.{IsNumeral, digits_value, signed_digits_value, without_leading_sign}
+use Rattle.names.specs.Names.{number_in}
+use Rattle.names.specs.Tables.{binary_values, object_types, properties}
 use Rattle.primitives.specs.declared.plain_data.PropertyReference.{PropertyReference}
 use Rattle.tags.specs.declared.object_id.ObjectId.{ObjectId}
 use Rattle.tags.specs.declared.value.Value.{Value}
@@ -39,6 +41,18 @@ slash = 47
 abbrev pub space : ℕ
 space = 32
 
+-- a comma
+abbrev pub comma : ℕ
+comma = 44
+
+-- an opening bracket
+abbrev pub opening : ℕ
+opening = 91
+
+-- a closing bracket
+abbrev pub closing : ℕ
+closing = 93
+
 -- decimal digits alone, of a number of so many bits (20.2.4)
 pub record SaysUnsigned (bits : ℕ) (word : List ℕ) (n : ℕ) : Type 0 where
   pub digits : IsNumeral 10 word
@@ -52,17 +66,56 @@ pub record SaysSigned (word : List ℕ) (z : ℤ) : Type 0 where
   pub number : z ≡ signed_digits_value 10 word
   pub fits : FitsSigned w32 z
 
--- the type of an object, a colon, and its instance, as `5:1` (20.2.14)
-pub record SaysObject (word : List ℕ) (o : ObjectId) : Type 0 where
+-- the type of an object by its number, a colon, and its instance, as `5:1` (20.2.14)
+pub record SaysNumberedObject (word : List ℕ) (o : ObjectId) : Type 0 where
   pub parted : Has colon word
   pub type_said : SaysUnsigned 16 (before colon word) o.object_type
   pub instance_said : SaysUnsigned 32 (behind colon word) o.instance
 
--- a property, as `85`, or a property, a slash and an index, as `87/17` (21, BACnetPropertyReference)
+-- the type of an object by its name, a comma, and its instance, as `binary-value,1` (21, BACnetObjectType)
+pub record SaysNamedObject (word : List ℕ) (o : ObjectId) : Type 0 where
+  pub parted : Has comma word
+  pub type_named : number_in object_types (before comma word) ≡ Some o.object_type
+  pub fits : o.object_type < 2 ^ 16
+  pub instance_said : SaysUnsigned 32 (behind comma word) o.instance
+
+-- an object in one of these forms
+pub record SaysObject (word : List ℕ) (o : ObjectId) : Type 0 where
+  pub form : SaysNumberedObject word o ⊎ (HasNo colon word × SaysNamedObject word o)
+
+-- a property by its number or its name (21, BACnetPropertyIdentifier)
+pub record SaysPropertyNumber (word : List ℕ) (property : ℕ) : Type 0 where
+  pub form : SaysUnsigned 32 word property ⊎ (number_in properties word ≡ Some property)
+
+-- a property, a slash and an index, as `87/17` or `priority-array/17`
+pub record SaysSlashed (word : List ℕ) (property index : ℕ) : Type 0 where
+  pub parted : Has slash word
+  pub property_said : SaysPropertyNumber (before slash word) property
+  pub index_said : SaysUnsigned 32 (behind slash word) index
+
+-- a property and an index in brackets, as `priority-array[17]`
+pub record SaysBracketed (word : List ℕ) (property index : ℕ) : Type 0 where
+  pub no_slash : HasNo slash word
+  pub opened : Has opening word
+  pub closed : Has closing (behind opening word)
+  pub ended : behind closing (behind opening word) ≡ []
+  pub property_said : SaysPropertyNumber (before opening word) property
+  pub index_said : SaysUnsigned 32 (before closing (behind opening word)) index
+
+-- an element of a property in one of these forms
+pub record SaysElement (word : List ℕ) (property index : ℕ) : Type 0 where
+  pub form : SaysSlashed word property index ⊎ SaysBracketed word property index
+
+-- a property without an index
+pub record SaysWhole (word : List ℕ) (property : ℕ) : Type 0 where
+  pub no_slash : HasNo slash word
+  pub no_bracket : HasNo opening word
+  pub property_said : SaysPropertyNumber word property
+
+-- a property, as `85` or `present-value`, or an element of one (21, BACnetPropertyReference)
 abbrev pub SaysProperty : List ℕ → ℕ → Option ℕ → Type 0
-SaysProperty word property None = HasNo slash word × SaysUnsigned 32 word property
-SaysProperty word property (Some index) = Has slash word × SaysUnsigned 32 (before slash word) property ×
-    SaysUnsigned 32 (behind slash word) index
+SaysProperty word property None = SaysWhole word property
+SaysProperty word property (Some index) = SaysElement word property index
 
 -- a reference to a property (21, BACnetPropertyReference)
 abbrev pub SaysReference : List ℕ → PropertyReference → Type 0
@@ -89,13 +142,26 @@ abbrev pub SaysBool : List ℕ → Bool → Type 0
 SaysBool word true = word ≡ codes "true"
 SaysBool word false = word ≡ codes "false"
 
+-- a state of a binary value by its name, as `active` (21, BACnetBinaryPV)
+abbrev pub SaysState : List ℕ → ℕ → Type 0
+SaysState word n = number_in binary_values word ≡ Some n
+
+-- the number of an Enumerated, or such a state (20.2.11)
+pub record SaysEnumerated (word : List ℕ) (n : ℕ) : Type 0 where
+  pub form : SaysUnsigned 32 word n ⊎ SaysState word n
+
+-- an Enumerated behind `enum`, or a state alone
+pub record SaysEnum (words : List ℕ) (n : ℕ) : Type 0 where
+  pub form : (IsOfKind words (codes "enum") × SaysEnumerated (behind space words) n) ⊎
+      (HasNo space words × SaysState words n)
+
 -- the words say the value (20.2)
 abbrev pub SaysValue : {A : Type 0} → List ℕ → Value A → Type 0
 SaysValue words value.Null = words ≡ codes "null"
 SaysValue words (value.Bool b) = IsOfKind words (codes "bool") × SaysBool (behind space words) b
 SaysValue words (value.Unsigned n) = IsOfKind words (codes "unsigned") × SaysUnsigned 32 (behind space words) n
 SaysValue words (value.Signed z) = IsOfKind words (codes "signed") × SaysSigned (behind space words) z
-SaysValue words (value.Enum n) = IsOfKind words (codes "enum") × SaysUnsigned 32 (behind space words) n
+SaysValue words (value.Enum n) = SaysEnum words n
 SaysValue words (value.Object o) = IsOfKind words (codes "object") × SaysObject (behind space words) o
 SaysValue words (value.Text set octets) = Has space words × SaysSet (before space words) set ×
     SaysOctets (behind space words) octets

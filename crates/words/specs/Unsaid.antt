@@ -4,8 +4,8 @@ use Rattle.primitives.specs.declared.plain_data.PropertyReference.{PropertyRefer
 use Rattle.tags.specs.declared.object_id.ObjectId.{ObjectId}
 use Rattle.tags.specs.declared.value.Value.{Value}
 use Rattle.tags.specs.Value.{IsSound}
-use Rattle.words.specs.Says.{SaysUnsigned, SaysSigned, SaysBool, SaysObject, SaysReference, SaysNumbered, SaysSet}
-use Rattle.words.specs.Says.{SaysValue}
+use Rattle.words.specs.Says.{SaysUnsigned, SaysSigned, SaysBool, SaysEnumerated, SaysNamedObject, SaysObject}
+use Rattle.words.specs.Says.{SaysPropertyNumber, SaysReference, SaysNumbered, SaysSet, SaysState, SaysValue}
 
 -- the word says no number of so many bits
 pub record NoUnsigned (bits : ℕ) (word : List ℕ) : Type 0 where
@@ -19,9 +19,25 @@ pub record NoSigned (word : List ℕ) : Type 0 where
 pub record NoBool (word : List ℕ) : Type 0 where
   pub none : (b : Bool) → SaysBool word b → ⊥
 
+-- the word says no object by the name of its type
+pub record NoNamedObject (word : List ℕ) : Type 0 where
+  pub none : (o : ObjectId) → SaysNamedObject word o → ⊥
+
 -- the word says no object
 pub record NoObject (word : List ℕ) : Type 0 where
   pub none : (o : ObjectId) → SaysObject word o → ⊥
+
+-- the word is neither a property's number nor its name
+pub record NoPropertyNumber (word : List ℕ) : Type 0 where
+  pub none : (n : ℕ) → SaysPropertyNumber word n → ⊥
+
+-- the word names no state of a binary value
+pub record NoState (word : List ℕ) : Type 0 where
+  pub none : (n : ℕ) → SaysState word n → ⊥
+
+-- the word is neither the number of an Enumerated nor such a state
+pub record NoEnumerated (word : List ℕ) : Type 0 where
+  pub none : (n : ℕ) → SaysEnumerated word n → ⊥
 
 -- the word says no property
 pub record NoReference (word : List ℕ) : Type 0 where

@@ -1,17 +1,14 @@
 //! Numbers, and octets as pairs of hexadecimal digits.
 
-ghost use Rattle.std.specs.Prelude.{◌≡◌, ◌⊎◌, Ok, Some, IfOk, IfErr, flat_map};
-ghost use Rattle.std.specs.Fmt.{WritesOnOk};
+ghost use Rattle.std.specs.Prelude.{◌≡◌, ◌⊎◌, Ok, IfOk, IfErr};
 ghost use Rattle.hex.specs.Hex.{decode_of};
 ghost use Rattle.words.specs.Digits.{IsNumber, NoNumber, SaysOctets, NoOctets, NoPairs};
-ghost use Rattle.words.specs.Printed.{octets_text, pair_of};
 ghost use Rattle.words.specs.Says.{SaysSigned, SaysUnsigned};
 ghost use Rattle.words.specs.Unsaid.{NoSigned, NoUnsigned};
 
 use crate::unread::Unread;
 use hex::FromHexError;
 use std::alloc::Allocator;
-use std::fmt;
 use std::str::FromStr;
 use tags::{Items, Octets};
 
@@ -108,30 +105,4 @@ fn decoded<A: Allocator + Copy>(alloc: A, word: &str) -> Result<Octets<A>, Unrea
         Err(FromHexError::OutOfMemory) => Err(Unread::Memory),
         Err(_) => Err(Unread::Octets),
     }
-}
-
-/// Octets that are printed as pairs of upper-case hexadecimal digits, `-` where there are none.
-#[derive(Clone, Copy)]
-pub struct Hex<'a>(pub &'a [u8]);
-
-impl<'a> fmt::Display for Hex<'a> {
-    ghost output = { λ h. Some (octets_text h.0.now) };
-
-    #[tactic(auto, unfolding(crate::specs::Printed::octets_text))]
-    fn fmt<W: fmt::Write>(&self, f: &mut fmt::Formatter<W>) -> fmt::Result {
-        if self.0.is_empty() {
-            return f.write_str("-");
-        }
-        fmt_pairs(self.0, f)
-    }
-}
-
-/// Prints octets as two upper-case digits each.
-fn fmt_pairs<W: fmt::Write>(octets: &[u8], f: &mut fmt::Formatter<W>) -> fmt::Result
-    ensures { WritesOnOk W.write_str_gives f.old result (flat_map pair_of octets.now) f.new }
-{
-    for octet in octets {
-        write!(f, "{octet:02X}")?;
-    }
-    Ok(())
 }

@@ -1,23 +1,24 @@
-//! Objects, as `5:1`, and properties or elements of them, as `85` or `87/17`.
+//! Objects, as `5:1` or `binary-value,1`, and properties or elements of them, as `85` or `present-value`, `87/17`,
+//! `priority-array/17` or `priority-array[17]`.
 
-ghost use Rattle.std.specs.Prelude.{◌≡◌, ◌⊎◌, Some, IfOk, IfErr};
-ghost use Rattle.words.specs.Printed.{object_text, reference_text};
-ghost use Rattle.words.specs.Says.{Has, HasNo, SaysObject, SaysReference, colon};
-ghost use Rattle.words.specs.Unsaid.{NoObject, NoReference};
+ghost use Rattle.std.specs.Prelude.{◌≡◌, ◌⊎◌, IfOk, IfErr};
+ghost use Rattle.words.specs.Says.{Has, HasNo, SaysNamedObject, SaysObject, SaysPropertyNumber, SaysReference, colon};
+ghost use Rattle.words.specs.Says.{slash};
+ghost use Rattle.words.specs.Unsaid.{NoNamedObject, NoObject, NoPropertyNumber, NoReference};
 
 use crate::octets::{parse_u16, parse_u32};
 use crate::parts::cut_at;
-use crate::shown::Words;
 use crate::unread::Unread;
+use names::{number_in, object_types, properties};
 use primitives::PropertyReference;
-use std::fmt;
 use tags::ObjectId;
 
-/// The object whose type and instance a word says, as `5:1`. It need not have a spelling.
+/// The object whose type and instance a word says, as `5:1` or `binary-value,1`. It need not have a spelling.
 ///
 /// # Errors
-/// `Object` where there is no colon, or `Number` where its sides are not numbers of 16 and 32 bits.
-#[tactic(auto, using(crate::proofs::Unsaid::no_type))]
+/// `Object` where there is no colon and no type of that name with an instance behind it, or `Number` where the sides of
+/// a colon are not numbers of 16 and 32 bits.
+#[tactic(auto, using(crate::proofs::Unsaid::object_laws))]
 pub fn parse_object(word: &str) -> Result<ObjectId, Unread>
     ensures read { IfOk result (SaysObject word.now) }
     ensures refused { IfErr result (λ e. NoObject word.now) }
@@ -25,7 +26,7 @@ pub fn parse_object(word: &str) -> Result<ObjectId, Unread>
         (Has colon word.now × (e ≡ Unread.Number))) }
 {
     let Some((object_type, instance)) = cut_at(word, ':') else {
-        return Err(Unread::Object);
+        return named_object(word);
     };
     Ok(ObjectId {
         object_type: parse_u16(object_type)?,
@@ -33,49 +34,77 @@ pub fn parse_object(word: &str) -> Result<ObjectId, Unread>
     })
 }
 
-impl<'a> fmt::Display for Words<'a, ObjectId> {
-    ghost output = { λ w. Some (object_text w.0.now) };
-
-    #[tactic(auto, unfolding(crate::specs::Printed::object_text))]
-    fn fmt<W: fmt::Write>(&self, f: &mut fmt::Formatter<W>) -> fmt::Result {
-        let ObjectId {
-            object_type,
-            instance,
-        } = *self.0;
-        write!(f, "{object_type}:{instance}")
-    }
+/// The object that a word says by the name of its type, as `binary-value,1`.
+#[tactic(auto, using(crate::proofs::Unsaid::named_laws))]
+fn named_object(word: &str) -> Result<ObjectId, Unread>
+    ensures read { IfOk result (SaysNamedObject word.now) }
+    ensures refused { IfErr result (λ e. (e ≡ Unread.Object) × NoNamedObject word.now) }
+{
+    let Some((name, instance)) = cut_at(word, ',') else {
+        return Err(Unread::Object);
+    };
+    let Some(number) = number_in(object_types(), name) else {
+        return Err(Unread::Object);
+    };
+    let Ok(object_type) = u16::try_from(number) else {
+        return Err(Unread::Object);
+    };
+    let Ok(instance) = parse_u32(instance) else {
+        return Err(Unread::Object);
+    };
+    Ok(ObjectId {
+        object_type,
+        instance,
+    })
 }
 
-/// The property or element of one that a word says, as `85` or `87/17`.
+/// The property or element of one that a word says, as `85`, `present-value`, `87/17` or `priority-array[17]`.
 ///
 /// # Errors
-/// `Number` where its parts are not numbers of 32 bits.
-#[tactic(auto, using(crate::proofs::Unsaid::no_property))]
+/// `Number` where its parts are not numbers of 32 bits, and the first no name of a property.
+#[tactic(auto, using(crate::proofs::Unsaid::property_laws))]
 pub fn parse_reference(word: &str) -> Result<PropertyReference, Unread>
     ensures read { IfOk result (SaysReference word.now) }
     ensures refused { IfErr result (λ e. (e ≡ Unread.Number) × NoReference word.now) }
 {
     match cut_at(word, '/') {
         Some((property, index)) => Ok(PropertyReference {
-            property: parse_u32(property)?,
+            property: property_number(property)?,
             index: Some(parse_u32(index)?),
         }),
-        None => Ok(PropertyReference {
-            property: parse_u32(word)?,
-            index: None,
-        }),
+        None => parse_whole(word),
     }
 }
 
-impl<'a> fmt::Display for Words<'a, PropertyReference> {
-    ghost output = { λ w. Some (reference_text w.0.now) };
+/// The property that a word without a slash says, or the element of one in brackets.
+#[tactic(auto, using(crate::proofs::Unsaid::bracket_laws))]
+fn parse_whole(word: &str) -> Result<PropertyReference, Unread>
+    ensures read { IfOk result (λ r. HasNo slash word.now → SaysReference word.now r) }
+    ensures refused { IfErr result (λ e. (e ≡ Unread.Number) × (HasNo slash word.now → NoReference word.now)) }
+{
+    let Some((property, rest)) = cut_at(word, '[') else {
+        return Ok(PropertyReference {
+            property: property_number(word)?,
+            index: None,
+        });
+    };
+    let Some((index, "")) = cut_at(rest, ']') else {
+        return Err(Unread::Number);
+    };
+    Ok(PropertyReference {
+        property: property_number(property)?,
+        index: Some(parse_u32(index)?),
+    })
+}
 
-    #[tactic(auto, unfolding(crate::specs::Printed::reference_text, crate::specs::Printed::property_text))]
-    fn fmt<W: fmt::Write>(&self, f: &mut fmt::Formatter<W>) -> fmt::Result {
-        let property = self.0.property;
-        match self.0.index {
-            Some(index) => write!(f, "{property}/{index}"),
-            None => write!(f, "{property}"),
-        }
+/// The number of a property, which a word says by that or by its name.
+#[tactic(auto, using(crate::proofs::Unsaid::number_laws))]
+fn property_number(word: &str) -> Result<u32, Unread>
+    ensures read { IfOk result (SaysPropertyNumber word.now) }
+    ensures refused { IfErr result (λ e. (e ≡ Unread.Number) × NoPropertyNumber word.now) }
+{
+    match number_in(properties(), word) {
+        Some(property) => Ok(property),
+        None => parse_u32(word),
     }
 }

@@ -1,10 +1,7 @@
 //! Replies: `done`, `error 2 40`, `error 2 40 at 5:1 77`, `values enum 1, null`,
 //! `many [5:1 85 = enum 1; 87/17 ! 2 42]`.
 
-ghost use Rattle.std.specs.Prelude.{◌≡◌, ◌⊎◌, ◌++◌, IfOk, IfErr, Some, None, codes, flat_map, option_map};
-ghost use Rattle.std.specs.Fmt.{WritesOnOk};
-ghost use Rattle.words.specs.Printed.{error_text, object_results_text, read_text, reply_text, result_text};
-ghost use Rattle.words.specs.Printed.{results_text};
+ghost use Rattle.std.specs.Prelude.{◌≡◌, ◌⊎◌, ◌++◌, IfOk, IfErr, None, option_map};
 ghost use Rattle.words.specs.Replies.{IsBracketed, NoBracketed, NoBrackets, NoEachResult, NoError, NoErrorReply};
 ghost use Rattle.words.specs.Replies.{NoKind, NoNamedError, NoObjects, NoRefusal, NoReply, NoResult, NoResults};
 ghost use Rattle.words.specs.Replies.{NoValuesRead, SaysBracketed, SaysEachResult, SaysError, SaysErrorReply, SaysKind};
@@ -14,15 +11,12 @@ ghost use Rattle.words.specs.Replies.{SaysValuesRead};
 use crate::octets::parse_u32;
 use crate::parts::{cut_at, cut_first};
 use crate::reference::{parse_object, parse_reference};
-use crate::request::fmt_place;
-use crate::shown::Words;
 use crate::unread::Unread;
 use crate::value::{given_values, parse_values};
 use primitives::{
     ErrorClass, ErrorCode, ObjectResults, PropertyReference, PropertyResult, Reply, Values,
 };
 use std::alloc::Allocator;
-use std::fmt;
 use tags::Items;
 
 /// The reply that words say, with a spelling or without.
@@ -246,145 +240,4 @@ fn property_error<A: Allocator>(words: &str) -> Result<PropertyResult<A>, Unread
         index,
         result: Err(error),
     })
-}
-
-impl<'a, A: Allocator> fmt::Display for Words<'a, Reply<A>> {
-    ghost output = { λ w. Some (reply_text w.0.now) };
-
-    #[tactic(auto, unfolding(crate::specs::Printed::reply_text))]
-    fn fmt<W: fmt::Write>(&self, f: &mut fmt::Formatter<W>) -> fmt::Result {
-        match self.0 {
-            Reply::Values(values) => fmt_values(values, f),
-            Reply::Many(results) => {
-                f.write_str("many")?;
-                fmt_many(results.as_slice(), f)
-            }
-            Reply::Done => f.write_str("done"),
-            Reply::Error(class, code) => {
-                f.write_str("error")?;
-                fmt_error(*class, *code, f)
-            }
-            Reply::ErrorAt {
-                class,
-                code,
-                object,
-                property,
-                index,
-            } => {
-                f.write_str("error")?;
-                fmt_error(*class, *code, f)?;
-                f.write_str(" at ")?;
-                fmt_place(*object, *property, *index, f)
-            }
-        }
-    }
-}
-
-/// Prints the values of a property, with no space where there are none.
-#[tactic(auto, unfolding(crate::specs::Printed::read_text, crate::specs::Printed::values_text))]
-fn fmt_values<A: Allocator, W: fmt::Write>(
-    values: &Values<A>,
-    f: &mut fmt::Formatter<W>,
-) -> fmt::Result
-    ensures { WritesOnOk W.write_str_gives f.old result (read_text values.now) f.new }
-{
-    if values.is_empty() {
-        return f.write_str("values");
-    }
-    write!(f, "values {}", Words(values))
-}
-
-/// Prints a class and a code, each behind a space.
-#[tactic(auto, unfolding(crate::specs::Printed::error_text))]
-fn fmt_error<W: fmt::Write>(
-    class: ErrorClass,
-    code: ErrorCode,
-    f: &mut fmt::Formatter<W>,
-) -> fmt::Result
-    ensures { WritesOnOk W.write_str_gives f.old result (error_text class code) f.new }
-{
-    let class = u32::from(class);
-    let code = u32::from(code);
-    write!(f, " {class} {code}")
-}
-
-/// Prints what was read of several objects, each behind a space and within brackets.
-fn fmt_many<A: Allocator, W: fmt::Write>(
-    all: &[ObjectResults<A>],
-    f: &mut fmt::Formatter<W>,
-) -> fmt::Result
-    ensures { WritesOnOk W.write_str_gives f.old result (flat_map (λ o. object_results_text o) all.now) f.new }
-{
-    for results in all {
-        fmt_object_results(results, f)?;
-    }
-    Ok(())
-}
-
-/// Prints what was read of an object, behind a space and within brackets.
-#[tactic(auto, unfolding(crate::specs::Printed::object_results_text))]
-fn fmt_object_results<A: Allocator, W: fmt::Write>(
-    results: &ObjectResults<A>,
-    f: &mut fmt::Formatter<W>,
-) -> fmt::Result
-    ensures { WritesOnOk W.write_str_gives f.old result (object_results_text results.now) f.new }
-{
-    write!(f, " [{}", Words(&results.object))?;
-    fmt_results(results.results.as_slice(), f)?;
-    f.write_str("]")
-}
-
-/// Prints what was read of an object, behind a space and parted by `; `.
-#[tactic(auto, unfolding(crate::specs::Printed::results_text))]
-fn fmt_results<A: Allocator, W: fmt::Write>(
-    results: &[PropertyResult<A>],
-    f: &mut fmt::Formatter<W>,
-) -> fmt::Result
-    ensures { WritesOnOk W.write_str_gives f.old result (results_text results.now) f.new }
-{
-    match results {
-        [] => Ok(()),
-        [first, rest @ ..] => {
-            f.write_str(" ")?;
-            fmt_result(first, f)?;
-            fmt_more_results(rest, f)
-        }
-    }
-}
-
-/// Prints what was read of properties, each behind a semicolon.
-fn fmt_more_results<A: Allocator, W: fmt::Write>(
-    results: &[PropertyResult<A>],
-    f: &mut fmt::Formatter<W>,
-) -> fmt::Result
-    ensures { WritesOnOk W.write_str_gives f.old result
-        (flat_map (λ r. codes "; " ++ result_text r) results.now) f.new }
-{
-    for read in results {
-        f.write_str("; ")?;
-        fmt_result(read, f)?;
-    }
-    Ok(())
-}
-
-/// Prints what was read of a property, or why nothing was.
-#[tactic(auto, unfolding(crate::specs::Printed::result_text, crate::specs::Printed::outcome_text, crate::specs::Printed::reference_text))]
-fn fmt_result<A: Allocator, W: fmt::Write>(
-    read: &PropertyResult<A>,
-    f: &mut fmt::Formatter<W>,
-) -> fmt::Result
-    ensures { WritesOnOk W.write_str_gives f.old result (result_text read.now) f.new }
-{
-    let reference = PropertyReference {
-        property: read.property,
-        index: read.index,
-    };
-    write!(f, "{}", Words(&reference))?;
-    match &read.result {
-        Ok(values) => write!(f, " = {}", Words(values)),
-        Err((class, code)) => {
-            f.write_str(" !")?;
-            fmt_error(*class, *code, f)
-        }
-    }
 }

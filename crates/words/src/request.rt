@@ -1,14 +1,11 @@
 //! Requests: `read 5:1 85`, `write 45:1 85 signed 20 at 8`, `many 5:1 85,87/17 8:99 76`,
 //! `batch 45:1 85 signed 20 at 8; 45:1 28 text -; 5:1 85 null`.
 
-ghost use Rattle.std.specs.Prelude.{◌≡◌, ◌∷◌, ◌++◌, ◌⊎◌, ◌↔◌, [], Some, IfOk, IfErr, OnOk, IsTrue, codes, flat_map};
+ghost use Rattle.std.specs.Prelude.{◌≡◌, ◌∷◌, ◌++◌, ◌⊎◌, ◌↔◌, [], IfOk, IfErr, OnOk, IsTrue};
 ghost use Rattle.std.specs.Prelude.{length, option_map};
-ghost use Rattle.std.specs.Fmt.{WritesOnOk};
 ghost use Rattle.std.specs.Bool.{MatchBool};
 ghost use Rattle.tags.specs.declared.object_id.ObjectId.{ObjectId};
 ghost use Rattle.primitives.specs.Sound.{IsSoundRequest};
-ghost use Rattle.words.specs.Printed.{batch_text, given_text, place_text, priority_text, reference_text};
-ghost use Rattle.words.specs.Printed.{references_text, refs_text, request_text, write_text, writes_text};
 ghost use Rattle.words.specs.Requests.{AreGrouped, EndsElsewhere, EndsWith, SaysBatch, SaysObjectWrite, SaysPlace};
 ghost use Rattle.words.specs.Requests.{SaysPriority, SaysMany, SaysReferences, SaysRefs, SaysRequest, SaysWrite};
 ghost use Rattle.words.specs.Requests.{all_writes, other_refs};
@@ -19,12 +16,10 @@ ghost use Rattle.words.specs.NoRequests.{SaysUnspelled};
 use crate::octets::parse_u8;
 use crate::parts::{cut_at, cut_first, cut_last};
 use crate::reference::{parse_object, parse_reference};
-use crate::shown::Words;
 use crate::unread::Unread;
 use crate::value::given_values;
 use primitives::{ObjectRefs, ObjectWrites, PropertyReference, PropertyWrite, Request, Values};
 use std::alloc::{AllocError, Allocator};
-use std::fmt;
 use tags::{Items, ObjectId};
 
 /// The request that words say: each write has one value, neighbouring writes to one object in a
@@ -327,213 +322,4 @@ fn first_write<A: Allocator>(
     let mut writes = Items::new(alloc);
     writes.push(write)?;
     Ok(ObjectWrites { object, writes })
-}
-
-impl<'a, A: Allocator> fmt::Display for Words<'a, Request<A>> {
-    ghost output = { λ w. Some (request_text w.0.now) };
-
-    #[tactic(auto, unfolding(crate::specs::Printed::request_text))]
-    fn fmt<W: fmt::Write>(&self, f: &mut fmt::Formatter<W>) -> fmt::Result {
-        match self.0 {
-            Request::Read {
-                object,
-                property,
-                index,
-            } => {
-                f.write_str("read ")?;
-                fmt_place(*object, *property, *index, f)
-            }
-            Request::ReadMany(groups) => {
-                f.write_str("many")?;
-                fmt_many(groups.as_slice(), f)
-            }
-            Request::Write {
-                object,
-                property,
-                index,
-                values,
-                priority,
-            } => {
-                f.write_str("write ")?;
-                fmt_place(*object, *property, *index, f)?;
-                fmt_given(values, f)?;
-                fmt_priority(*priority, f)
-            }
-            Request::WriteMany(groups) => {
-                f.write_str("batch ")?;
-                fmt_batch(groups.as_slice(), f)
-            }
-        }
-    }
-}
-
-/// Prints an object, and a property or an element of it.
-#[tactic(auto, unfolding(crate::specs::Printed::place_text, crate::specs::Printed::reference_text))]
-pub(crate) fn fmt_place<W: fmt::Write>(
-    object: ObjectId,
-    property: u32,
-    index: Option<u32>,
-    f: &mut fmt::Formatter<W>,
-) -> fmt::Result
-    ensures { WritesOnOk W.write_str_gives f.old result (place_text object property index) f.new }
-{
-    let reference = PropertyReference { property, index };
-    write!(f, "{} {}", Words(&object), Words(&reference))
-}
-
-/// Prints the values of a write, behind a space.
-#[tactic(auto, unfolding(crate::specs::Printed::given_text))]
-fn fmt_given<A: Allocator, W: fmt::Write>(
-    values: &Values<A>,
-    f: &mut fmt::Formatter<W>,
-) -> fmt::Result
-    ensures { WritesOnOk W.write_str_gives f.old result (given_text values.now) f.new }
-{
-    if values.is_empty() {
-        return Ok(());
-    }
-    write!(f, " {}", Words(values))
-}
-
-/// Prints the priority of a write, where it has one.
-#[tactic(auto, unfolding(crate::specs::Printed::priority_text))]
-fn fmt_priority<W: fmt::Write>(priority: Option<u8>, f: &mut fmt::Formatter<W>) -> fmt::Result
-    ensures { WritesOnOk W.write_str_gives f.old result (priority_text priority) f.new }
-{
-    match priority {
-        Some(priority) => write!(f, " at {priority}"),
-        None => Ok(()),
-    }
-}
-
-/// Prints objects, each with references to its properties.
-#[tactic(auto, unfolding(crate::specs::Printed::refs_text))]
-fn fmt_many<A: Allocator, W: fmt::Write>(
-    groups: &[ObjectRefs<A>],
-    f: &mut fmt::Formatter<W>,
-) -> fmt::Result
-    ensures { WritesOnOk W.write_str_gives f.old result (flat_map (λ g. refs_text g) groups.now) f.new }
-{
-    for group in groups {
-        write!(
-            f,
-            " {}{}",
-            Words(&group.object),
-            Referring(group.refs.as_slice())
-        )?;
-    }
-    Ok(())
-}
-
-/// References to properties behind a space, with a comma between each and the next.
-#[derive(Clone, Copy)]
-struct Referring<'a>(&'a [PropertyReference]);
-
-impl fmt::Display for Referring<'_> {
-    ghost output = { λ r. Some (references_text r.0.now) };
-
-    #[tactic(auto, unfolding(crate::specs::Printed::references_text))]
-    fn fmt<W: fmt::Write>(&self, f: &mut fmt::Formatter<W>) -> fmt::Result {
-        match self.0 {
-            [] => Ok(()),
-            [first, rest @ ..] => {
-                write!(f, " {}", Words(first))?;
-                fmt_more_references(rest, f)
-            }
-        }
-    }
-}
-
-/// Prints references, each behind a comma.
-fn fmt_more_references<W: fmt::Write>(
-    references: &[PropertyReference],
-    f: &mut fmt::Formatter<W>,
-) -> fmt::Result
-    ensures { WritesOnOk W.write_str_gives f.old result
-        (flat_map (λ r. codes "," ++ reference_text r) references.now) f.new }
-{
-    for reference in references {
-        write!(f, ",{}", Words(reference))?;
-    }
-    Ok(())
-}
-
-/// Prints writes to objects.
-#[tactic(auto, unfolding(crate::specs::Printed::batch_text))]
-fn fmt_batch<A: Allocator, W: fmt::Write>(
-    groups: &[ObjectWrites<A>],
-    f: &mut fmt::Formatter<W>,
-) -> fmt::Result
-    ensures { WritesOnOk W.write_str_gives f.old result (batch_text groups.now) f.new }
-{
-    match groups {
-        [] => Ok(()),
-        [first, rest @ ..] => {
-            fmt_writes(first.object, first.writes.as_slice(), f)?;
-            fmt_more_groups(rest, f)
-        }
-    }
-}
-
-/// Prints the writes to objects, each object's behind a semicolon.
-fn fmt_more_groups<A: Allocator, W: fmt::Write>(
-    groups: &[ObjectWrites<A>],
-    f: &mut fmt::Formatter<W>,
-) -> fmt::Result
-    ensures { WritesOnOk W.write_str_gives f.old result
-        (flat_map (λ g. codes "; " ++ writes_text g.object g.writes) groups.now) f.new }
-{
-    for group in groups {
-        f.write_str("; ")?;
-        fmt_writes(group.object, group.writes.as_slice(), f)?;
-    }
-    Ok(())
-}
-
-/// Prints the writes to an object.
-#[tactic(auto, unfolding(crate::specs::Printed::writes_text))]
-fn fmt_writes<A: Allocator, W: fmt::Write>(
-    object: ObjectId,
-    writes: &[PropertyWrite<A>],
-    f: &mut fmt::Formatter<W>,
-) -> fmt::Result
-    ensures { WritesOnOk W.write_str_gives f.old result (writes_text object writes.now) f.new }
-{
-    match writes {
-        [] => Ok(()),
-        [first, rest @ ..] => {
-            fmt_write(object, first, f)?;
-            fmt_more_writes(object, rest, f)
-        }
-    }
-}
-
-/// Prints writes to an object, each behind a semicolon.
-fn fmt_more_writes<A: Allocator, W: fmt::Write>(
-    object: ObjectId,
-    writes: &[PropertyWrite<A>],
-    f: &mut fmt::Formatter<W>,
-) -> fmt::Result
-    ensures { WritesOnOk W.write_str_gives f.old result
-        (flat_map (λ w. codes "; " ++ write_text object w) writes.now) f.new }
-{
-    for write in writes {
-        f.write_str("; ")?;
-        fmt_write(object, write, f)?;
-    }
-    Ok(())
-}
-
-/// Prints a write to an object.
-#[tactic(auto, unfolding(crate::specs::Printed::write_text))]
-fn fmt_write<A: Allocator, W: fmt::Write>(
-    object: ObjectId,
-    write: &PropertyWrite<A>,
-    f: &mut fmt::Formatter<W>,
-) -> fmt::Result
-    ensures { WritesOnOk W.write_str_gives f.old result (write_text object write.now) f.new }
-{
-    fmt_place(object, write.property, write.index, f)?;
-    fmt_given(&write.values, f)?;
-    fmt_priority(write.priority, f)
 }

@@ -1,23 +1,20 @@
-//! Values: `null`, `bool true`, `unsigned 7`, `signed -7`, `enum 1`, `object 5:1`, `text 6F6E`,
-//! `text/4 0041`, `bits 4 F0`, `other 10 7C0C1601`, `built 0901`; several are parted by `, `.
+//! Values: `null`, `bool true`, `unsigned 7`, `signed -7`, `enum 1` or `enum active`, `active`, `object 5:1`,
+//! `text 6F6E`, `text/4 0041`, `bits 4 F0`, `other 10 7C0C1601`, `built 0901`; several are parted by `, `.
 
-ghost use Rattle.std.specs.Prelude.{◌≡◌, ◌⊎◌, ◌++◌, Some, IfOk, IfErr, codes, flat_map, option_map};
-ghost use Rattle.std.specs.Fmt.{WritesOnOk};
+ghost use Rattle.std.specs.Prelude.{◌≡◌, ◌⊎◌, IfOk, IfErr, option_map};
 ghost use Rattle.tags.specs.Value.{IsSound};
-ghost use Rattle.words.specs.Printed.{text_text, value_text, values_text};
-ghost use Rattle.words.specs.Says.{SaysBool, SaysNumbered, SaysSet, SaysValue};
+ghost use Rattle.words.specs.Says.{SaysBool, SaysEnumerated, SaysNumbered, SaysSet, SaysState, SaysValue};
 ghost use Rattle.words.specs.Requests.{SaysGiven, SaysValues};
 ghost use Rattle.words.specs.NoRequests.{NoGiven, NoValues};
-ghost use Rattle.words.specs.Unsaid.{NoBool, NoNumbered, NoSet, NoValue, SaysUnsound};
+ghost use Rattle.words.specs.Unsaid.{NoBool, NoEnumerated, NoNumbered, NoSet, NoState, NoValue, SaysUnsound};
 
-use crate::octets::{Hex, parse_i32, parse_octets, parse_u8, parse_u32};
+use crate::octets::{parse_i32, parse_octets, parse_u8, parse_u32};
 use crate::parts::{cut_at, cut_first};
 use crate::reference::parse_object;
-use crate::shown::Words;
 use crate::unread::Unread;
+use names::{binary_values, number_in};
 use primitives::Values;
 use std::alloc::Allocator;
-use std::fmt;
 use tags::{Items, Octets, Value};
 
 /// The value that words say, which has a spelling.
@@ -73,7 +70,7 @@ pub(crate) fn given_values<A: Allocator + Copy>(
 }
 
 /// The value that words say, with a spelling or without.
-#[tactic(auto, using(crate::proofs::Unsaid::no_text))]
+#[tactic(auto, using(crate::proofs::Unsaid::no_text, crate::proofs::Unsaid::no_word))]
 fn any_value<A: Allocator + Copy>(alloc: A, words: &str) -> Result<Value<A>, Unread>
     ensures read { IfOk result (SaysValue words.now) }
     ensures refused { IfErr result (λ e. (e ≡ Unread.Memory) ⊎ NoValue A words.now) }
@@ -81,14 +78,14 @@ fn any_value<A: Allocator + Copy>(alloc: A, words: &str) -> Result<Value<A>, Unr
     let Some((kind, rest)) = cut_at(words, ' ') else {
         return match words {
             "null" => Ok(Value::Null),
-            _ => Err(Unread::Value),
+            _ => Ok(Value::Enum(state(words)?)),
         };
     };
     match kind {
         "bool" => Ok(Value::Bool(flag(rest)?)),
         "unsigned" => Ok(Value::Unsigned(parse_u32(rest)?)),
         "signed" => Ok(Value::Signed(parse_i32(rest)?)),
-        "enum" => Ok(Value::Enum(parse_u32(rest)?)),
+        "enum" => Ok(Value::Enum(enumerated(rest)?)),
         "object" => Ok(Value::Object(parse_object(rest)?)),
         "bits" => {
             let (unused, octets) = numbered(alloc, rest)?;
@@ -119,6 +116,29 @@ fn flag(word: &str) -> Result<bool, Unread>
     }
 }
 
+/// The number of a state of a binary value, as `active`.
+fn state(word: &str) -> Result<u32, Unread>
+    ensures read { IfOk result (SaysState word.now) }
+    ensures refused { IfErr result (λ e. NoState word.now) }
+{
+    match number_in(binary_values(), word) {
+        Some(state) => Ok(state),
+        None => Err(Unread::Value),
+    }
+}
+
+/// The number of an Enumerated, which a word says by that or as a state of a binary value.
+#[tactic(auto, using(crate::proofs::Unsaid::enumerated_laws))]
+fn enumerated(word: &str) -> Result<u32, Unread>
+    ensures read { IfOk result (SaysEnumerated word.now) }
+    ensures refused { IfErr result (λ e. NoEnumerated word.now) }
+{
+    match state(word) {
+        Ok(state) => Ok(state),
+        Err(_) => parse_u32(word),
+    }
+}
+
 /// The set that stands behind `text/`, or set 0 for `text`.
 fn set_of(kind: &str) -> Result<u8, Unread>
     ensures read { IfOk result (SaysSet kind.now) }
@@ -141,66 +161,4 @@ fn numbered<A: Allocator + Copy>(alloc: A, words: &str) -> Result<(u8, Octets<A>
         return Err(Unread::Value);
     };
     Ok((parse_u8(number)?, parse_octets(alloc, word)?))
-}
-
-impl<'a, A: Allocator> fmt::Display for Words<'a, Value<A>> {
-    ghost output = { λ w. Some (value_text w.0.now) };
-
-    #[tactic(auto, unfolding(crate::specs::Printed::value_text, crate::specs::Printed::numbered_text))]
-    fn fmt<W: fmt::Write>(&self, f: &mut fmt::Formatter<W>) -> fmt::Result {
-        match self.0 {
-            Value::Null => f.write_str("null"),
-            Value::Bool(true) => f.write_str("bool true"),
-            Value::Bool(false) => f.write_str("bool false"),
-            Value::Unsigned(number) => write!(f, "unsigned {number}"),
-            Value::Signed(number) => write!(f, "signed {number}"),
-            Value::Enum(number) => write!(f, "enum {number}"),
-            Value::Object(object) => write!(f, "object {}", Words(object)),
-            Value::Text { set, octets } => fmt_text(*set, octets.as_slice(), f),
-            Value::Bits { unused, octets } => {
-                write!(f, "bits {unused} {}", Hex(octets.as_slice()))
-            }
-            Value::Other { tag, octets } => write!(f, "other {tag} {}", Hex(octets.as_slice())),
-            Value::Built(octets) => write!(f, "built {}", Hex(octets.as_slice())),
-        }
-    }
-}
-
-/// Prints a text, with its set where that is not 0.
-#[tactic(auto, unfolding(crate::specs::Printed::text_text, crate::specs::Printed::numbered_text))]
-fn fmt_text<W: fmt::Write>(set: u8, octets: &[u8], f: &mut fmt::Formatter<W>) -> fmt::Result
-    ensures { WritesOnOk W.write_str_gives f.old result (text_text set octets.now) f.new }
-{
-    if set == 0 {
-        return write!(f, "text {}", Hex(octets));
-    }
-    write!(f, "text/{set} {}", Hex(octets))
-}
-
-impl<'a, A: Allocator> fmt::Display for Words<'a, Values<A>> {
-    ghost output = { λ w. Some (values_text w.0.now) };
-
-    #[tactic(auto, unfolding(crate::specs::Printed::values_text))]
-    fn fmt<W: fmt::Write>(&self, f: &mut fmt::Formatter<W>) -> fmt::Result {
-        match self.0.as_slice() {
-            [] => Ok(()),
-            [first, rest @ ..] => {
-                write!(f, "{}", Words(first))?;
-                fmt_more(rest, f)
-            }
-        }
-    }
-}
-
-/// Prints values, each behind a comma and a space.
-fn fmt_more<A: Allocator, W: fmt::Write>(
-    values: &[Value<A>],
-    f: &mut fmt::Formatter<W>,
-) -> fmt::Result
-    ensures { WritesOnOk W.write_str_gives f.old result (flat_map (λ v. codes ", " ++ value_text v) values.now) f.new }
-{
-    for value in values {
-        write!(f, ", {}", Words(value))?;
-    }
-    Ok(())
 }

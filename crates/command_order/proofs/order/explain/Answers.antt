@@ -9,4 +9,5 @@ returns c =
     let hex = c.optional_hex_argument.ensures in
     let words = adds c.in_ok-arg.ensures hex.own named hex.rule in
     let capture = adds c.in_ok-arg-2.ensures c.option.ensures.own words c.option.ensures.rule in
-    adds_last c.arg-3.result _ _ c.arg-3.ensures c.json.ensures.own capture c.json.ensures.rule
+    let json = adds c.in_ok-arg-3.ensures c.json.ensures.own capture c.json.ensures.rule in
+    adds_last c.arg-4.result _ _ c.arg-4.ensures c.flag.ensures.own json c.flag.ensures.rule

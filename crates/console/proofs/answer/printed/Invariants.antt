@@ -1,5 +1,5 @@
 use Rattle.std.proofs.Common.{◌≡◌, List, ℕ, ◌++◌, ◌∷◌, [], drop, flat_map}
-use Rattle.console.specs.HexText.{pairs_of}
+use Rattle.octet_texts.specs.Pairs.{pairs_of}
 use Rattle.console.proofs.answer.printed.Given as goal
 
 abbrev pub invariant-loop-octets : goal.invariant-loop-octets

@@ -11,5 +11,5 @@ returns-clause-lives g c =
 
 pub returns-clause-events : goal.returns-clause-events
 returns-clause-events g c =
-    led_on_ok c.go_on.result (asked_of c.args.steps) c.args.live.now c.go_on.new.live (g.O.Write.contents c.args.out.now)
+    led_on_ok c.args.settings.spelling c.go_on.result (asked_of c.args.steps) c.args.live.now c.go_on.new.live (g.O.Write.contents c.args.out.now)
     (g.O.Write.contents c.go_on.new.out) (returns-clause-lives g c)

@@ -12,7 +12,7 @@ loop-step-preserved g c = (
   (subst (λ (ss : List (LiveStep _)). AllByRecursion IsSoundLiveStep ss) c.in-Some.ensures.steps.0
       c.loop-step.invariant.0).1,
   λ v new rest. c.loop-step.invariant.1 v new
-      (subst (λ (ss : List (LiveStep _)). Lives (asked_of ss) c.loop-step.live v (g.O.Write.contents c.loop-step.out) new)
+      (subst (λ (ss : List (LiveStep _)). Lives c.args.spelling (asked_of ss) c.loop-step.live v (g.O.Write.contents c.loop-step.out) new)
       (sym c.in-Some.ensures.steps.0)
       (step_before c.in-Some.step c.next.new.self.rest.items c.loop-step.live c.take_step.new.self v
       (g.O.Write.contents c.loop-step.out) (g.O.Write.contents c.take_step.new.out) new c.in_ok-take_step.ensures.lives
@@ -26,5 +26,5 @@ returns g c =
     (omega (arith, c.loop-step.step-iterator.rest.ok.0, c.in-None.ensures.steps.0)) in
     let k = g.O.Write.contents c.loop-step.out in
     c.loop-step.invariant.1 c.loop-step.live k
-    (subst (λ (ss : List (LiveStep _)). Lives (asked_of ss) c.loop-step.live c.loop-step.live k k) (sym none)
+    (subst (λ (ss : List (LiveStep _)). Lives c.args.spelling (asked_of ss) c.loop-step.live c.loop-step.live k k) (sym none)
     (lives_none c.loop-step.live k))

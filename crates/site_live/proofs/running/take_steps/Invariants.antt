@@ -9,5 +9,5 @@ use Rattle.site_live.proofs.running.take_steps.Given as goal
 abbrev pub invariant-loop-step : goal.invariant-loop-step
 invariant-loop-step g l =
     AllByRecursion IsSoundLiveStep l.step-iterator.rest.items
-    × ((v : RunnerState _) (new : Known) → Lives (asked_of l.step-iterator.rest.items) l.live v (g.O.Write.contents l.out) new →
-    Lives (asked_of l.fn.steps) l.fn.live v (g.O.Write.contents l.fn.out) new)
+    × ((v : RunnerState _) (new : Known) → Lives l.spelling (asked_of l.step-iterator.rest.items) l.live v (g.O.Write.contents l.out) new →
+    Lives l.spelling (asked_of l.fn.steps) l.fn.live v (g.O.Write.contents l.fn.out) new)

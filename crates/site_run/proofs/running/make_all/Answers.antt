@@ -1,4 +1,4 @@
-use Rattle.std.proofs.Common.{rules}
+use Rattle.std.proofs.Common.{◌∙◌, rules}
 use Rattle.site_run.proofs.RunLaws.{flow_begins, flow_failed, flow_goes_on, flow_over, next_of_flow, same_to_go, to_go}
 use Rattle.site_run.proofs.running.make_all.Goals as goal
 
@@ -7,10 +7,10 @@ loop-next-init g c = (
   c.next_of-next.ensures.sound,
   next_of_flow c.next_of-next.result c.args.flow c.next_of-next.new.flow c.next_of-next.ensures.gives,
   c.next_of-next.ensures.cause,
-  flow_begins c.args.telling c.args.flow.left (to_go c.next_of-next.result c.next_of-next.new.flow) c.args.world.now
+  flow_begins c.args.telling c.args.n (to_go c.next_of-next.result c.next_of-next.new.flow) c.args.world.now
       (g.W.Write.contents c.args.out.now)
       (same_to_go c.next_of-next.result c.args.flow c.next_of-next.new.flow c.next_of-next.ensures.gives
-      c.next_of-next.ensures.unchanged),
+      c.next_of-next.ensures.unchanged ∙ c.requires.whole),
 )
 
 -- the event that was made, and then those of the rest
@@ -20,7 +20,7 @@ loop-next-preserved g c =
       next.ensures.sound,
       next_of_flow next.result c.loop-next.flow next.new.flow next.ensures.gives,
       next.ensures.cause,
-      flow_goes_on c.args.telling c.args.flow.left c.loop-next.next next.result c.loop-next.flow next.new.flow
+      flow_goes_on c.args.telling c.args.n c.loop-next.next next.result c.loop-next.flow next.new.flow
           c.in-Ok-Some.event c.args.world.now c.loop-next.world c.make.new.world (g.W.Write.contents c.args.out.now)
           (g.W.Write.contents c.loop-next.out) (g.W.Write.contents c.make.new.out) (search rules)
           c.loop-next.invariant.1
@@ -30,13 +30,13 @@ loop-next-preserved g c =
 
 pub returns-in-Ok : goal.returns-in-Ok
 returns-in-Ok g c =
-    flow_over c.args.telling c.args.flow.left c.loop-next.next c.loop-next.flow c.args.world.now c.loop-next.world
+    flow_over c.args.telling c.args.n c.loop-next.next c.loop-next.flow c.args.world.now c.loop-next.world
     (g.W.Write.contents c.args.out.now) (g.W.Write.contents c.loop-next.out) (search rules) c.loop-next.invariant.1
     c.loop-next.invariant.3
 
 pub returns-in-Err : goal.returns-in-Err
 returns-in-Err g c =
-    flow_failed c.print_refusal.result c.args.telling c.args.flow.left (to_go c.loop-next.next c.loop-next.flow)
+    flow_failed c.print_refused_time.result c.args.telling c.args.n (to_go c.loop-next.next c.loop-next.flow)
     c.args.world.now c.loop-next.world (g.W.Write.contents c.args.out.now) (g.W.Write.contents c.loop-next.out)
-    (g.W.Write.contents c.print_refusal.new.out) c.in-Err.fault c.moment.result c.loop-next.invariant.3
-    (search rules) c.moment.ensures c.print_refusal.ensures
+    (g.W.Write.contents c.print_refused_time.new.out) c.in-Err.fault c.moment.result c.loop-next.invariant.3
+    (search rules) c.moment.ensures c.print_refused_time.ensures

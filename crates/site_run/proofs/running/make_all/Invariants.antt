@@ -10,7 +10,7 @@ invariant-loop-next g l =
     IfOk l.next IsSoundIfAny
     × IfOk l.next (IsNextOf l.flow)
     × IfErr l.next (λ fault. fault ≡ Memory)
-    × IsUnderWay l.telling l.fn.flow.left (to_go l.next l.flow) l.fn.world l.world
+    × IsUnderWay l.telling l.n (to_go l.next l.flow) l.fn.world l.world
     (g.W.Write.contents l.fn.out) (g.W.Write.contents l.out)
 
 abbrev pub decreases-loop-next : goal.decreases-loop-next

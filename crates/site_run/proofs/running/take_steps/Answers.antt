@@ -10,5 +10,5 @@ returns g c =
     none_left c.loop-step.step-iterator.rest.items
     (omega (arith, c.loop-step.step-iterator.rest.ok.0, c.in-None.ensures.steps.0)) in
     c.loop-step.invariant.1 c.loop-step.world (g.W.Write.contents c.loop-step.out)
-    (subst (λ (ss : List (Step _)). PrintsSteps c.args.telling ss c.loop-step.world c.loop-step.world
+    (subst (λ (ss : List (Step _)). PrintsSteps c.args.telling c.loop-step.lines ss c.loop-step.world c.loop-step.world
     (g.W.Write.contents c.loop-step.out) (g.W.Write.contents c.loop-step.out)) (sym none) (refl, refl))

@@ -8,5 +8,6 @@ use Rattle.site_run.proofs.running.take_steps.Given as goal
 abbrev pub invariant-loop-step : goal.invariant-loop-step
 invariant-loop-step g l =
     AllByRecursion IsSoundStep l.step-iterator.rest.items
-    × ((v : WorldState _) (new : Known) → PrintsSteps l.telling l.step-iterator.rest.items l.world v (g.W.Write.contents l.out) new →
-    PrintsSteps l.telling l.fn.steps l.fn.world v (g.W.Write.contents l.fn.out) new)
+    × ((v : WorldState _) (new : Known) →
+    PrintsSteps l.telling l.lines l.step-iterator.rest.items l.world v (g.W.Write.contents l.out) new →
+    PrintsSteps l.telling l.fn.lines l.fn.steps l.fn.world v (g.W.Write.contents l.fn.out) new)

@@ -1,4 +1,4 @@
-use Rattle.std.proofs.Common.{rules, ◌≡◌, ◌∙◌, ap, subst, List, length, ℕ}
+use Rattle.std.proofs.Common.{rules, ◌∙◌, ap, subst, List, length, ℕ}
 use Rattle.site_storm.specs.site_run.simulator.carry_world.Laws.{IsLegal}
 use Rattle.site_storm.specs.site_run.simulator.Judged.{instances_of, judged_of}
 use Rattle.site_storm.specs.site_run.simulator.chronicle.Growing.{WorldHistory}

@@ -1,4 +1,4 @@
-use Rattle.std.proofs.Common.{◌∙◌, ap, length, rules}
+use Rattle.std.proofs.Common.{◌∙◌, ap, rules}
 use Rattle.site_storm.specs.Counting.{outcomes_in}
 use Rattle.site_storm.specs.Waits.{greatest_wait}
 use Rattle.site_storm.proofs.counts.counts_of.Goals as goal

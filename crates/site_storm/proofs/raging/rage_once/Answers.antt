@@ -10,4 +10,4 @@ returns g c =
       printed = printed;
       put_down = c.in_ok-put_down.ensures;
     })
-    c.make.ensures
+    (rw c.entries.ensures at c.make.ensures)

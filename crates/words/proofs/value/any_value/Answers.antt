@@ -6,7 +6,7 @@ use Rattle.words.proofs.value.any_value.Goals as goal
 pub returns-in_err-flag-in-bool-clause-refused : goal.returns-in_err-flag-in-bool-clause-refused
 returns-in_err-flag-in-bool-clause-refused g c =
     let cut = c.in-Some.ensures in
-    refused c.from_residual.result c.args.words.now
+    refused c.from_residual-in_err-flag-in-bool.result c.args.words.now
     (no_bool_value c.args.words.now c.in-Some.kind.now c.in-Some.rest.now cut.parted cut.front cut.rest c.in-bool.is
     c.in_err-flag-in-bool.ensures.refused)
 
@@ -24,12 +24,12 @@ returns-in_err-parse_i32-in-signed-clause-refused g c =
     (no_signed c.args.words.now c.in-Some.kind.now c.in-Some.rest.now cut.parted cut.front cut.rest c.in-signed.is
     c.in_err-parse_i32-in-signed.ensures.refused.1)
 
-pub returns-in_err-parse_u32-in-enum-clause-refused : goal.returns-in_err-parse_u32-in-enum-clause-refused
-returns-in_err-parse_u32-in-enum-clause-refused g c =
+pub returns-in_err-enumerated-in-enum-clause-refused : goal.returns-in_err-enumerated-in-enum-clause-refused
+returns-in_err-enumerated-in-enum-clause-refused g c =
     let cut = c.in-Some.ensures in
-    refused c.from_residual-in_err-parse_u32-in-enum.result c.args.words.now
+    refused c.from_residual-in_err-enumerated-in-enum.result c.args.words.now
     (no_enum c.args.words.now c.in-Some.kind.now c.in-Some.rest.now cut.parted cut.front cut.rest c.in-enum.is
-    c.in_err-parse_u32-in-enum.ensures.refused.1)
+    c.in_err-enumerated-in-enum.ensures.refused)
 
 pub returns-in_err-parse_object-in-object-clause-refused : goal.returns-in_err-parse_object-in-object-clause-refused
 returns-in_err-parse_object-in-object-clause-refused g c =

@@ -5,7 +5,7 @@ use Rattle.site_live.proofs.live.Live.hear_all.Given as goal
 
 -- so far
 abbrev pub invariant-loop : goal.invariant-loop
-invariant-loop g l = Lives [] l.fn.self l.self (g.O.Write.contents l.fn.out) (g.O.Write.contents l.out)
+invariant-loop g l = Lives l.spelling [] l.fn.self l.self (g.O.Write.contents l.fn.out) (g.O.Write.contents l.out)
 
 abbrev pub decreases-loop : goal.decreases-loop
 decreases-loop g l = left_to_hear l.heard

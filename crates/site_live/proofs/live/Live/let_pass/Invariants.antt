@@ -4,4 +4,4 @@ use Rattle.site_live.proofs.live.Live.let_pass.Given as goal
 
 -- so far
 abbrev pub invariant-loop : goal.invariant-loop
-invariant-loop g l = Lives [] l.fn.self l.self (g.O.Write.contents l.fn.out) (g.O.Write.contents l.out)
+invariant-loop g l = Lives l.spelling [] l.fn.self l.self (g.O.Write.contents l.fn.out) (g.O.Write.contents l.out)

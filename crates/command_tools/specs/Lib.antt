@@ -1,0 +1,3 @@
+pub mod Describing
+pub mod Starting
+pub mod Words

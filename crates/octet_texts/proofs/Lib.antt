@@ -1,0 +1,3 @@
+pub mod ListLaws
+pub mod DumpLaws
+pub mod SaysLaws

@@ -1,0 +1,116 @@
+//! What may stand at a place of a line.
+
+use messages::Choice;
+use std::fmt;
+
+/// What may stand at a place of a line.
+#[derive(Clone, Copy)]
+pub(crate) enum Expected {
+    /// The first word of a step.
+    Order,
+    /// The first word of a step that a live run takes.
+    LiveOrder,
+    /// The first word of a request.
+    Service,
+    /// The first word of a value.
+    Value,
+    /// `true` or `false`.
+    Flag,
+    /// The number of an Enumerated, or the name of a state.
+    Enumerated,
+    /// The word before a priority, or the end.
+    Priority,
+    /// The end of the line.
+    End,
+    /// A second value, which no write has.
+    OneValue,
+    /// A number, of this kind and within this range.
+    Number {
+        kind: &'static str,
+        least: i64,
+        greatest: u64,
+    },
+    /// The name of an object type.
+    ObjectType,
+    /// The name of a property.
+    Property,
+    /// What these words say.
+    Phrase(&'static str),
+}
+
+/// The first words of steps.
+const ORDERS: [&str; 9] = [
+    "issue", "whois", "tick", "flow", "wake", "deliver", "hear", "register", "restart",
+];
+
+/// The first words of steps that a live run takes.
+const LIVE_ORDERS: [&str; 6] = ["issue", "whois", "tick", "flow", "register", "restart"];
+
+/// The first words of requests.
+const SERVICES: [&str; 4] = ["read", "many", "write", "batch"];
+
+/// The first words of values.
+const VALUES: [&str; 12] = [
+    "null", "bool", "unsigned", "signed", "enum", "object", "bits", "text", "other", "built",
+    "active", "inactive",
+];
+
+/// The values of a Boolean.
+const FLAGS: [&str; 2] = ["true", "false"];
+
+/// The states of a binary value.
+const STATES: [&str; 2] = ["active", "inactive"];
+
+/// The word before a priority.
+const PRIORITY: [&str; 1] = ["at"];
+
+impl Expected {
+    /// The words that may stand there, where they are few.
+    pub(crate) fn words(&self) -> &[&'static str] {
+        match self {
+            Expected::Order => &ORDERS,
+            Expected::LiveOrder => &LIVE_ORDERS,
+            Expected::Service => &SERVICES,
+            Expected::Value => &VALUES,
+            Expected::Flag => &FLAGS,
+            Expected::Enumerated => &STATES,
+            Expected::Priority => &PRIORITY,
+            Expected::End
+            | Expected::OneValue
+            | Expected::Number { .. }
+            | Expected::ObjectType
+            | Expected::Property
+            | Expected::Phrase(_) => &[],
+        }
+    }
+}
+
+impl fmt::Display for Expected {
+    fn fmt<W: fmt::Write>(&self, f: &mut fmt::Formatter<W>) -> fmt::Result {
+        match self {
+            Expected::Order | Expected::LiveOrder | Expected::Service | Expected::Flag => {
+                write!(f, "{}", Choice(self.words()))
+            }
+            Expected::Value => {
+                for word in self.words() {
+                    write!(f, "{word}, ")?;
+                }
+                f.write_str("or a text in quotes")
+            }
+            Expected::Enumerated => {
+                write!(f, "a number, 0 to 4294967295, {}", Choice(self.words()))
+            }
+            Expected::Priority => f.write_str("\"at\" and a priority, or the end of the write"),
+            Expected::End => f.write_str("the end of the line"),
+            Expected::OneValue => f.write_str("one value"),
+            Expected::Number {
+                kind,
+                least,
+                greatest,
+            } => write!(f, "{kind}, {least} to {greatest}"),
+            Expected::ObjectType => f.write_str("an object type, 0 to 1023 or its name"),
+            Expected::Property => f.write_str("a property, 0 to 4294967295 or its name"),
+            Expected::Phrase(words) => f.write_str(words),
+        }
+    }
+}

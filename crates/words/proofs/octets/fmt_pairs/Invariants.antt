@@ -1,8 +1,0 @@
-use Rattle.std.proofs.Common.{◌++◌, codes, flat_map, take}
-use Rattle.std.specs.Fmt.{HasWritten, IsPlainFormatter}
-use Rattle.words.specs.Printed.{pair_of}
-use Rattle.words.proofs.octets.fmt_pairs.Given as goal
-
-abbrev pub invariant-loop-octet : goal.invariant-loop-octet
-invariant-loop-octet g l = IsPlainFormatter l.initial.f →
-    HasWritten g.W.Write.write_str_gives l.initial.f (flat_map (pair_of) (take l.octet-index l.octets)) l.f

@@ -1,8 +1,0 @@
-use Rattle.std.proofs.Common.{◌++◌, codes, flat_map, take}
-use Rattle.std.specs.Fmt.{HasWritten, IsPlainFormatter}
-use Rattle.words.specs.Printed.{writes_text}
-use Rattle.words.proofs.request.fmt_more_groups.Given as goal
-
-abbrev pub invariant-loop-group : goal.invariant-loop-group
-invariant-loop-group g l = IsPlainFormatter l.initial.f →
-    HasWritten g.W.Write.write_str_gives l.initial.f (flat_map (λ g. codes "; " ++ writes_text g.object g.writes) (take l.group-index l.groups)) l.f
