@@ -9,7 +9,7 @@ use Rattle.apdu.specs.declared.unconfirmed.UnconfirmedService.TheVariants as kin
 use Rattle.headline_site.specs.client.Client.{ClientState}
 use Rattle.headline_site.specs.client.Hearing.{Does, Transacts, silence}
 use Rattle.headline_site.specs.client.Saying.{parcel_of}
-use Rattle.headline_site.specs.client.declared.plan.ClientTold.{ClientTold}
+use Rattle.headline_site.specs.client.ClientTold.{ClientTold}
 use Rattle.headline_site.specs.client_tsm.Said.{said_apdu, said_way, spoken_of}
 use Rattle.headline_site.specs.client_tsm.declared.said.ClientSaid.{ClientSaid}
 use Rattle.headline_site.proofs.headline_bacnet.Speaking.{who_is_is_said}

@@ -9,7 +9,7 @@ use Rattle.apdu.specs.declared.unconfirmed.UnconfirmedService.TheVariants as kin
 use Rattle.headline_site.specs.device.Device.{DeviceState, i_am_of}
 use Rattle.headline_site.specs.device.Hearing.{AnswersWho, Does, Serves, origin_of}
 use Rattle.headline_site.specs.device.Saying.{i_am_parcel, parcel_of}
-use Rattle.headline_site.specs.device.declared.plan.DeviceTold.{DeviceTold}
+use Rattle.headline_site.specs.device.DeviceTold.{DeviceTold}
 use Rattle.headline_site.proofs.headline_bacnet.Speaking.{i_am_is_said}
 use Rattle.headline_site.specs.headline_bacnet.Refined.{ObjectCore}
 use Rattle.headline_site.specs.headline_device.Devices.{Deed, after_deed, announces, idles, serves, station_of, told_of_deed}
@@ -24,7 +24,7 @@ use Rattle.npdu.specs.declared.mac.Station.{Station}
 use Rattle.npdu.specs.declared.parcel.Parcel.{Parcel}
 use Rattle.headline_site.specs.server_answers.Said.{said_way, spoken_of}
 use Rattle.headline_site.specs.server_answers.declared.asked.Origin.{Origin}
-use Rattle.headline_site.specs.server_answers.declared.plan.ServerTold.{ServerTold}
+use Rattle.headline_site.specs.server_answers.ServerTold.{ServerTold}
 use Rattle.headline_site.specs.server_answers.declared.said.ServerSaid.{ServerSaid}
 use Rattle.headline_site.specs.server_tsm.Server.{ServerTsmState}
 use Rattle.unitdata.specs.Hearing.{HeardContent, refuses, says}

@@ -7,12 +7,12 @@ use Rattle.apdu.specs.declared.unconfirmed.Limits.{Limits}
 use Rattle.headline_site.specs.client.Client.{ClientState}
 use Rattle.headline_site.specs.client.Hearing.{ClientHears}
 use Rattle.headline_site.specs.client.Saying as client
-use Rattle.headline_site.specs.client.declared.plan.ClientTold.{ClientTold}
+use Rattle.headline_site.specs.client.ClientTold.{ClientTold}
 use Rattle.headline_site.specs.client_tsm.declared.plan.TransactionOutcome.{TransactionOutcome}
 use Rattle.headline_site.specs.client_tsm.declared.said.ClientSaid.{ClientSaid}
 use Rattle.headline_site.specs.device.Device.{DeviceState}
 use Rattle.headline_site.specs.device.Hearing.{DeviceHears}
-use Rattle.headline_site.specs.device.declared.plan.DeviceTold.{DeviceTold}
+use Rattle.headline_site.specs.device.DeviceTold.{DeviceTold}
 use Rattle.headline.specs.Happenings as core
 use Rattle.headline.specs.Promised.{StaysSaid}
 use Rattle.headline.specs.Stations.{Client}

@@ -19,7 +19,7 @@ use Rattle.history.proofs.Lists.{has_cons, none_has}
 use Rattle.history.specs.Lists.{Has}
 use Rattle.inside.proofs.Insides.{some_same}
 use Rattle.link_ip.specs.Saying.{thing_of}
-use Rattle.link_ports.specs.declared.ports.PortSent.{PortSent}
+use Rattle.link_ports.specs.Sent.{PortSent}
 use Rattle.npdu.specs.declared.mac.Mac.{Mac}
 use Rattle.npdu.specs.declared.mac.Station.{Station}
 use Rattle.site_manager.specs.Stamping.{put_out, sent_to, stamp_if}

@@ -11,10 +11,10 @@ use Rattle.inside.proofs.Routing.{routed_is_inside}
 use Rattle.inside.specs.Inside.{HasInside, HasNothingInside, Inside}
 use Rattle.inside.specs.Routed.{IsRouted}
 use Rattle.link.specs.Carrying.{CarriesDown, CarriesOn, CarriesUp, Carrier}
-use Rattle.link.specs.declared.step.LinkStep.{LinkStep}
+use Rattle.link.specs.Step.{LinkStep}
 use Rattle.link.specs.declared.step.Sent.{Sent}
 use Rattle.link_ports.proofs.Keeping.{ComesUp}
-use Rattle.link_ports.specs.declared.ports.PortSent.{PortSent}
+use Rattle.link_ports.specs.Sent.{PortSent}
 use Rattle.npdu.specs.Mac.{is_address}
 use Rattle.npdu.specs.declared.mac.Mac.{Mac}
 use Rattle.npdu.specs.declared.mac.Station.{Station}

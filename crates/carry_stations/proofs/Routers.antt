@@ -5,10 +5,10 @@ use Rattle.carry.specs.Things.{Bears, Thing}
 use Rattle.history.proofs.Lists.{has, has_next, none_has}
 use Rattle.history.specs.Lists.{Has}
 use Rattle.link.specs.Carrying.{CarriesDown, CarriesOn, CarriesUp, Carrier}
-use Rattle.link.specs.declared.step.LinkStep.{LinkStep}
+use Rattle.link.specs.Step.{LinkStep}
 use Rattle.link_ports.proofs.Keeping.{Keeps}
 use Rattle.link_ports.specs.Ports.{AreBefore}
-use Rattle.link_ports.specs.declared.ports.PortSent.{PortSent}
+use Rattle.link_ports.specs.Sent.{PortSent}
 use Rattle.npdu.specs.declared.mac.Mac.{Mac}
 use Rattle.npdu.specs.declared.mac.Station.{Station}
 use Rattle.npdu.specs.declared.parcel.Parcel.{Parcel}

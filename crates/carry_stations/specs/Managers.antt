@@ -3,7 +3,7 @@ use Rattle.std.specs.Prelude.{ℕ, List, [], ◌∷◌}
 use Rattle.carry.specs.Datagrams.{mac_at}
 use Rattle.carry.specs.Things.{SentDatagram, Thing}
 use Rattle.history.specs.Lists.{Has}
-use Rattle.link_ports.specs.declared.ports.PortSent.{PortSent}
+use Rattle.link_ports.specs.Sent.{PortSent}
 use Rattle.npdu.specs.declared.mac.Mac.{Mac}
 use Rattle.site_manager.specs.Station.{ManagerHears, ManagerStationState, ManagerWakes, place_of}
 use Rattle.carry_stations.specs.Out.{IsIpAddress, OutPassesOn}

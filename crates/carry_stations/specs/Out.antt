@@ -7,7 +7,7 @@ use Rattle.carry.specs.Passing.{PassesOn}
 use Rattle.carry.specs.Things.{Thing}
 use Rattle.history.specs.Lists.{Has}
 use Rattle.link_ip.specs.Saying.{thing_of}
-use Rattle.link_ports.specs.declared.ports.PortSent.{PortSent}
+use Rattle.link_ports.specs.Sent.{PortSent}
 use Rattle.npdu.specs.declared.mac.Mac.{Mac}
 use Rattle.npdu.specs.declared.mac.Station.{Station}
 

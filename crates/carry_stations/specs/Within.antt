@@ -6,7 +6,7 @@ use Rattle.carry.specs.Things.{Bears, Thing, net_of}
 use Rattle.history.specs.Lists.{Has}
 use Rattle.inside.specs.Inside.{HasInside, Inside}
 use Rattle.link.specs.Carrying.{Carrier}
-use Rattle.link_ports.specs.declared.ports.PortSent.{PortSent}
+use Rattle.link_ports.specs.Sent.{PortSent}
 use Rattle.npdu.specs.Mac.{is_address}
 use Rattle.npdu.specs.declared.mac.Mac.{Mac}
 use Rattle.npdu.specs.declared.mac.Station.{Station}

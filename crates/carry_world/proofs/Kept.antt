@@ -7,9 +7,9 @@ use Rattle.carry.proofs.Passed.{carried_still, passed_on_is_carried, put_out_is_
 use Rattle.carry.specs.Passing.{PassesOn, PutsOut}
 use Rattle.carry.specs.Things.{AreCarried, Thing}
 use Rattle.carry_said.specs.client.Client.{ClientState}
-use Rattle.carry_said.specs.client.declared.plan.ClientTold as client
+use Rattle.carry_said.specs.client.ClientTold as client
 use Rattle.carry_said.specs.device.Device.{DeviceState}
-use Rattle.carry_said.specs.device.declared.plan.DeviceTold as device
+use Rattle.carry_said.specs.device.DeviceTold as device
 use Rattle.carry_said.specs.headline_site.headline.Happenings.{start}
 use Rattle.history.proofs.Lists.{has, has_cons, has_either, has_next, none_has}
 use Rattle.history.specs.Lists.{Has}

@@ -14,7 +14,7 @@ use Rattle.npdu.specs.declared.mac.Station.{Station}
 use Rattle.carry_said.specs.headline_site.headline_bacnet.Refined.{ObjectCore}
 use Rattle.primitives.specs.declared.plain_data.Reply.{Reply}
 use Rattle.primitives.specs.declared.plain_data.Request.{Request}
-use Rattle.carry_said.specs.server_answers.declared.plan.Executed as told
+use Rattle.carry_said.specs.server_answers.Executed as told
 use Rattle.carry_said.specs.headline_site.headline_client.Told.{outcome_of, told_of}
 use Rattle.carry_said.specs.headline_site.headline_device.Devices.{Deed, after_deed, announces, idles, serves, told_of_deed}
 use Rattle.carry_said.specs.headline_site.headline_server.Refines.{told_by}

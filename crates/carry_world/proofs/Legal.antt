@@ -13,7 +13,7 @@ use Rattle.carry_said.specs.headline_site.headline_bacnet.Protocol.{bacnet}
 use Rattle.carry_said.specs.headline_site.headline_bacnet.Refined.{ObjectSite}
 use Rattle.carry_said.specs.headline_site.headline_client.Told.{outcome_of}
 use Rattle.carry_said.specs.headline_site.headline_device.Devices.{station_of}
-use Rattle.carry_said.specs.server_answers.declared.plan.Executed as told
+use Rattle.carry_said.specs.server_answers.Executed as told
 use Rattle.history.proofs.Lists.{has, has_front, has_split, none_has}
 use Rattle.history.specs.Legal.{Anew, Did, IsWhatExecutionsLeave, Past, Replays, named_in, past_of}
 use Rattle.history.specs.Lists.{Has}

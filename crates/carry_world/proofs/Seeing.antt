@@ -9,7 +9,7 @@ use Rattle.bindings.specs.declared.binding.Binding.{Binding}
 use Rattle.carry_said.specs.client_tsm.Client as client
 use Rattle.carry_said.specs.client_tsm.Waking as client_waking
 use Rattle.carry_said.specs.device.Device.{DeviceState}
-use Rattle.carry_said.specs.device.declared.plan.DeviceTold as device
+use Rattle.carry_said.specs.device.DeviceTold as device
 use Rattle.carry_said.specs.headline_site.headline.Happenings as core
 use Rattle.carry_said.specs.headline_site.headline.Happenings.{start}
 use Rattle.history.specs.Book.{Broadcast, Other}

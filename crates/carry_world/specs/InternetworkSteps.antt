@@ -7,7 +7,7 @@ use Rattle.carry.specs.Things.{Thing}
 use Rattle.carry_said.specs.client.Client.{ClientState}
 use Rattle.carry_said.specs.client.Hearing.{ClientHears}
 use Rattle.carry_said.specs.client.Saying.{parcels_of, who_is_parcel}
-use Rattle.carry_said.specs.client.declared.plan.ClientTold as client
+use Rattle.carry_said.specs.client.ClientTold as client
 use Rattle.bindings.specs.Binding.{binding_of}
 use Rattle.bindings.specs.declared.binding.Binding.{Binding}
 use Rattle.carry_said.specs.client_tsm.Issuing.{issued}
@@ -15,7 +15,7 @@ use Rattle.carry_said.specs.client_tsm.Waking as client_waking
 use Rattle.carry_said.specs.client_tsm.declared.said.ClientSaid.{ClientSaid}
 use Rattle.carry_said.specs.device.Device.{DeviceState}
 use Rattle.carry_said.specs.device.Hearing.{DeviceHears}
-use Rattle.carry_said.specs.device.declared.plan.DeviceTold as device
+use Rattle.carry_said.specs.device.DeviceTold as device
 use Rattle.history.specs.Lists.{Has}
 use Rattle.npdu.specs.declared.mac.Station.{Station}
 use Rattle.npdu.specs.declared.parcel.Parcel.{Parcel}

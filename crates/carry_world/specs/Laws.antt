@@ -4,13 +4,13 @@ use Rattle.std.specs.List.{AllByRecursion}
 use Rattle.apdu.specs.Apdu.{PlainApdu, Spells}
 use Rattle.carry_said.specs.client.Client.{ClientState}
 use Rattle.carry_said.specs.client.Hearing.{ClientHears}
-use Rattle.carry_said.specs.client.declared.plan.ClientTold.{ClientTold}
+use Rattle.carry_said.specs.client.ClientTold.{ClientTold}
 use Rattle.carry_said.specs.client_tsm.Open.{Open}
 use Rattle.carry_said.specs.client_tsm.Waking.{woken}
 use Rattle.carry_said.specs.client_tsm.declared.plan.TransactionOutcome.{TransactionOutcome}
 use Rattle.carry_said.specs.device.Device.{DeviceState}
 use Rattle.carry_said.specs.device.Hearing.{DeviceHears}
-use Rattle.carry_said.specs.device.declared.plan.DeviceTold.{DeviceTold}
+use Rattle.carry_said.specs.device.DeviceTold.{DeviceTold}
 use Rattle.carry_said.specs.headline_site.headline.Happenings.{Fails, Gives, Outcome}
 use Rattle.carry_said.specs.headline_site.headline.Protocol.{IsSite}
 use Rattle.carry_said.specs.headline_site.headline_bacnet.Protocol.{bacnet}
@@ -36,7 +36,7 @@ use Rattle.primitives.specs.declared.plain_data.Reply.{Reply}
 use Rattle.primitives.specs.declared.plain_data.Request.{Request}
 use Rattle.profile.specs.Times.{LIFE_MS}
 use Rattle.remembered.specs.Records.{AreDistinct}
-use Rattle.carry_said.specs.server_answers.declared.plan.Executed.{Executed}
+use Rattle.carry_said.specs.server_answers.Executed.{Executed}
 use Rattle.carry_said.specs.server_tsm.Hearing.{Whole}
 use Rattle.services.specs.Asked.{request_octets, service_asked}
 use Rattle.unitdata.specs.Hearing.{Brings, Heard, says}

@@ -10,12 +10,12 @@ use Rattle.carry_said.specs.client.Issuing as issuing
 use Rattle.carry_said.specs.client.Issuing.{refusal}
 use Rattle.carry_said.specs.client.Saying.{parcels_of, who_is_parcel}
 use Rattle.carry_said.specs.client.declared.plan.ClientIssued.{ClientIssued}
-use Rattle.carry_said.specs.client.declared.plan.ClientTold as client
+use Rattle.carry_said.specs.client.ClientTold as client
 use Rattle.carry_said.specs.client_tsm.Waking as client_waking
 use Rattle.carry_said.specs.device.Device.{DeviceState, restarts}
 use Rattle.carry_said.specs.device.Hearing.{DeviceHears}
 use Rattle.carry_said.specs.device.Saying.{told_of}
-use Rattle.carry_said.specs.device.declared.plan.DeviceTold as device
+use Rattle.carry_said.specs.device.DeviceTold as device
 use Rattle.history.specs.Lists.{Has}
 use Rattle.history.specs.declared.Entry.TheVariants.{Issue, Restarted}
 use Rattle.npdu.specs.declared.parcel.Parcel.{Parcel}

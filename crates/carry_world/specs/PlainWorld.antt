@@ -20,7 +20,7 @@ use Rattle.npdu.specs.declared.mac.Station.{Station}
 use Rattle.npdu.specs.declared.parcel.Parcel.{Parcel}
 use Rattle.primitives.specs.declared.plain_data.Reply.{Reply}
 use Rattle.primitives.specs.declared.plain_data.Request.{Request}
-use Rattle.carry_said.specs.server_answers.declared.plan.Executed as told
+use Rattle.carry_said.specs.server_answers.Executed as told
 use Rattle.carry_said.specs.headline_site.headline_client.Told.{outcome_of}
 
 -- who issued, and under which invoke ID

@@ -4,7 +4,7 @@ use Rattle.std.proofs.lemmas.List.{append_assoc, length-append}
 use Rattle.std.specs.Prelude.{option_to_list, slice_get}
 use Rattle.std.specs.List.{flat_map}
 use Rattle.link.specs.declared.step.Sent.{Sent}
-use Rattle.link_ports.specs.declared.ports.PortSent.{PortSent}
+use Rattle.link_ports.specs.Sent.{PortSent}
 use Rattle.npdu.specs.declared.mac.Mac.{Mac}
 use Rattle.npdu.specs.declared.mac.Mac.TheVariants.{One, Six}
 use Rattle.npdu.specs.declared.mac.Station.{Station}
@@ -29,13 +29,7 @@ pub over_count : {A : Type 0} (now : ℕ) (places : List Station) (o : PortSent 
 over_count now places o = at_count now (slice_get places o.port) o.sent
 
 module _ {A : Type 0} (now : ℕ) (places : List Station) (o : PortSent A) (all left rest : List (PortSent A))
-    (place : Option Station) (at : place ≡ slice_get places o.port) (is : left ≡ o ∷ rest)
-    (items new : List (Item A))
-    (put : new ≡ items ++ flat_map (λ x. item_from now x.net x.mac o.sent) (option_to_list place)) where
-  item_put : new ≡ items ++ item_over now places o
-  item_put = put ∙ ap (λ (p : Option Station).
-      items ++ flat_map (λ x. item_from now x.net x.mac o.sent) (option_to_list p)) at
-
+    (is : left ≡ o ∷ rest) (items new : List (Item A)) (item_put : new ≡ items ++ item_over now places o) where
   -- once one of them went out, the items of the rest stand behind it
   pub items_further : items ++ items_at now places left ≡ items_at now places all →
       new ++ items_at now places rest ≡ items_at now places all
@@ -45,16 +39,13 @@ module _ {A : Type 0} (now : ℕ) (places : List Station) (o : PortSent A) (all 
       ∙ ap (λ (os : List (PortSent A)). items ++ items_at now places os) (sym is) ∙ e
 
   -- .. and the frames
-  pub frames_further : (frames more : List (FramePut A)) →
-      more ≡ frames ++ flat_map (λ x. frame_from (length items) x.net x.mac o.sent) (option_to_list place) →
+  pub frames_further : (frames more : List (FramePut A)) → more ≡ frames ++ frame_over (length items) places o →
       frames ++ frames_behind (length items) places left ≡ frames_at places all →
       more ++ frames_behind (length new) places rest ≡ frames_at places all
-  frames_further frames more f e =
+  frames_further frames more fresh e =
       let count : length new ≡ length items + length (item_over 0 places o) =
       ap (λ (is : List (Item A)). length is) item_put ∙ length-append items (item_over now places o)
       ∙ ap (λ (n : ℕ). length items + n) (over_count now places o) in
-      let fresh : more ≡ frames ++ frame_over (length items) places o = f ∙ ap (λ (p : Option Station).
-      frames ++ flat_map (λ x. frame_from (length items) x.net x.mac o.sent) (option_to_list p)) at in
       ap (λ (fs : List (FramePut A)). fs ++ frames_behind (length new) places rest) fresh
       ∙ ap (λ (n : ℕ). (frames ++ frame_over (length items) places o) ++ frames_behind n places rest) count
       ∙ append_assoc frames (frame_over (length items) places o)

@@ -3,7 +3,8 @@
 ghost use Rattle.std.specs.Prelude.{◌≡◌, ◌++◌, false, IfOk, OnOk, length, map, option_to_list, slice_get};
 ghost use Rattle.std.specs.List.{flat_map};
 ghost use Rattle.bvll.specs.Address.{IsAddress, address_at};
-ghost use Rattle.chronicle.specs.Growing.{AreFromMacs, frame_from, frames_at, frames_of, item_from, items_at, items_of};
+ghost use Rattle.chronicle.specs.Growing.{AreFromMacs, frame_from, frame_over, frames_at, frames_of};
+ghost use Rattle.chronicle.specs.Growing.{item_from, item_over, items_at, items_of};
 ghost use Rattle.relays.specs.Laws.{IsMac};
 ghost use Rattle.relays.specs.Relay.{places_of};
 
@@ -110,6 +111,36 @@ fn put<A: Allocator + Copy>(
     Ok(())
 }
 
+/// Puts what goes out over a port of a station behind what went out before, where there is such a port.
+fn put_over<L: Link<A> + Drop, A: Allocator + Copy>(
+    out: &mut PutOut<A>,
+    ports: &[L],
+    sent: PortSent<A>,
+    now: u64,
+) -> Result<(), AllocError>
+    ensures items { OnOk result (out.new.items ≡ out.old.items ++ item_over now (map L.station ports.now) sent) }
+    ensures frames { OnOk result (out.new.frames ≡ out.old.frames
+        ++ frame_over (length out.old.items) (map L.station ports.now) sent) }
+{
+    let place = place_at(ports, sent.port);
+    put(out, place, sent.sent, now)
+}
+
+/// .. over one of a relay.
+fn relay_puts_over<L: Link<A> + Drop, A: Allocator + Copy>(
+    out: &mut PutOut<A>,
+    relay: &Relay<L, A>,
+    sent: PortSent<A>,
+    now: u64,
+) -> Result<(), AllocError>
+    ensures items { OnOk result (out.new.items ≡ out.old.items ++ item_over now (places_of L.station relay.now) sent) }
+    ensures frames { OnOk result (out.new.frames ≡ out.old.frames
+        ++ frame_over (length out.old.items) (places_of L.station relay.now) sent) }
+{
+    let place = relay.place(sent.port);
+    put(out, place, sent.sent, now)
+}
+
 /// What a station puts out over its ports at the moment `now`, in milliseconds, in order.
 ///
 /// # Errors
@@ -128,8 +159,7 @@ pub(crate) fn put_out_over<L: Link<A> + Drop, A: Allocator + Copy>(
         frames: Items::new(alloc),
     };
     for sent in all.into_vec() {
-        let place = place_at(ports, sent.port);
-        put(&mut out, place, sent.sent, now)?;
+        put_over(&mut out, ports, sent, now)?;
     }
     Ok(out)
 }
@@ -152,8 +182,7 @@ pub(crate) fn relay_puts_out<L: Link<A> + Drop, A: Allocator + Copy>(
         frames: Items::new(alloc),
     };
     for sent in all.into_vec() {
-        let place = relay.place(sent.port);
-        put(&mut out, place, sent.sent, now)?;
+        relay_puts_over(&mut out, relay, sent, now)?;
     }
     Ok(out)
 }

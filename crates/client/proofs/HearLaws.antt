@@ -21,7 +21,7 @@ use Rattle.npdu.specs.declared.mac.Mac.{Mac}
 use Rattle.npdu.specs.declared.mac.Target.{Target}
 use Rattle.client.specs.Saying.{told_of}
 use Rattle.unitdata.proofs.HearLaws.{something}
-use Rattle.client.specs.declared.plan.ClientTold.{ClientTold}
+use Rattle.client.specs.ClientTold.{ClientTold}
 
 pub other_service : (service : ℕ) (octets : List ℕ) → service ≢ 0 → IsNoIAm service octets
 other_service service octets other = record { none = λ i is. other is.i_am }

@@ -19,7 +19,7 @@ use Rattle.client.specs.Client.{ClientState}
 use Rattle.client.specs.Hearing.{Does, Holds, Learns, Learnt, Transacts}
 use Rattle.client.specs.Laws.{HeardOnce}
 use Rattle.client.specs.Saying.{told_of}
-use Rattle.client.specs.declared.plan.ClientTold.{ClientTold}
+use Rattle.client.specs.ClientTold.{ClientTold}
 use Rattle.client.proofs.HeardLaws.{one_heard}
 
 learns_once : (station : Station) (way : Way) (service : ℕ) (octets : List ℕ) (old x y : List Binding) → Learns station way service octets old x →

@@ -18,7 +18,7 @@ use Rattle.bindings.specs.Binding.{has_place, introduced, mark_refused, put_bind
 use Rattle.client.specs.Client.{ClientState}
 use Rattle.client.specs.Saying.{told_of}
 use Rattle.bindings.specs.declared.binding.Binding.{Binding}
-use Rattle.client.specs.declared.plan.ClientTold.{ClientTold}
+use Rattle.client.specs.ClientTold.{ClientTold}
 
 -- nothing is said or told
 abbrev pub silence : {A : Type 0} → ClientTold A

@@ -4,7 +4,7 @@ use Rattle.bindings.specs.Binding.{binding_of, marked, put_binding}
 use Rattle.bindings.specs.declared.binding.Binding.{Binding}
 use Rattle.client.specs.Client.{ClientState}
 use Rattle.client.specs.Hearing.{ClientHears}
-use Rattle.client.specs.declared.plan.ClientTold.{ClientTold}
+use Rattle.client.specs.ClientTold.{ClientTold}
 use Rattle.npdu.specs.declared.mac.Mac.{Mac}
 use Rattle.npdu.specs.declared.mac.Target.{Target}
 

@@ -1,3 +1,4 @@
+pub mod ClientTold
 pub mod Client
 pub mod Hearing
 pub mod Issuing

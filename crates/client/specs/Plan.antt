@@ -9,7 +9,7 @@ use Rattle.client.specs.declared.plan.ClientChange.TheVariants.{Stays, Refuses, 
 use Rattle.client.specs.declared.plan.ClientIssued.{ClientIssued}
 use Rattle.client.specs.declared.plan.ClientIssuePlan.{ClientIssuePlan}
 use Rattle.client.specs.declared.plan.ClientPlan.{ClientPlan}
-use Rattle.client.specs.declared.plan.ClientTold.{ClientTold}
+use Rattle.client.specs.ClientTold.{ClientTold}
 
 -- what a plan says and tells
 abbrev pub told_by : {A : Type 0} → ClientPlan A → ClientTold A

@@ -11,7 +11,7 @@ use Rattle.npdu.specs.declared.mac.Mac.{Mac}
 use Rattle.npdu.specs.declared.parcel.Parcel.{Parcel}
 use Rattle.unitdata.specs.Saying as spoken
 use Rattle.unitdata.specs.Saying.{announced}
-use Rattle.client.specs.declared.plan.ClientTold.{ClientTold}
+use Rattle.client.specs.ClientTold.{ClientTold}
 
 -- what is said, in a parcel; in none where who it is for can't be named (6.2.2)
 abbrev pub parcel_of : {A : Type 0} → ℕ → Mac → ClientSaid A → List (Parcel A)

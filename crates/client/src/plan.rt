@@ -4,6 +4,7 @@ use bindings::Binding;
 use client_tsm::{ClientTsmChange, TransactionOutcome};
 use npdu::{Parcel, Rejected};
 use std::alloc::Allocator;
+use std::marker::Model;
 use tags::Items;
 
 /// What is to change of a client.
@@ -54,4 +55,14 @@ pub struct ClientTold<A: Allocator> {
     pub said: Items<Parcel<A>, A>,
     /// What came of transactions, in order.
     pub outcomes: Items<TransactionOutcome<A>, A>,
+}
+
+impl<A: Allocator> Model for ClientTold<A> {
+    ghost use Rattle.client.specs.ClientTold as spec;
+
+    ghost Value = { spec.ClientTold A };
+
+    ghost view = { λ s. record { said = s.said; outcomes = s.outcomes } };
+
+    ghost inverse = { λ s. record { said = s.said; outcomes = s.outcomes } };
 }

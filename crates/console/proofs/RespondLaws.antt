@@ -9,7 +9,7 @@ use Rattle.server_answers.specs.Plan.{ServerChange, Stays, Says, Gathers, GivesU
 use Rattle.unitdata.specs.Hearing.{HeardContent, refuses, says}
 use Rattle.device.specs.Device.{DeviceState}
 use Rattle.device.specs.Hearing.{DeviceHears, Does, Serves}
-use Rattle.device.specs.declared.plan.DeviceTold.{DeviceTold}
+use Rattle.device.specs.DeviceTold.{DeviceTold}
 use Rattle.npdu.specs.declared.parcel.Parcel.{Parcel}
 use Rattle.console.specs.Hearing.{HandsUp, HandsUpNothing, OnlyHandsUp}
 use Rattle.console.specs.Respond.{Responds, Said, SaysTo}

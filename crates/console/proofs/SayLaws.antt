@@ -3,7 +3,7 @@ use Rattle.std.proofs.Common.{◌≡◌, ◌∙◌, refl, ap, sym, ℕ, ◌<◌,
 use Rattle.std.proofs.lemmas.Bool.{le-leb, lt-leb}
 use Rattle.std.proofs.lemmas.List.{append-nil}
 use Rattle.link.specs.Limits.{max_npdu_at}
-use Rattle.link.specs.declared.step.LinkStep.{LinkStep}
+use Rattle.link.specs.Step.{LinkStep}
 use Rattle.link.specs.declared.step.Sent.{Sent}
 use Rattle.link_ip.specs.Port.{IpPortState, station_of}
 use Rattle.link_ip.specs.Saying.{put_out, things_of}

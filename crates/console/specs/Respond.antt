@@ -7,7 +7,7 @@ use Rattle.npdu.specs.declared.mac.Mac.{Mac}
 use Rattle.npdu.specs.declared.parcel.Parcel.{Parcel}
 use Rattle.device.specs.Device.{DeviceState}
 use Rattle.device.specs.Hearing.{DeviceHears}
-use Rattle.device.specs.declared.plan.DeviceTold.{DeviceTold}
+use Rattle.device.specs.DeviceTold.{DeviceTold}
 use Rattle.profile.specs.LinkKind.{max_npdu}
 use Rattle.profile.specs.declared.link_kind.LinkKind.TheVariants.{BacnetIp}
 use Rattle.console.specs.Builtin.{builtin_port}

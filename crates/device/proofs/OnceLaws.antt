@@ -3,7 +3,7 @@ use Rattle.std.proofs.Common.{◌≡◌, ◌∙◌, sym, ap, subst, inl, inr, �
 use Rattle.apdu.specs.Apdu.{PlainApdu, abort_pdu, complex_ack, confirmed, error_pdu, reject_pdu, segment_ack, simple_ack, unconfirmed}
 use Rattle.server_tsm.specs.server_answers.Plan.{ServerPlan}
 use Rattle.server_tsm.specs.server_answers.declared.asked.Origin.{Origin}
-use Rattle.server_tsm.specs.server_answers.declared.plan.ServerTold.{ServerTold}
+use Rattle.server_tsm.specs.server_answers.ServerTold.{ServerTold}
 use Rattle.server_tsm.proofs.Planned.{one_plan}
 use Rattle.server_tsm.specs.Hearing as server
 use Rattle.server_tsm.specs.Server.{ServerTsmState, committed}
@@ -14,7 +14,7 @@ use Rattle.device.specs.Device.{DeviceState}
 use Rattle.device.specs.Hearing.{AnswersWho, Does, Serves, origin_of}
 use Rattle.device.specs.Laws.{HeardOnce}
 use Rattle.device.specs.Saying.{told_of}
-use Rattle.device.specs.declared.plan.DeviceTold.{DeviceTold}
+use Rattle.device.specs.DeviceTold.{DeviceTold}
 use Rattle.device.proofs.HeardLaws.{one_heard}
 
 module _ {A : Type 0} (now : ℕ) (old : DeviceState A) where

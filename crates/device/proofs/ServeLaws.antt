@@ -18,7 +18,7 @@ use Rattle.device.specs.Hearing.{DeviceHears, Does, Serves, origin_of, silence}
 use Rattle.device.specs.Plan.{left_by, told_by}
 use Rattle.device.specs.Saying.{parcels_of}
 use Rattle.device.specs.declared.plan.DevicePlan.{DevicePlan}
-use Rattle.device.specs.declared.plan.DeviceTold.{DeviceTold}
+use Rattle.device.specs.DeviceTold.{DeviceTold}
 
 pub served : {A : Type 0} (now : ℕ) (from : Origin) (apdu : Apdu) (old : DeviceState A) (plan : ServerPlan A) (said : List (Parcel A)) →
     HasNamedNumbers apdu → IsPlan now from (heard_of apdu) old.server plan → said ≡ parcels_of now old.mac plan.said →

@@ -8,12 +8,12 @@ use Rattle.server_tsm.specs.Hearing.{heard_of}
 use Rattle.server_tsm.specs.Server.{ServerTsmState}
 use Rattle.server_tsm.specs.Steps.{IsStep}
 use Rattle.server_tsm.specs.server_answers.declared.asked.Origin.{Origin}
-use Rattle.server_tsm.specs.server_answers.declared.plan.ServerTold.{ServerTold}
+use Rattle.server_tsm.specs.server_answers.ServerTold.{ServerTold}
 use Rattle.unitdata.specs.Asking.{AsksOther, AsksWho}
 use Rattle.unitdata.specs.Hearing.{Brings, BringsNothing, HeardContent, Heard, refuses, says}
 use Rattle.device.specs.Device.{DeviceState, i_am_of}
 use Rattle.device.specs.Saying.{i_am_parcel, told_of}
-use Rattle.device.specs.declared.plan.DeviceTold.{DeviceTold}
+use Rattle.device.specs.DeviceTold.{DeviceTold}
 
 -- where a message comes from, as its server sees it
 abbrev pub origin_of : Heard → Origin

@@ -4,7 +4,7 @@ use Rattle.apdu.specs.Numbers.{service_number}
 use Rattle.apdu.specs.declared.numbers.ConfirmedService.{ConfirmedService}
 use Rattle.device.specs.Device.{DeviceState}
 use Rattle.device.specs.Hearing.{DeviceHears}
-use Rattle.device.specs.declared.plan.DeviceTold.{DeviceTold}
+use Rattle.device.specs.DeviceTold.{DeviceTold}
 use Rattle.npdu.specs.declared.mac.Mac.{Mac}
 use Rattle.npdu.specs.declared.mac.Target.{Target}
 use Rattle.object_model.specs.Objects.{PlainTable, held_by_device}

@@ -1,3 +1,4 @@
+pub mod DeviceTold
 pub mod Device
 pub mod Saying
 pub mod Plan

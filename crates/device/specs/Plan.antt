@@ -1,12 +1,12 @@
 -- What a device would do, before anything changes.
 use Rattle.std.specs.Prelude.{ℕ, Option, Some, None, IfSome}
 use Rattle.server_tsm.specs.server_answers.Plan.{ServerPlan}
-use Rattle.server_tsm.specs.server_answers.declared.plan.Executed.{Executed}
+use Rattle.server_tsm.specs.server_answers.Executed.{Executed}
 use Rattle.server_tsm.specs.Server.{committed}
 use Rattle.server_tsm.specs.Steps as server
 use Rattle.device.specs.Device.{DeviceState}
 use Rattle.device.specs.declared.plan.DevicePlan.{DevicePlan}
-use Rattle.device.specs.declared.plan.DeviceTold.{DeviceTold}
+use Rattle.device.specs.DeviceTold.{DeviceTold}
 
 -- the request that its server executes, where the server does something
 abbrev pub executed_of : {A : Type 0} → Option (ServerPlan A) → Option (Executed A)

@@ -7,11 +7,11 @@ use Rattle.apdu.specs.declared.unconfirmed.UnconfirmedService.TheVariants as kin
 use Rattle.npdu.specs.declared.mac.Mac.{Mac}
 use Rattle.npdu.specs.declared.parcel.Parcel.{Parcel}
 use Rattle.server_tsm.specs.server_answers.Said.{spoken_of}
-use Rattle.server_tsm.specs.server_answers.declared.plan.ServerTold.{ServerTold}
+use Rattle.server_tsm.specs.server_answers.ServerTold.{ServerTold}
 use Rattle.server_tsm.specs.server_answers.declared.said.ServerSaid.{ServerSaid}
 use Rattle.unitdata.specs.Saying as spoken
 use Rattle.unitdata.specs.Saying.{announced}
-use Rattle.device.specs.declared.plan.DeviceTold.{DeviceTold}
+use Rattle.device.specs.DeviceTold.{DeviceTold}
 
 -- what is said, in a parcel; in none where who it is for can't be named (6.2.2)
 abbrev pub parcel_of : {A : Type 0} → ℕ → Mac → ServerSaid A → List (Parcel A)

@@ -11,7 +11,7 @@ use Rattle.client.specs.Client.{ClientState}
 use Rattle.client.specs.Hearing.{ClientHears, Does, Holds, Ignores, Introduces, Learnt, Transacts}
 use Rattle.client.specs.Saying.{told_of}
 use Rattle.bindings.specs.declared.binding.Binding.{Binding}
-use Rattle.client.specs.declared.plan.ClientTold.{ClientTold}
+use Rattle.client.specs.ClientTold.{ClientTold}
 use Rattle.client.specs.client_tsm.Client.{ClientTsmState, committed}
 use Rattle.client.specs.client_tsm.Hearing.{heard_of, message_of}
 use Rattle.apdu.specs.Sizes.{apdu_code}

@@ -5,7 +5,7 @@ use Rattle.apdu.specs.Apdu.{confirmed, unconfirmed, simple_ack, complex_ack, seg
 use Rattle.apdu.specs.Apdu.{abort_pdu}
 use Rattle.client.specs.Client.{ClientState}
 use Rattle.client.specs.Hearing.{ClientHears, Does}
-use Rattle.client.specs.declared.plan.ClientTold.{ClientTold}
+use Rattle.client.specs.ClientTold.{ClientTold}
 use Rattle.client.specs.client_tsm.declared.said.ClientSaid.{ClientSaid}
 use Rattle.npdu.specs.declared.mac.Mac.{Mac}
 use Rattle.npdu.specs.declared.mac.Station.{Station}

@@ -10,7 +10,7 @@ use Rattle.client.specs.Hearing.{ClientHears}
 use Rattle.client.specs.Issuing.{Issues, refusal}
 use Rattle.client.specs.Saying.{parcels_of}
 use Rattle.client.specs.declared.plan.ClientIssued.{ClientIssued}
-use Rattle.client.specs.declared.plan.ClientTold.{ClientTold}
+use Rattle.client.specs.ClientTold.{ClientTold}
 use Rattle.client.specs.client_tsm.Client.{committed}
 use Rattle.client.specs.client_tsm.Issuing.{issued}
 use Rattle.client.specs.client_tsm.Open.{Open}

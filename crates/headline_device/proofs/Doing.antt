@@ -3,7 +3,7 @@ use Rattle.std.proofs.Common.{◌≡◌, ◌≢◌, ◌∙◌, inl, inr, refl, s
 use Rattle.apdu.specs.Apdu.{PlainApdu, abort_pdu, complex_ack, confirmed, error_pdu, reject_pdu, segment_ack, simple_ack, unconfirmed}
 use Rattle.device.specs.Device.{DeviceState}
 use Rattle.device.specs.Hearing.{AnswersWho, Does, Hears, Serves, origin_of, says_who, silence}
-use Rattle.device.specs.declared.plan.DeviceTold.{DeviceTold}
+use Rattle.device.specs.DeviceTold.{DeviceTold}
 use Rattle.headline.specs.Protocol.{Site}
 use Rattle.npdu.specs.declared.mac.Mac.{Mac}
 use Rattle.npdu.specs.declared.mac.Station.{Station}
@@ -24,7 +24,7 @@ use Rattle.headline_server.specs.Safe.{safe_device}
 use Rattle.headline_server.proofs.server_tsm.Kept.{kept_none}
 use Rattle.headline_server.specs.server_tsm.Server.{ServerTsmState}
 use Rattle.headline_server.specs.server_tsm.Waking.{woken}
-use Rattle.headline_server.specs.server_answers.declared.plan.ServerTold.{ServerTold}
+use Rattle.headline_server.specs.server_answers.ServerTold.{ServerTold}
 use Rattle.unitdata.specs.Hearing.{Brings, HeardContent, Heard, destination_if, refuses, way_to}
 use Rattle.unitdata.specs.Hearing as content
 

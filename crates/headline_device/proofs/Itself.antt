@@ -3,7 +3,7 @@ use Rattle.std.proofs.Common.{◌≡◌, inl, inr, refl, sym, ap, subst, ◌∙�
 use Rattle.apdu.specs.Apdu.{PlainApdu, abort_pdu, complex_ack, confirmed, error_pdu, reject_pdu, segment_ack, simple_ack, unconfirmed}
 use Rattle.device.specs.Device.{DeviceState}
 use Rattle.device.specs.Hearing.{DeviceHears, Does, Serves, origin_of}
-use Rattle.device.specs.declared.plan.DeviceTold.{DeviceTold}
+use Rattle.device.specs.DeviceTold.{DeviceTold}
 use Rattle.headline_device.specs.Devices.{IsItself, StaysItselfHearing, StaysItselfRestarting, StaysItselfWaking}
 use Rattle.headline_server.proofs.Waking.{size_stays}
 use Rattle.npdu.specs.declared.mac.Mac.{Mac}

@@ -6,7 +6,7 @@ use Rattle.apdu.specs.Apdu.{unconfirmed}
 use Rattle.device.specs.Device.{DeviceState, new_device, restarts}
 use Rattle.device.specs.Hearing.{AnswersWho, DeviceHears, Does, origin_of, says_who, silence}
 use Rattle.device.specs.Saying.{told_of}
-use Rattle.device.specs.declared.plan.DeviceTold.{DeviceTold}
+use Rattle.device.specs.DeviceTold.{DeviceTold}
 use Rattle.headline.specs.Happenings as core
 use Rattle.history.specs.Book.{Broadcast, I_am}
 use Rattle.npdu.specs.declared.mac.Mac.{Mac}
@@ -24,7 +24,7 @@ use Rattle.headline_server.specs.server_tsm.Server.{ServerTsmState, committed}
 use Rattle.headline_server.specs.server_tsm.Steps.{told_of_plan}
 use Rattle.headline_server.specs.server_tsm.Waking.{woken}
 use Rattle.headline_server.specs.server_answers.declared.asked.Origin.{Origin}
-use Rattle.headline_server.specs.server_answers.declared.plan.ServerTold.{ServerTold}
+use Rattle.headline_server.specs.server_answers.ServerTold.{ServerTold}
 use Rattle.unitdata.specs.Hearing.{HeardContent, refuses, says}
 
 -- the station that a device is (6.1)

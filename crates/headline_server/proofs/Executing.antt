@@ -51,8 +51,8 @@ use Rattle.server_tsm.specs.Server.{ServerTsmState, committed, stamped}
 use Rattle.server_tsm.specs.Steps.{IsFound, IsPlan, IsStep, Means, on_heard, told_of_plan}
 use Rattle.headline_bacnet.specs.server_answers.declared.asked.AnswerLimits.{AnswerLimits}
 use Rattle.headline_bacnet.specs.server_answers.declared.asked.Origin.{Origin}
-use Rattle.headline_bacnet.specs.server_answers.declared.plan.ServerTold.{ServerTold}
-use Rattle.headline_bacnet.specs.server_answers.declared.plan.Executed.{Executed}
+use Rattle.headline_bacnet.specs.server_answers.ServerTold.{ServerTold}
+use Rattle.headline_bacnet.specs.server_answers.Executed.{Executed}
 use Rattle.headline_bacnet.specs.server_answers.declared.said.ServerSaid.{ServerSaid}
 use Rattle.headline_bacnet.specs.server_answers.declared.said.ServerSaid.TheVariants as said
 

@@ -38,7 +38,7 @@ use Rattle.headline_bacnet.specs.server_answers.declared.asked.Asked.{Asked}
 use Rattle.server_tsm.specs.Server.{ServerTsmState, committed, still_gathered}
 use Rattle.server_tsm.specs.Steps.{told_of_plan}
 use Rattle.headline_bacnet.specs.server_answers.declared.gathering.RequestGathering.{RequestGathering}
-use Rattle.headline_bacnet.specs.server_answers.declared.plan.Executed as told
+use Rattle.headline_bacnet.specs.server_answers.Executed as told
 use Rattle.headline_bacnet.specs.server_answers.declared.plan.Saying.{Saying}
 use Rattle.headline_bacnet.specs.server_answers.declared.said.ServerSaid.{ServerSaid}
 

@@ -18,8 +18,8 @@ use Rattle.headline_server.specs.Safe.{safe_device}
 use Rattle.server_tsm.specs.Server.{ServerTsmState, committed}
 use Rattle.server_tsm.specs.Steps.{IsPlanned}
 use Rattle.headline_bacnet.specs.server_answers.Plan.{ServerChange, ServerPlan, Stays, Says, Gathers, GivesUp, Executes, Wakes}
-use Rattle.headline_bacnet.specs.server_answers.declared.plan.ServerTold.{ServerTold}
-use Rattle.headline_bacnet.specs.server_answers.declared.plan.Executed as told
+use Rattle.headline_bacnet.specs.server_answers.ServerTold.{ServerTold}
+use Rattle.headline_bacnet.specs.server_answers.Executed as told
 use Rattle.headline_bacnet.specs.server_answers.declared.said.ServerSaid.{ServerSaid}
 
 -- a site where no station is a device

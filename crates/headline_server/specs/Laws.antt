@@ -23,8 +23,8 @@ use Rattle.server_tsm.specs.Server.{ServerTsmState, committed, new_server, resta
 use Rattle.server_tsm.specs.Steps.{IsPlan, IsStep, told_of_plan}
 use Rattle.server_tsm.specs.Waking.{woken}
 use Rattle.headline_bacnet.specs.server_answers.declared.asked.Origin.{Origin}
-use Rattle.headline_bacnet.specs.server_answers.declared.plan.ServerTold.{ServerTold}
-use Rattle.headline_bacnet.specs.server_answers.declared.plan.Executed.{Executed}
+use Rattle.headline_bacnet.specs.server_answers.ServerTold.{ServerTold}
+use Rattle.headline_bacnet.specs.server_answers.Executed.{Executed}
 use Rattle.headline_bacnet.specs.server_answers.declared.said.ServerSaid.{ServerSaid}
 
 -- the device at this station is what safety sees of this server, which keeps its answers well

@@ -17,8 +17,8 @@ use Rattle.server_tsm.specs.remembered.declared.record.RememberedAnswer.TheVaria
 use Rattle.headline_server.specs.Safe.{safe_device}
 use Rattle.headline_bacnet.specs.server_answers.Said.{said_way}
 use Rattle.server_tsm.specs.Server.{ServerTsmState}
-use Rattle.headline_bacnet.specs.server_answers.declared.plan.ServerTold.{ServerTold}
-use Rattle.headline_bacnet.specs.server_answers.declared.plan.Executed as told
+use Rattle.headline_bacnet.specs.server_answers.ServerTold.{ServerTold}
+use Rattle.headline_bacnet.specs.server_answers.Executed as told
 use Rattle.headline_bacnet.specs.server_answers.declared.said.ServerSaid.{ServerSaid}
 use Rattle.headline_bacnet.specs.server_answers.declared.said.ServerSaid.TheVariants as said
 

@@ -5,7 +5,7 @@ use Rattle.apdu.specs.declared.sizes.MaxApdu.{MaxApdu}
 use Rattle.headline_client.specs.client_tsm.declared.plan.TransactionOutcome.{TransactionOutcome}
 use Rattle.headline_device.specs.device.Device.{DeviceState}
 use Rattle.headline_device.specs.device.Hearing.{AnswersWho, DeviceHears, Does, Serves, origin_of}
-use Rattle.headline_device.specs.device.declared.plan.DeviceTold.{DeviceTold}
+use Rattle.headline_device.specs.device.DeviceTold.{DeviceTold}
 use Rattle.headline.proofs.Laws.{whole_requests}
 use Rattle.headline.proofs.Whole.{Inv}
 use Rattle.headline.specs.Honest.{IsAsked, MayExecute}
@@ -32,8 +32,8 @@ use Rattle.npdu.specs.declared.mac.Mac.{Mac}
 use Rattle.npdu.specs.declared.mac.Station.{Station}
 use Rattle.npdu.specs.declared.mac.Target.{Target}
 use Rattle.object_model.specs.Objects.{PlainTable}
-use Rattle.headline_client.specs.server_answers.declared.plan.Executed.{Executed}
-use Rattle.headline_client.specs.server_answers.declared.plan.ServerTold.{ServerTold}
+use Rattle.headline_client.specs.server_answers.Executed.{Executed}
+use Rattle.headline_client.specs.server_answers.ServerTold.{ServerTold}
 use Rattle.unitdata.specs.Hearing.{Heard, HeardContent, refuses, says}
 
 module _ {A : Type 0} (s : ObjectSite A) (k : ObjectCore A) (inv : Inv (bacnet A) s k) (d : DeviceState A) (v : IsDevice s k d) where

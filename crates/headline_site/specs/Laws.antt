@@ -7,14 +7,14 @@ use Rattle.apdu.specs.declared.numbers.RejectReason.{RejectReason}
 use Rattle.apdu.specs.declared.sizes.MaxApdu.{MaxApdu}
 use Rattle.headline_client.specs.client.Client.{ClientState}
 use Rattle.headline_client.specs.client.Hearing.{ClientHears}
-use Rattle.headline_client.specs.client.declared.plan.ClientTold.{ClientTold}
+use Rattle.headline_client.specs.client.ClientTold.{ClientTold}
 use Rattle.headline_client.specs.client_tsm.Open.{Open}
 use Rattle.headline_client.specs.client_tsm.Waking.{woken}
 use Rattle.headline_client.specs.client_tsm.declared.plan.TransactionOutcome.{TransactionOutcome}
 use Rattle.headline_device.specs.Devices.{deed_in, left_of_deed, station_of}
 use Rattle.headline_device.specs.device.Device.{DeviceState}
 use Rattle.headline_device.specs.device.Hearing.{DeviceHears, origin_of}
-use Rattle.headline_device.specs.device.declared.plan.DeviceTold as device_told
+use Rattle.headline_device.specs.device.DeviceTold as device_told
 use Rattle.headline.specs.Happenings.{Happening, after_all}
 use Rattle.headline.specs.Honest.{AreHonest}
 use Rattle.headline.specs.Protocol.{IsSite}
@@ -33,7 +33,7 @@ use Rattle.headline_client.specs.headline_bacnet.Refined.{ObjectSite, Refined, O
 use Rattle.object_model.specs.Objects.{PlainTable}
 use Rattle.primitives.specs.declared.plain_data.Reply.{Reply}
 use Rattle.primitives.specs.declared.plain_data.Request.{Request}
-use Rattle.headline_client.specs.server_answers.declared.plan.Executed.{Executed}
+use Rattle.headline_client.specs.server_answers.Executed.{Executed}
 use Rattle.headline_device.specs.server_tsm.Hearing.{Whole, completes, heard_of, reached}
 use Rattle.headline_client.specs.services.Asked.{left_by, replied}
 use Rattle.unitdata.specs.Hearing.{Brings, Heard, says}

@@ -13,7 +13,7 @@ use Rattle.link_site.specs.declared.port.SitePort.{SitePort}
 use Rattle.chronicle.specs.headline_bacnet.Refined.{ObjectSite}
 use Rattle.plans.specs.hosts.Hosts.{IsOfSite}
 use Rattle.plans.specs.hosts.Opening.{object_site}
-use Rattle.link_ports.specs.declared.ports.PortSent.{PortSent}
+use Rattle.link_ports.specs.Sent.{PortSent}
 use Rattle.npdu.specs.declared.mac.Station.{Station}
 use Rattle.object_model.specs.Objects.{PlainTable}
 use Rattle.primitives.specs.declared.plain_data.Reply.{Reply}

@@ -8,7 +8,7 @@ use Rattle.chronicle.specs.declared.key.Key as kept
 use Rattle.chronicle.specs.declared.saying.SaidMessage.{SaidMessage}
 use Rattle.inside.specs.Inside.{AreInside}
 use Rattle.internetwork.specs.Doing.{Tells}
-use Rattle.link_ports.specs.declared.ports.PortSent.{PortSent}
+use Rattle.link_ports.specs.Sent.{PortSent}
 use Rattle.link_site.specs.Port.{station_of}
 use Rattle.link_site.specs.declared.port.SitePort.{SitePort}
 use Rattle.npdu.specs.declared.mac.Station.{Station}

@@ -6,7 +6,7 @@ use Rattle.chronicle.specs.Growing.{frames_at, frames_of, items_at, items_of}
 use Rattle.plans.specs.hosts.Stations.{WorldStation}
 use Rattle.inside.specs.Inside.{AreInside, Said}
 use Rattle.internetwork.specs.World.{WorldState}
-use Rattle.link_ports.specs.declared.ports.PortSent.{PortSent}
+use Rattle.link_ports.specs.Sent.{PortSent}
 use Rattle.link_site.specs.Port as port
 use Rattle.npdu.specs.declared.mac.Station.{Station}
 use Rattle.plans.specs.relays.Laws.{SiteRelay, site_places}

@@ -17,7 +17,7 @@ use Rattle.internetwork.specs.World.{WorldState}
 use Rattle.internetwork.specs.declared.listener.Listener.{Listener}
 use Rattle.internetwork.specs.declared.listener.Whom.{Whom}
 use Rattle.internetwork.specs.declared.listener.Whom.TheVariants.{Host, Relay}
-use Rattle.link_ports.specs.declared.ports.PortSent.{PortSent}
+use Rattle.link_ports.specs.Sent.{PortSent}
 use Rattle.link_site.specs.Port.{station_of}
 use Rattle.link_site.specs.Steps as site
 use Rattle.npdu.specs.declared.mac.Mac.TheVariants.{One}

@@ -21,7 +21,7 @@ use Rattle.chronicle.specs.site_station.declared.entity.Entity.{Entity}
 use Rattle.chronicle.specs.site_station.declared.entity.Entity.TheVariants.{Device, Client}
 use Rattle.traffic.specs.Seeking.{is_young}
 use Rattle.traffic.specs.declared.item.Item.{Item}
-use Rattle.link_ports.specs.declared.ports.PortSent.{PortSent}
+use Rattle.link_ports.specs.Sent.{PortSent}
 use Rattle.plans.specs.relays.Laws.{SiteRelay}
 use Rattle.plans.specs.relays.Steps.{RelayHears, RelayWakes}
 use Rattle.internetwork.specs.Acting.{Acts, RelayActs}

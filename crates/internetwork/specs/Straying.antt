@@ -8,7 +8,7 @@ use Rattle.internetwork.specs.Acting.{Acts, RelayActs}
 use Rattle.internetwork.specs.World.{WorldState}
 use Rattle.link_site.specs.Port as port
 use Rattle.link_site.specs.Steps as site
-use Rattle.link_ports.specs.declared.ports.PortSent.{PortSent}
+use Rattle.link_ports.specs.Sent.{PortSent}
 use Rattle.npdu.specs.declared.mac.Mac.{Mac}
 use Rattle.npdu.specs.declared.mac.Station.{Station}
 use Rattle.plans.specs.relays.Laws.{SiteRelay}

@@ -6,7 +6,7 @@ ghost use Rattle.npdu.specs.declared.mac.Station.{Station};
 ghost use Rattle.npdu.specs.declared.parcel.Parcel.{Parcel};
 ghost use Rattle.profile.specs.Times.{MAX_MOMENT_MS};
 ghost use Rattle.tags.specs.declared.fault.Fault.{Fault};
-ghost use Rattle.link.specs.declared.step.LinkStep.{LinkStep};
+ghost use Rattle.link.specs.Step.{LinkStep};
 ghost use Rattle.link.specs.Carrying.{CarriesDown, CarriesOn, CarriesUp, Restarts, nothing};
 ghost use Rattle.link.specs.Limits.{max_npdu_at};
 

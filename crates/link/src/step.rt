@@ -1,7 +1,10 @@
 //! What comes of a call of a link.
 
+ghost use Rattle.link.specs.Step as spec;
+
 use npdu::{Mac, Parcel};
 use std::alloc::Allocator;
+use std::marker::Model;
 use tags::{Items, Octets};
 
 /// A datagram or a frame that is put out on a network.
@@ -23,4 +26,12 @@ pub struct LinkStep<A: Allocator> {
     pub up: Option<Parcel<A>>,
     /// What is put out on the network, in order.
     pub out: Items<Sent<A>, A>,
+}
+
+impl<A: Allocator> Model for LinkStep<A> {
+    ghost Value = { spec.LinkStep A };
+
+    ghost view = { λ s. record { up = s.up; out = s.out } };
+
+    ghost inverse = { λ s. record { up = s.up; out = s.out } };
 }

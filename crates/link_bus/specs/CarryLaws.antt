@@ -15,7 +15,7 @@ use Rattle.inside.proofs.Insides.{some_same}
 use Rattle.inside.specs.Inside.{Reaches}
 use Rattle.link.specs.Carrying.{AreKept, CarriesDown, CarriesOn, CarriesUp, HandsUpIf, PutAll, Puts, Restarts, nothing}
 use Rattle.link.specs.Limits.{is_target, max_npdu_at}
-use Rattle.link.specs.declared.step.LinkStep.{LinkStep}
+use Rattle.link.specs.Step.{LinkStep}
 use Rattle.link.specs.declared.step.Sent.{Sent}
 use Rattle.mstp_frame.proofs.Spellings.{canonical_spells, one_frame}
 use Rattle.mstp_frame.specs.Frame.{PlainFrame, Spells, canonical}

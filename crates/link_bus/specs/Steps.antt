@@ -4,7 +4,7 @@ use Rattle.carry.specs.Datagrams.{parcel}
 use Rattle.carry.specs.Frames.{IsFrameOf, framed_to}
 use Rattle.link.specs.Carrying.{nothing}
 use Rattle.link.specs.Limits.{is_target, max_npdu_at}
-use Rattle.link.specs.declared.step.LinkStep.{LinkStep}
+use Rattle.link.specs.Step.{LinkStep}
 use Rattle.mstp_frame.specs.Frame.{Spells}
 use Rattle.mstp_frame.specs.FrameType.{IsNamed}
 use Rattle.mstp_frame.specs.Heard.{NoFrame}

@@ -2,7 +2,7 @@
 use Rattle.std.specs.Prelude.{◌≡◌, ◌≤◌, ℕ, Bool, false, List, [], length, None}
 use Rattle.link.specs.Carrying.{nothing}
 use Rattle.link.specs.Limits.{max_npdu_at}
-use Rattle.link.specs.declared.step.LinkStep.{LinkStep}
+use Rattle.link.specs.Step.{LinkStep}
 use Rattle.npdu.specs.declared.mac.Mac.{Mac}
 use Rattle.npdu.specs.declared.parcel.Parcel.{Parcel}
 use Rattle.link_ip.specs.Hearing.{IsHeard}

@@ -5,14 +5,14 @@ use Rattle.std.specs.Prelude.{slice_get, slice_set}
 use Rattle.history.proofs.Lists.{has, has_either, has_next, has_split}
 use Rattle.history.specs.Lists.{Has}
 use Rattle.link.specs.Carrying.{CarriesDown, CarriesOn, CarriesUp, Carrier, HandsUp, HandsUpIf}
-use Rattle.link.specs.declared.step.LinkStep.{LinkStep}
+use Rattle.link.specs.Step.{LinkStep}
 use Rattle.link.specs.declared.step.Sent.{Sent}
 use Rattle.npdu.specs.declared.mac.Mac.{Mac}
 use Rattle.npdu.specs.declared.mac.Station.{Station}
 use Rattle.npdu.specs.declared.parcel.Parcel.{Parcel}
 use Rattle.link_ports.proofs.PortSteps.{mapped_at, mapped_set}
 use Rattle.link_ports.specs.Ports.{CountsAt, DownsAll, DownsOne, HearsAt, RegistersAt, Steps, WakesFrom, over_port}
-use Rattle.link_ports.specs.declared.ports.PortSent.{PortSent}
+use Rattle.link_ports.specs.Sent.{PortSent}
 
 some_same : {X : Type 0} (x y : X) → Some x ≡ Some y → x ≡ y
 some_same x y e = cc

@@ -2,7 +2,7 @@
 use Rattle.std.proofs.Common.{◌≡◌, ◌∙◌, ◌⊎◌, ◌≤◌, ◌+◌, ◌-◌, refl, sym, ap, subst, arith, ℕ, zero, suc, List, [], ◌∷◌, ◌++◌, map, Some, None, length, inl, inr}
 use Rattle.std.specs.Prelude.{slice_get, slice_index_or, slice_set, ◌<◌, take, drop}
 use Rattle.history.specs.Lists.{Has}
-use Rattle.link.specs.declared.step.LinkStep.{LinkStep}
+use Rattle.link.specs.Step.{LinkStep}
 use Rattle.npdu.specs.declared.mac.Mac.{Mac}
 use Rattle.npdu.specs.declared.mac.Station.{Station}
 use Rattle.npdu.specs.declared.parcel.Parcel.{Parcel}
@@ -10,7 +10,7 @@ use Rattle.tags.specs.declared.fault.Fault.{Fault}
 use Rattle.tags.specs.declared.fault.Fault.TheVariants.{Memory, TooLong}
 use Rattle.link_ports.specs.Ports.{AreBefore, DownsAll, DownsOne, HearsAt, Steps, WakesAll, WakesFrom}
 use Rattle.link_ports.specs.Ports.{IsTooLong, over_port}
-use Rattle.link_ports.specs.declared.ports.PortSent.{PortSent}
+use Rattle.link_ports.specs.Sent.{PortSent}
 
 -- a link at this moment in the place of one keeps the order
 pub still_before : {L : Type 0} (moment : L → ℕ) (now : ℕ) (ls : List L) (i : ℕ) (m : L) → AreBefore moment now ls →

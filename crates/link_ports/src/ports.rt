@@ -4,10 +4,12 @@ ghost use Rattle.std.specs.Prelude.{◌≡◌, ◌≤◌, ◌<◌, ◌⊎◌, �
 ghost use Rattle.profile.specs.Times.{MAX_MOMENT_MS};
 ghost use Rattle.link_ports.specs.Ports.{AreBefore, CountsAt, DownsAll, DownsOne, HearsAt, IsTooLong, NothingIsDue};
 ghost use Rattle.link_ports.specs.Ports.{RegistersAt, Steps, WakesAll, over_port};
+ghost use Rattle.link_ports.specs.Sent as spec;
 
 use link::{Link, Sent};
 use npdu::{Mac, Parcel};
 use std::alloc::{AllocError, Allocator};
+use std::marker::Model;
 use tags::{Fault, Items};
 
 /// A datagram or a frame that is put out over a port of a station.
@@ -18,6 +20,14 @@ pub struct PortSent<A: Allocator> {
     pub port: usize,
     /// What is put out.
     pub sent: Sent<A>,
+}
+
+impl<A: Allocator> Model for PortSent<A> {
+    ghost Value = { spec.PortSent A };
+
+    ghost view = { λ s. record { port = s.port; sent = s.sent } };
+
+    ghost inverse = { λ s. record { port = s.port; sent = s.sent } };
 }
 
 /// Equal ports.

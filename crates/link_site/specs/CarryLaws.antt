@@ -4,7 +4,7 @@ use Rattle.bvll.specs.declared.address.Address.{Address}
 use Rattle.carry.proofs.Passed.{none_some}
 use Rattle.carry.specs.Datagrams.{IsDatagramOf, mac_at}
 use Rattle.link.specs.Carrying.{CarriesDown, CarriesOn, CarriesUp, HandsUpIf, PutAll, Restarts, nothing}
-use Rattle.link.specs.declared.step.LinkStep.{LinkStep}
+use Rattle.link.specs.Step.{LinkStep}
 use Rattle.link.specs.declared.step.Sent.{Sent}
 use Rattle.link_bus.specs.CarryLaws as bus_laws
 use Rattle.link_bus.specs.Port as bus_port

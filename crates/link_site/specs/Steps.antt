@@ -1,6 +1,6 @@
 -- The steps of a port of a site: those of the port that it is, which stays of its kind (6.1, 9.5.6, J.2).
 use Rattle.std.specs.Prelude.{◌⊎◌, ℕ, Bool, List}
-use Rattle.link.specs.declared.step.LinkStep.{LinkStep}
+use Rattle.link.specs.Step.{LinkStep}
 use Rattle.link_bus.specs.Steps as bus
 use Rattle.link_ip.specs.Hearing as ip_hearing
 use Rattle.link_ip.specs.Steps as ip

@@ -4,7 +4,7 @@ use Rattle.std.specs.Prelude.{slice_get}
 use Rattle.history.proofs.Lists.{has, has_cons, none_has}
 use Rattle.history.specs.Lists.{Has}
 use Rattle.link_ports.proofs.Keeping.{Keeps}
-use Rattle.link_ports.specs.declared.ports.PortSent.{PortSent}
+use Rattle.link_ports.specs.Sent.{PortSent}
 use Rattle.link_site.specs.CarryLaws.{carries_down, carries_on, carries_up}
 use Rattle.link_site.specs.Port.{moment_of, station_of, waiting_in}
 use Rattle.link_site.specs.Steps.{Downs, Hears, Wakes}

@@ -24,7 +24,7 @@ use Rattle.link_site.specs.declared.port.SitePort.{SitePort}
 use Rattle.link_site.specs.declared.port.SitePort.TheVariants.{Ip, Bus}
 use Rattle.link_ports.proofs.Keeping.{registers_keep}
 use Rattle.link_ports.specs.Ports.{AreBefore}
-use Rattle.link_ports.specs.declared.ports.PortSent.{PortSent}
+use Rattle.link_ports.specs.Sent.{PortSent}
 use Rattle.npdu.specs.declared.mac.Mac.{Mac}
 use Rattle.npdu.specs.declared.mac.Station.{Station}
 use Rattle.npdu.specs.declared.parcel.Parcel.{Parcel}

@@ -13,7 +13,7 @@ use Rattle.directory.specs.device.Device.{DeviceState}
 use Rattle.directory.specs.device.Plan as device
 use Rattle.link_site.specs.Port.{moment_of}
 use Rattle.link_site.specs.declared.port.SitePort.{SitePort}
-use Rattle.link_ports.specs.declared.ports.PortSent.{PortSent}
+use Rattle.link_ports.specs.Sent.{PortSent}
 use Rattle.npdu.specs.declared.mac.Station.{Station}
 use Rattle.npdu.specs.declared.parcel.Parcel.{Parcel}
 use Rattle.directory.specs.server_answers.Plan.{ServerChange, ServerPlan}

@@ -19,7 +19,7 @@ use Rattle.history.proofs.Lists.{none_has}
 use Rattle.history.specs.Lists.{Has}
 use Rattle.inside.proofs.Insides.{some_same}
 use Rattle.inside.specs.Inside.{HasInside, Inside}
-use Rattle.link_ports.specs.declared.ports.PortSent.{PortSent}
+use Rattle.link_ports.specs.Sent.{PortSent}
 use Rattle.link_site.proofs.Things.{carried_is_borne, is_on_its_network}
 use Rattle.link_site.specs.CarryLaws.{carries_counting, carries_down, carries_on, carries_up}
 use Rattle.link_site.specs.Port.{moment_of, station_of, waiting_in}

@@ -5,7 +5,7 @@ use Rattle.carry.specs.Things.{Thing, Waiting}
 use Rattle.carry_stations.specs.Laws.{Stands}
 use Rattle.carry_stations.specs.Out.{IsIpAddress}
 use Rattle.history.specs.Lists.{Has}
-use Rattle.link_ports.specs.declared.ports.PortSent.{PortSent}
+use Rattle.link_ports.specs.Sent.{PortSent}
 use Rattle.link_site.specs.Port.{moment_of, station_of, waiting_in}
 use Rattle.link_site.specs.Steps.{Counts, Downs, Hears, Wakes, is_due}
 use Rattle.link_site.specs.Things.{thing_at, thing_of}

@@ -1,6 +1,6 @@
 -- Why a relay refuses an input, by its kind: as its kind does.
 use Rattle.std.specs.Prelude.{◌≡◌, ℕ, List, map}
-use Rattle.link.specs.declared.step.LinkStep.{LinkStep}
+use Rattle.link.specs.Step.{LinkStep}
 use Rattle.npdu.specs.declared.mac.Mac.{Mac}
 use Rattle.npdu.specs.declared.mac.Station.{Station}
 use Rattle.site_manager.specs.Station as manager

@@ -1,7 +1,7 @@
 -- A relay, whatever its kind: where it is, what a plan of it puts out, and what it leaves (6.1).
 use Rattle.std.specs.Prelude.{ℕ, ◌≤◌, List, [], ◌∷◌, map}
 use Rattle.link_ports.specs.Ports.{AreBefore}
-use Rattle.link_ports.specs.declared.ports.PortSent.{PortSent}
+use Rattle.link_ports.specs.Sent.{PortSent}
 use Rattle.npdu.specs.declared.mac.Station.{Station}
 use Rattle.site_manager.specs.Station as manager
 use Rattle.site_router.specs.Station as router

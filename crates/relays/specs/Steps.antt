@@ -1,7 +1,7 @@
 -- What a relay does on each input, by its kind: what its kind does (6.5, J.4.5).
 use Rattle.std.specs.Prelude.{◌≡◌, ℕ, Bool, List, []}
-use Rattle.link.specs.declared.step.LinkStep.{LinkStep}
-use Rattle.link_ports.specs.declared.ports.PortSent.{PortSent}
+use Rattle.link.specs.Step.{LinkStep}
+use Rattle.link_ports.specs.Sent.{PortSent}
 use Rattle.npdu.specs.declared.mac.Mac.{Mac}
 use Rattle.npdu.specs.declared.parcel.Parcel.{Parcel}
 use Rattle.site_manager.specs.Station.{ManagerHears, ManagerWakes}

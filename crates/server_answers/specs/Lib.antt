@@ -1,3 +1,5 @@
+pub mod Executed
+pub mod ServerTold
 pub mod Limits
 pub mod Said
 pub mod Gathering

@@ -6,7 +6,7 @@ use Rattle.remembered.specs.declared.record.Asker.{Asker}
 use Rattle.remembered.specs.declared.record.Record.{Record}
 use Rattle.server_answers.specs.Answering.{answer_if_whole}
 use Rattle.server_answers.specs.declared.asked.Asked.{Asked}
-use Rattle.server_answers.specs.declared.plan.Executed.{Executed}
+use Rattle.server_answers.specs.Executed.{Executed}
 use Rattle.server_answers.specs.declared.plan.Planned as held
 use Rattle.server_answers.specs.declared.plan.Planned.TheVariants as planned
 use Rattle.server_answers.specs.declared.plan.QuietChange.{QuietChange}

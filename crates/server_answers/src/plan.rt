@@ -26,6 +26,16 @@ pub struct Executed<A: Allocator> {
     pub reply: Reply<A>,
 }
 
+impl<A: Allocator> Model for Executed<A> {
+    ghost use Rattle.server_answers.specs.Executed as spec;
+
+    ghost Value = { spec.Executed A };
+
+    ghost view = { λ s. record { asker = s.asker; request = s.request; reply = s.reply } };
+
+    ghost inverse = { λ s. record { asker = s.asker; request = s.request; reply = s.reply } };
+}
+
 /// How the answer to an asker is said.
 #[derive(Clone, Copy)]
 pub struct Saying {
@@ -188,4 +198,14 @@ pub struct ServerTold<A: Allocator> {
     pub said: Items<ServerSaid<A>, A>,
     /// The request that was executed, if one was.
     pub executed: Option<Executed<A>>,
+}
+
+impl<A: Allocator> Model for ServerTold<A> {
+    ghost use Rattle.server_answers.specs.ServerTold as spec;
+
+    ghost Value = { spec.ServerTold A };
+
+    ghost view = { λ s. record { said = s.said; executed = s.executed } };
+
+    ghost inverse = { λ s. record { said = s.said; executed = s.executed } };
 }

@@ -17,7 +17,7 @@ use Rattle.server_answers.specs.remembered.declared.record.Record.{Record}
 use Rattle.segments.specs.Sender.{SenderState}
 use Rattle.std.specs.Ordering.{is_eq}
 use Rattle.server_answers.specs.Plan.{ServerChange, ServerPlan, Stays, Says, Gathers, GivesUp, Executes, Wakes, plan_of, plan_with}
-use Rattle.server_answers.specs.declared.plan.Executed.{Executed}
+use Rattle.server_answers.specs.Executed.{Executed}
 use Rattle.server_answers.specs.declared.plan.Planned.TheVariants as held
 use Rattle.server_answers.specs.declared.said.ServerSaid.{ServerSaid}
 use Rattle.server_answers.specs.declared.asked.Origin.{Origin}

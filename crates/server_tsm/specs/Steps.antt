@@ -8,7 +8,7 @@ use Rattle.server_answers.specs.Plan.{ServerPlan}
 use Rattle.server_tsm.specs.Server.{ServerTsmState, committed}
 use Rattle.server_tsm.specs.Waking.{woken}
 use Rattle.server_answers.specs.declared.asked.Origin.{Origin}
-use Rattle.server_answers.specs.declared.plan.ServerTold.{ServerTold}
+use Rattle.server_answers.specs.ServerTold.{ServerTold}
 
 -- this is what service data mean: a request, or why they are rejected (15, 18.9)
 abbrev pub Means : (A : Type 0) → (service : ℕ) → List ℕ → Result (Request A) RejectReason → Type 0

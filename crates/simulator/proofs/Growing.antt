@@ -18,7 +18,7 @@ use Rattle.internetwork.proofs.plans.Hosts.{Kept}
 use Rattle.internetwork.specs.World.{WorldState, frames_on, thing_of, things_of, waits_in}
 use Rattle.link.specs.declared.step.Sent.{Sent}
 use Rattle.link_ports.proofs.Keeping.{set_has}
-use Rattle.link_ports.specs.declared.ports.PortSent.{PortSent}
+use Rattle.link_ports.specs.Sent.{PortSent}
 use Rattle.link_site.proofs.Things.{carried_is_borne, is_on_its_network}
 use Rattle.link_site.specs.Port.{station_of, waiting_in}
 use Rattle.link_site.specs.Things.{thing_at}

@@ -18,7 +18,7 @@ use Rattle.internetwork.specs.Acting.{Acts}
 use Rattle.internetwork.specs.World.{WorldState}
 use Rattle.link_ports.proofs.Keeping.{heard_comes_up}
 use Rattle.link_ports.specs.Ports.{HearsAt}
-use Rattle.link_ports.specs.declared.ports.PortSent.{PortSent}
+use Rattle.link_ports.specs.Sent.{PortSent}
 use Rattle.link_site.proofs.Things.{carried_is_borne, is_on_its_network}
 use Rattle.link_site.specs.CarryLaws.{carries_down, carries_on, carries_up, keeps_stamp}
 use Rattle.link_site.specs.Port.{moment_of, station_of, waiting_in}

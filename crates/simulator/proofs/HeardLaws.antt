@@ -39,13 +39,13 @@ use Rattle.internetwork.specs.declared.event.Event.TheVariants as event
 use Rattle.internetwork.specs.declared.listener.Listener.{Listener}
 use Rattle.internetwork.specs.declared.listener.Whom.{Whom}
 use Rattle.internetwork.specs.declared.listener.Whom.TheVariants.{Host, Relay}
-use Rattle.link_ports.specs.declared.ports.PortSent.{PortSent}
+use Rattle.link_ports.specs.Sent.{PortSent}
 use Rattle.link_site.specs.Steps.{Downs}
 use Rattle.link_site.specs.declared.port.SitePort.{SitePort}
 use Rattle.npdu.specs.declared.mac.Station.{Station}
 use Rattle.npdu.specs.declared.parcel.Parcel.{Parcel}
 use Rattle.primitives.specs.declared.plain_data.Reply.{Reply}
-use Rattle.internetwork.specs.server_answers.declared.plan.Executed.{Executed}
+use Rattle.internetwork.specs.server_answers.Executed.{Executed}
 use Rattle.internetwork.specs.site_station.Entity as entity
 use Rattle.internetwork.specs.site_station.Entity.{EntityHears, awake, told_awake}
 use Rattle.internetwork.specs.site_station.Station.{AnswersIf, StationTold}

@@ -33,7 +33,7 @@ use Rattle.internetwork.specs.declared.event.Event.TheVariants as event
 use Rattle.link.specs.Carrying as link
 use Rattle.link_ports.proofs.Keeping.{registers_keep}
 use Rattle.link_ports.specs.Ports.{HearsAt}
-use Rattle.link_ports.specs.declared.ports.PortSent.{PortSent}
+use Rattle.link_ports.specs.Sent.{PortSent}
 use Rattle.link_site.specs.CarryLaws.{carries_down, carries_on, carries_registering, carries_up, forgets}
 use Rattle.link_site.specs.Port as port
 use Rattle.link_site.specs.Port.{moment_of, station_of, waiting_in}

@@ -13,7 +13,7 @@ use Rattle.history.specs.Lists.{Has}
 use Rattle.internetwork.specs.hosts.Stations.{clients_of, devices_of}
 use Rattle.link_site.specs.Port.{station_of, waiting_in}
 use Rattle.link_site.specs.declared.port.SitePort.{SitePort}
-use Rattle.link_ports.specs.declared.ports.PortSent.{PortSent}
+use Rattle.link_ports.specs.Sent.{PortSent}
 use Rattle.npdu.proofs.Stations.{one_station}
 use Rattle.npdu.specs.Mac.{same_station}
 use Rattle.npdu.specs.declared.mac.Station.{Station}

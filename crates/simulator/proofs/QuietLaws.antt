@@ -14,10 +14,10 @@ use Rattle.internetwork.specs.World.{WorldState}
 use Rattle.internetwork.specs.declared.listener.Listener.{Listener}
 use Rattle.internetwork.specs.declared.listener.Whom.{Whom}
 use Rattle.internetwork.specs.declared.listener.Whom.TheVariants.{Host, Relay}
-use Rattle.link.specs.declared.step.LinkStep.{LinkStep}
+use Rattle.link.specs.Step.{LinkStep}
 use Rattle.link.specs.declared.step.Sent.{Sent}
 use Rattle.link_ports.specs.Ports.{CountsAt, over_port}
-use Rattle.link_ports.specs.declared.ports.PortSent.{PortSent}
+use Rattle.link_ports.specs.Sent.{PortSent}
 use Rattle.link_site.specs.Port.{station_of}
 use Rattle.link_site.specs.Steps as site
 use Rattle.link_site.specs.declared.port.SitePort.{SitePort}

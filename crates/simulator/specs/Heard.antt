@@ -11,7 +11,7 @@ use Rattle.internetwork.specs.client_tsm.Hearing as client_tsm
 use Rattle.internetwork.specs.device.Device.{DeviceState}
 use Rattle.internetwork.specs.device.server_tsm.Hearing as server_tsm
 use Rattle.npdu.specs.declared.parcel.Parcel.{Parcel}
-use Rattle.internetwork.specs.server_answers.declared.plan.Executed.{Executed}
+use Rattle.internetwork.specs.server_answers.Executed.{Executed}
 use Rattle.internetwork.specs.site_station.Entity.{station_of}
 use Rattle.internetwork.specs.site_station.declared.entity.Entity.{Entity}
 use Rattle.internetwork.specs.site_station.declared.entity.Entity.TheVariants.{Device, Client}

@@ -7,7 +7,7 @@ use Rattle.bvll.specs.Function.{number_of}
 use Rattle.bvll.specs.declared.address.Address.{Address}
 use Rattle.bvll.specs.declared.function.Function.TheVariants.{ForwardedNpdu}
 use Rattle.carry.specs.Datagrams.{mac_at}
-use Rattle.link_ports.specs.declared.ports.PortSent.{PortSent}
+use Rattle.link_ports.specs.Sent.{PortSent}
 
 -- what carries an NPDU on has the stamp of what was heard; what a manager says of itself, a Result or an Ack, this
 -- moment

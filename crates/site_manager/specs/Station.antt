@@ -7,7 +7,7 @@ use Rattle.bvll.specs.Address.{address_at}
 use Rattle.bvll.specs.Datagram.{Datagram}
 use Rattle.bvll.specs.declared.address.Address.{Address}
 use Rattle.carry.specs.Datagrams.{mac_at}
-use Rattle.link_ports.specs.declared.ports.PortSent.{PortSent}
+use Rattle.link_ports.specs.Sent.{PortSent}
 use Rattle.npdu.specs.declared.mac.Mac.{Mac}
 use Rattle.npdu.specs.declared.mac.Mac.TheVariants.{One, Six}
 use Rattle.npdu.specs.declared.mac.Station.{Station}

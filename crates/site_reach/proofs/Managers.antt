@@ -17,7 +17,7 @@ use Rattle.headline_client.proofs.Places.{all_join}
 use Rattle.history.proofs.HasLaws.{map_has}
 use Rattle.history.proofs.Lists.{none_has}
 use Rattle.history.specs.Lists.{Has}
-use Rattle.link_ports.specs.declared.ports.PortSent.{PortSent}
+use Rattle.link_ports.specs.Sent.{PortSent}
 use Rattle.npdu.specs.declared.mac.Mac.{Mac}
 use Rattle.npdu.specs.declared.mac.Mac.TheVariants.{One, Six}
 use Rattle.site_manager.specs.Stamping.{put_out, sent_to}

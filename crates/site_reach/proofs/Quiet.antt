@@ -9,7 +9,7 @@ use Rattle.carry.specs.Things.{SentDatagram, Thing}
 use Rattle.history.proofs.HasLaws.{has_map, map_has}
 use Rattle.history.proofs.Lists.{has_cons, has_either, none_has}
 use Rattle.history.specs.Lists.{Has}
-use Rattle.link.specs.declared.step.LinkStep.{LinkStep}
+use Rattle.link.specs.Step.{LinkStep}
 use Rattle.link.specs.declared.step.Sent.{Sent}
 use Rattle.link_bus.specs.Port.{BusPortState}
 use Rattle.link_ip.specs.Port as ip_port
@@ -19,7 +19,7 @@ use Rattle.link_ip.specs.Steps as ip
 use Rattle.link_ports.proofs.Keeping.{IsOver, over_has}
 use Rattle.link_ports.proofs.PortSteps.{mapped_at, mapped_set}
 use Rattle.link_ports.specs.Ports.{CountsAt, DownsAll, DownsOne, HearsAt, Misses, Steps, WakesFrom, over_port}
-use Rattle.link_ports.specs.declared.ports.PortSent.{PortSent}
+use Rattle.link_ports.specs.Sent.{PortSent}
 use Rattle.link_site.specs.Port.{restarted}
 use Rattle.link_site.specs.Steps.{Counts, Downs, Hears, Wakes}
 use Rattle.link_site.specs.declared.port.SitePort.{SitePort}

@@ -26,7 +26,7 @@ use Rattle.internetwork.specs.declared.event.Event.TheVariants as event
 use Rattle.internetwork.specs.declared.listener.Listener.{Listener}
 use Rattle.internetwork.specs.declared.listener.Whom.{Whom}
 use Rattle.internetwork.specs.declared.listener.Whom.TheVariants.{Host, Relay}
-use Rattle.link.specs.declared.step.LinkStep.{LinkStep}
+use Rattle.link.specs.Step.{LinkStep}
 use Rattle.link.specs.declared.step.Sent.{Sent}
 use Rattle.link_ip.specs.Port as ip_port
 use Rattle.link_ip.specs.Port.{IpPortState}
@@ -36,7 +36,7 @@ use Rattle.link_ip.specs.declared.port.Reach.TheVariants as reach
 use Rattle.link_ports.proofs.Keeping.{IsOver, over_has}
 use Rattle.link_ports.proofs.PortSteps.{mapped_at, mapped_set}
 use Rattle.link_ports.specs.Ports.{RegistersAt}
-use Rattle.link_ports.specs.declared.ports.PortSent.{PortSent}
+use Rattle.link_ports.specs.Sent.{PortSent}
 use Rattle.link_site.specs.Port.{station_of}
 use Rattle.link_site.specs.Steps as site
 use Rattle.link_site.specs.declared.port.SitePort.{SitePort}

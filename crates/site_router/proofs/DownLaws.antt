@@ -4,9 +4,9 @@ use Rattle.std.specs.Prelude.{◌<◌, length}
 use Rattle.history.proofs.Lists.{has_cons, none_has}
 use Rattle.history.specs.Lists.{Has}
 use Rattle.link.specs.Limits.{max_npdu_at}
-use Rattle.link.specs.declared.step.LinkStep.{LinkStep}
+use Rattle.link.specs.Step.{LinkStep}
 use Rattle.link_ports.specs.Ports.{DownsOne, IsTooLong}
-use Rattle.link_ports.specs.declared.ports.PortSent.{PortSent}
+use Rattle.link_ports.specs.Sent.{PortSent}
 use Rattle.npdu.specs.declared.mac.Station.{Station}
 use Rattle.npdu.specs.declared.parcel.Parcel.{Parcel}
 use Rattle.router.specs.declared.plan.PortParcel.{PortParcel}

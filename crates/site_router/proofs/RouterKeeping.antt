@@ -5,10 +5,10 @@ use Rattle.std.specs.Prelude.{Bool}
 use Rattle.history.proofs.Lists.{has, has_next}
 use Rattle.history.specs.Lists.{Has}
 use Rattle.link.specs.Carrying.{CarriesDown, CarriesOn, CarriesUp, Carrier}
-use Rattle.link.specs.declared.step.LinkStep.{LinkStep}
+use Rattle.link.specs.Step.{LinkStep}
 use Rattle.link_ports.proofs.Keeping.{ComesUp, Keeps, SaidIsGood, counts_keep, heard_comes_up, heard_keeps, one_keeps, wakes_keep}
 use Rattle.link_ports.specs.Ports.{HearsAt}
-use Rattle.link_ports.specs.declared.ports.PortSent.{PortSent}
+use Rattle.link_ports.specs.Sent.{PortSent}
 use Rattle.npdu.specs.declared.mac.Mac.{Mac}
 use Rattle.npdu.specs.declared.mac.Station.{Station}
 use Rattle.npdu.specs.declared.parcel.Parcel.{Parcel}

@@ -1,10 +1,10 @@
 -- What is planned of a station, put together of what its entity plans and what its ports do.
 use Rattle.std.proofs.Common.{◌≡◌, ◌⊎◌, ◌∙◌, inl, inr, ap, subst, ℕ, List, [], map, Option, Some}
 use Rattle.apdu.specs.declared.unconfirmed.Limits.{Limits}
-use Rattle.link.specs.declared.step.LinkStep.{LinkStep}
+use Rattle.link.specs.Step.{LinkStep}
 use Rattle.link_ports.proofs.PortSteps.{heard_anew}
 use Rattle.link_ports.specs.Ports.{CountsAt, DownsAll, HearsAt, IsTooLong}
-use Rattle.link_ports.specs.declared.ports.PortSent.{PortSent}
+use Rattle.link_ports.specs.Sent.{PortSent}
 use Rattle.npdu.specs.declared.mac.Mac.{Mac}
 use Rattle.npdu.specs.declared.mac.Station.{Station}
 use Rattle.npdu.specs.declared.parcel.Parcel.{Parcel}

@@ -3,9 +3,9 @@
 use Rattle.std.proofs.Common.{◌⊎◌, inl, inr, sym, subst, ℕ, Bool, List, [], length, Option, Some, None}
 use Rattle.history.specs.Lists.{Has}
 use Rattle.link.specs.Carrying.{CarriesDown, CarriesOn, CarriesUp, Carrier}
-use Rattle.link.specs.declared.step.LinkStep.{LinkStep}
+use Rattle.link.specs.Step.{LinkStep}
 use Rattle.link_ports.proofs.Keeping.{Keeps, SaidIsGood, counts_keep, down_keeps, heard_keeps, wakes_keep}
-use Rattle.link_ports.specs.declared.ports.PortSent.{PortSent}
+use Rattle.link_ports.specs.Sent.{PortSent}
 use Rattle.npdu.specs.declared.mac.Mac.{Mac}
 use Rattle.npdu.specs.declared.mac.Station.{Station}
 use Rattle.npdu.specs.declared.parcel.Parcel.{Parcel}

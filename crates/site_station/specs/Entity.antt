@@ -8,7 +8,7 @@ use Rattle.client.specs.Issuing.{refusal}
 use Rattle.client.specs.Plan as client
 use Rattle.client.specs.Saying.{who_is_parcel}
 use Rattle.client.specs.Saying as client_saying
-use Rattle.client.specs.declared.plan.ClientTold.{ClientTold}
+use Rattle.client.specs.ClientTold.{ClientTold}
 use Rattle.client.specs.client_tsm.Client as client_tsm
 use Rattle.client.specs.client_tsm.Steps as client_tsm_steps
 use Rattle.client.specs.client_tsm.Waking as client_waking
@@ -16,7 +16,7 @@ use Rattle.device.specs.Device.{DeviceState, restarts}
 use Rattle.device.specs.Hearing.{DeviceHears}
 use Rattle.device.specs.Plan as device
 use Rattle.device.specs.Saying as device_saying
-use Rattle.device.specs.declared.plan.DeviceTold.{DeviceTold}
+use Rattle.device.specs.DeviceTold.{DeviceTold}
 use Rattle.npdu.specs.declared.mac.Station.{Station}
 use Rattle.npdu.specs.declared.parcel.Parcel.{Parcel}
 use Rattle.object_model.specs.Objects.{PlainTable}

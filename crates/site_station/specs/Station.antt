@@ -1,7 +1,7 @@
 -- What a station does on each input: its entity, and what is put out over its ports (6.1).
 use Rattle.std.specs.Prelude.{◌≡◌, ◌≢◌, ◌⊎◌, ℕ, Bool, true, List, [], map, Option, Some, None}
 use Rattle.apdu.specs.declared.unconfirmed.Limits.{Limits}
-use Rattle.link.specs.declared.step.LinkStep.{LinkStep}
+use Rattle.link.specs.Step.{LinkStep}
 use Rattle.npdu.specs.declared.mac.Mac.{Mac}
 use Rattle.npdu.specs.declared.mac.Station.{Station}
 use Rattle.npdu.specs.declared.parcel.Parcel.{Parcel}
@@ -13,7 +13,7 @@ use Rattle.site_station.specs.Entity as entity
 use Rattle.link_ports.specs.Ports.{CountsAt, DownsAll, HearsAt, IsTooLong, NothingIsDue, RegistersAt, WakesAll}
 use Rattle.site_station.specs.declared.entity.Entity.{Entity}
 use Rattle.site_station.specs.declared.entity.EntityTold.{EntityTold}
-use Rattle.link_ports.specs.declared.ports.PortSent.{PortSent}
+use Rattle.link_ports.specs.Sent.{PortSent}
 use Rattle.site_station.specs.declared.station.StationPlan.{StationPlan}
 use Rattle.tags.specs.declared.fault.Fault.{Fault}
 use Rattle.tags.specs.declared.fault.Fault.TheVariants.{NoSuch, TableFull, TooLong}

@@ -5,12 +5,11 @@ use Rattle.chronicle.proofs.putting.relay_puts_out.Goals as goal
 -- one more
 pub loop-sent-preserved : goal.loop-sent-preserved
 loop-sent-preserved g c = (
-  items_further c.args.now (places_of g.L.Link.station c.args.relay.now) c.in-Some.sent c.args.all
-      c.loop-sent.sent-iterator.rest.items c.next.new.self.rest.items c.place-place.result c.place-place.ensures
-      c.in-Some.ensures.steps.0 c.loop-sent.out.items c.put.new.out.items c.in_ok-put.ensures.items
-      c.loop-sent.invariant.0,
-  frames_further c.args.now (places_of g.L.Link.station c.args.relay.now) c.in-Some.sent c.args.all
-      c.loop-sent.sent-iterator.rest.items c.next.new.self.rest.items c.place-place.result c.place-place.ensures
-      c.in-Some.ensures.steps.0 c.loop-sent.out.items c.put.new.out.items c.in_ok-put.ensures.items
-      c.loop-sent.out.frames c.put.new.out.frames c.in_ok-put.ensures.frames c.loop-sent.invariant.1,
+  items_further c.args.now (places_of g.L.Link.station c.args.relay.now) c.in-Some.sent c.args.all c.loop-sent.sent-iterator.rest.items
+      c.next.new.self.rest.items c.in-Some.ensures.steps.0 c.loop-sent.out.items c.relay_puts_over.new.out.items
+      c.in_ok-relay_puts_over.ensures.items c.loop-sent.invariant.0,
+  frames_further c.args.now (places_of g.L.Link.station c.args.relay.now) c.in-Some.sent c.args.all c.loop-sent.sent-iterator.rest.items
+      c.next.new.self.rest.items c.in-Some.ensures.steps.0 c.loop-sent.out.items c.relay_puts_over.new.out.items
+      c.in_ok-relay_puts_over.ensures.items c.loop-sent.out.frames c.relay_puts_over.new.out.frames
+      c.in_ok-relay_puts_over.ensures.frames c.loop-sent.invariant.1,
 )

@@ -2,7 +2,7 @@ use Rattle.std.proofs.Common.{◌≡◌, drop, List, map}
 use Rattle.history.specs.Lists.{Has}
 use Rattle.npdu.specs.declared.parcel.Parcel.{Parcel}
 use Rattle.link_ports.specs.Ports.{AreBefore, DownsAll}
-use Rattle.link_ports.specs.declared.ports.PortSent.{PortSent}
+use Rattle.link_ports.specs.Sent.{PortSent}
 use Rattle.link_ports.proofs.ports.down_all.Given as goal
 
 -- what the rest leads to, all lead to; and the rest is some of all

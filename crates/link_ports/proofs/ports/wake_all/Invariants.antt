@@ -1,6 +1,6 @@
 use Rattle.std.proofs.Common.{◌-◌, List, length}
 use Rattle.link_ports.specs.Ports.{AreBefore, WakesAll, WakesFrom}
-use Rattle.link_ports.specs.declared.ports.PortSent.{PortSent}
+use Rattle.link_ports.specs.Sent.{PortSent}
 use Rattle.link_ports.proofs.ports.wake_all.Given as goal
 
 -- what the ports from this one on lead to, all lead to

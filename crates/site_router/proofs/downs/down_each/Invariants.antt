@@ -1,7 +1,7 @@
 use Rattle.std.proofs.Common.{◌≡◌, drop, List, map}
 use Rattle.history.specs.Lists.{Has}
 use Rattle.link_ports.specs.Ports.{AreBefore}
-use Rattle.link_ports.specs.declared.ports.PortSent.{PortSent}
+use Rattle.link_ports.specs.Sent.{PortSent}
 use Rattle.router.specs.declared.plan.PortParcel.{PortParcel}
 use Rattle.site_router.specs.Downs.{DownsEach}
 use Rattle.site_router.proofs.downs.down_each.Given as goal
