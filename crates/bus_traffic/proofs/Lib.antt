@@ -6,3 +6,4 @@ pub mod GivenLaws
 pub mod TellingLaws
 pub mod KeepingLaws
 pub mod KnownLaws
+pub mod TurnLaws

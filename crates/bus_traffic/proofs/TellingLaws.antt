@@ -2,12 +2,13 @@
 use Rattle.std.proofs.Common.{◌≡◌, ℕ, ◌+◌, List, [], ◌∷◌, ◌++◌, ◌<◌, ◌≤◌, ◌⊎◌, inl, inr, arith, ap, ◌∙◌, drop, length, refl, subst, suc, sym, take, false, zero}
 use Rattle.std.specs.Prelude.{Option, Some, None, IfNone, IfSome, get_or, slice_get}
 use Rattle.history.specs.Lists.{Has}
-use Rattle.history.proofs.Lists.{get_front, has, has_back, has_cons, has_split, none_has}
-use Rattle.bus_traffic.specs.Telling.{AreInOrder, IsDue, IsDueNowhere, IsEarlier, IsFirstEar, IsNext, NoneBetween, NoneWaits, BeginsAt, HasNoTurn, Waits}
-use Rattle.bus_traffic.specs.Sendings.{waits_at}
+use Rattle.history.proofs.Lists.{get_front, has, has_back, has_cons, has_next, has_split, none_has}
+use Rattle.bus_traffic.specs.Telling.{AreInOrder, IsDue, IsDueNowhere, IsEarlier, IsFirstEar, IsFromTurn, IsNext, NoneBetween, NoneWaits, BeginsAt, HasNoTurn, Waits}
+use Rattle.bus_traffic.specs.Sendings.{turn_of, waits_at}
 use Rattle.std.proofs.Math.Seq.{take-suc}
 use Rattle.std.proofs.lemmas.Bool.{cases_lt}
-use Rattle.std.proofs.lemmas.Option.{slice_get_within}
+use Rattle.std.proofs.lemmas.List.{drop-drop}
+use Rattle.std.proofs.lemmas.Option.{get_or_from_slice_get, slice_get_within}
 use Rattle.bus_traffic.specs.declared.bus.Bus.{Bus}
 use Rattle.bus_traffic.specs.declared.ear.Ear.{Ear}
 use Rattle.bus_traffic.specs.declared.sending.Recent.{Recent}
@@ -151,18 +152,61 @@ first_left b r s left i place e a is ordered h due = elim (a.left_of s h) [
   ]
 ]
 
-pub next_left : {A : Type 0} {now : ℕ} {from : Telling} {before : ℕ} (b : Bus A) (r : Recent A) (left : List (Recent A))
+has_dropped : {X : Type 0} (i : ℕ) (xs : List X) (x : X) (left : List X) → drop i xs ≡ x ∷ left → Has xs x
+has_dropped zero xs x left is = subst (λ ys. Has ys x) (sym is) (has 0 refl)
+has_dropped (suc i) [] x left is = absurd (cc)
+has_dropped (suc i) (y ∷ xs) x left is = has_next y xs (has_dropped i xs x left is)
+
+next_left : {A : Type 0} {now : ℕ} {from : Telling} {before : ℕ} (b : Bus A) (r : Recent A) (left : List (Recent A))
     (i place : ℕ) (e : Ear) → AreLeft now from before b.ears.items b.recent.items (drop i b.recent.items)
-    → drop i b.recent.items ≡ r ∷ left → Has b.recent.items r → IsDue now from before b.ears.items r place e
+    → drop i b.recent.items ≡ r ∷ left → IsDue now from before b.ears.items r place e
     → IsFirstEar now from before b.ears.items r place → IsNext now from before (b ∷ []) b r place e
-next_left {A} {now} {from} {before} b r left i place e a is there due ear = record {
-  waits = record { among = has 0 refl; put_out = there; due = due };
+next_left {A} {now} {from} {before} b r left i place e a is due ear = record {
+  waits = record { among = has 0 refl; put_out = has_dropped i b.recent.items r left is; due = due };
   ear = ear;
   first = λ c s q f ordered w. elim (has_cons b [] w.among) [
     | inl same ↦ first_left b r s left i q f a is (subst (λ x. AreInOrder x.recent.items) (sym same) ordered)
         (subst (λ x. Has x.recent.items s) (sym same) w.put_out)
         (subst (λ x. IsDue now from before x.ears.items s q f) (sym same) w.due)
     | inr h ↦ absurd (none_has h)
+  ];
+}
+
+-- .. where some in front were put out before its turn
+pub next_from : {A : Type 0} (now : ℕ) (from : Telling) (before : ℕ) (b : Bus A) (r : Recent A) (items : List (Recent A))
+    (i place : ℕ) (e : Ear) → IsFromTurn from.frames b.recent.items items
+    → AreLeft now from before b.ears.items b.recent.items (drop i items) → drop i items ≡ r ∷ drop (i + 1) items
+    → IsDue now from before b.ears.items r place e → IsFirstEar now from before b.ears.items r place
+    → IsNext now from before (b ∷ []) b r place e
+next_from now from before b r items i place e t a is due ear =
+    let same : drop i items ≡ drop (t.first + i) b.recent.items =
+    ap (λ xs. drop i xs) t.left_is ∙ drop-drop i t.first b.recent.items in
+    next_left b r (drop (i + 1) items) (t.first + i) place e
+    (subst (λ xs. AreLeft now from before b.ears.items b.recent.items xs) same a) (sym same ∙ is) due ear
+
+has_later : {X : Type 0} (xs : List X) (i k : ℕ) (x : X) → slice_get xs k ≡ Some x → i ≤ k → Has (drop i xs) x
+has_later xs zero k x e le = has k e
+has_later [] (suc i) k x e le = absurd (cc)
+has_later (y ∷ xs) (suc i) zero x e le = absurd (omega (arith, le))
+has_later (y ∷ xs) (suc i) (suc k) x e le = has_later xs i k x e (omega (arith, le))
+
+-- a frame that was put out before a turn is due nowhere
+early_nowhere : {A : Type 0} (now : ℕ) (from : Telling) (before : ℕ) (ears : List Ear) (s : Recent A)
+    → turn_of s < from.frames → IsDueNowhere now from before ears s
+early_nowhere now from before ears s lt = record {
+  none = λ place e due. elim due.behind [
+    | inl later ↦ omega (arith, lt, later)
+    | inr here ↦ let is = here.0 in omega (arith, lt, is)
+  ];
+}
+
+pub left_from : {A : Type 0} (now : ℕ) (from : Telling) (before : ℕ) (ears : List Ear) (rs items : List (Recent A))
+    → IsFromTurn from.frames rs items → AreLeft now from before ears rs items
+left_from now from before ears rs items t = record {
+  left_of = λ s h. elim (cases_lt h.place t.first) [
+    | inl lt ↦ inl (early_nowhere now from before ears s (subst (λ x. turn_of x < from.frames)
+        (get_or_from_slice_get rs h.place s s h.at_place) (t.earlier h.place s (omega arith) lt)))
+    | inr le ↦ inr (subst (λ xs. Has xs s) (sym t.left_is) (has_later rs t.first h.place s h.at_place le))
   ];
 }
 

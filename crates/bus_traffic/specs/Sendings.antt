@@ -1,7 +1,9 @@
 -- What was put out on a bus, and how a frame that is heard there is judged.
-use Rattle.std.specs.Prelude.{ℕ, ◌==◌, ◌&&◌, max, not, Bool, true, false, List, [], ◌∷◌, ◌++◌, Option, Some, None}
-use Rattle.std.specs.Prelude.{Result, Ok, Err, bytes_eq, replicate, slice_index_or, slice_set, if◌then◌else◌}
+use Rattle.std.specs.Prelude.{◌≤◌, ◌<◌, ℕ, ◌-◌, ◌==◌, ◌&&◌, max, not, Bool, true, false, List, [], ◌∷◌, ◌++◌, length}
+use Rattle.std.specs.Prelude.{Option, Some, None, Result, Ok, Err, bytes_eq, replicate, slice_index_or, slice_set}
+use Rattle.std.specs.Prelude.{if◌then◌else◌}
 use Rattle.std.specs.List.{filter}
+use Rattle.std.specs.List.Sorted.{IsNonDecreasingBy}
 use Rattle.profile.specs.Ages.{is_heard_in_time}
 use Rattle.tags.specs.declared.fault.Fault.{Fault}
 use Rattle.tags.specs.declared.fault.Fault.TheVariants.{Expired, Forged}
@@ -88,3 +90,15 @@ abbrev pub delivered : {A : Type 0} → (now address : ℕ) → (octets : List �
 delivered now address octets [] = []
 delivered now address octets (r ∷ rs) =
     if is_due_at now address octets r then marked address r ∷ rs else r ∷ delivered now address octets rs
+
+-- how many frames were put out before it, on all buses
+abbrev pub turn_of : {A : Type 0} → Recent A → ℕ
+turn_of r = r.sending.place.frames
+
+-- the last of these, if there is any, wasn't put out behind another, as their places say
+abbrev pub IsBehindLast : {A : Type 0} → (new : Recent A) → List (Recent A) → Type 0
+IsBehindLast {A} new rs = (r : Recent A) → 0 < length rs → turn_of (slice_index_or rs (length rs - 1) r) ≤ turn_of new
+
+-- no frame of these was put out behind one that stands behind it, as their places say
+abbrev pub AreInTurn : {A : Type 0} → List (Recent A) → Type 0
+AreInTurn rs = IsNonDecreasingBy turn_of rs

@@ -1,6 +1,7 @@
 -- Which frame an ear is told next.
-use Rattle.std.specs.Prelude.{◌≡◌, ◌≤◌, ◌<◌, ◌⊎◌, ℕ, true, List, [], ◌∷◌, Option, Some, None, slice_get}
-use Rattle.bus_traffic.specs.Sendings.{waits_at}
+use Rattle.std.specs.Prelude.{◌≡◌, ◌≤◌, ◌<◌, ◌⊎◌, ℕ, true, List, [], ◌∷◌, Option, Some, None, drop, slice_get}
+use Rattle.std.specs.List.{AllWithin}
+use Rattle.bus_traffic.specs.Sendings.{turn_of, waits_at}
 use Rattle.bus_traffic.specs.declared.bus.Bus.{Bus}
 use Rattle.bus_traffic.specs.declared.ear.Ear.{Ear}
 use Rattle.bus_traffic.specs.declared.sending.Recent.{Recent}
@@ -80,3 +81,9 @@ IsEarlier (Some a) None result = result ≡ Some a
 IsEarlier (Some a) (Some b) result =
     ((b.recent.now.sending.place.frames < a.recent.now.sending.place.frames) × (result ≡ Some b))
     ⊎ ((a.recent.now.sending.place.frames ≤ b.recent.now.sending.place.frames) × (result ≡ Some a))
+
+-- these are left of frames from a place on, before which each was put out before so many
+pub record IsFromTurn {A : Type 0} (frames : ℕ) (rs left : List (Recent A)) : Type 0 where
+  pub first : ℕ
+  pub left_is : left ≡ drop first rs
+  pub earlier : AllWithin (λ r. turn_of r < frames) rs 0 first

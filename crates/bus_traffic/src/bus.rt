@@ -1,9 +1,9 @@
 //! A bus, and what is known of it.
 
-ghost use Rattle.std.specs.Prelude.{◌≡◌, ◌≤◌, ◌<◌, ◌+◌, ◌++◌, ◌∷◌, [], Some, length, slice_get};
+ghost use Rattle.std.specs.Prelude.{◌≡◌, ◌≤◌, ◌<◌, ◌+◌, ◌++◌, ◌∷◌, [], Some, length, slice_get, true};
 ghost use Rattle.std.specs.Vec.{vec_capacity, vec_len};
 ghost use Rattle.bus_traffic.specs.Sendings as spec;
-ghost use Rattle.bus_traffic.specs.Sendings.{delivered, learned};
+ghost use Rattle.bus_traffic.specs.Sendings.{AreInTurn, IsBehindLast, delivered, learned};
 
 use crate::ear::Ear;
 use crate::hearing::{Hearing, hear};
@@ -24,6 +24,9 @@ pub struct Bus<A: Allocator> {
     pub known: Vec<Known<A>, A>,
     /// What may still be heard, in the order in which it was put out.
     pub recent: Vec<RecentBox<A>, A>,
+    /// Whether the places of these say the same order: one is then found by halves.
+    pub(crate) is_in_turn: bool,
+    ghost turns: { is_in_turn ≡ true → AreInTurn recent.items },
 }
 
 /// Puts a value behind others, where there is room.
@@ -71,15 +74,36 @@ fn keep_young<A: Allocator>(recent: &mut Vec<RecentBox<A>, A>, now: u64)
     recent.retain(|held| is_heard_in_time(held.recent().sending.stamp, now));
 }
 
-/// Puts a frame behind those that may still be heard, where there is room.
-fn follow<A: Allocator>(recent: &mut Vec<RecentBox<A>, A>, new: RecentBox<A>, now: u64)
-    requires { vec_len recent.old < vec_capacity recent.old }
+/// Whether the last of these, if there is any, wasn't put out behind another, as their places say.
+fn is_behind<A: Allocator>(recent: &[RecentBox<A>], new: &Recent<A>) -> bool
+    ensures { result ≡ true → IsBehindLast new.now recent.now }
+{
+    match recent {
+        [.., last] => last.recent().sending.place.frames <= new.sending.place.frames,
+        [] => true,
+    }
+}
+
+/// Puts a frame behind those that may still be heard, where there is room, and says whether their places say the order
+/// in which they stand, where they did before.
+#[tactic(auto, using(crate::proofs::TurnLaws::turn_laws))]
+fn follow<A: Allocator>(
+    recent: &mut Vec<RecentBox<A>, A>,
+    new: RecentBox<A>,
+    is_in_turn: bool,
+    now: u64,
+) -> bool
+    requires room { vec_len recent.old < vec_capacity recent.old }
+    requires turns { is_in_turn ≡ true → AreInTurn recent.old.items }
     ensures recent { recent.new.items ≡ spec.young now recent.old.items ++ new ∷ [] }
     ensures len { vec_len recent.new ≤ vec_len recent.old + 1 }
     ensures room { vec_capacity recent.old ≤ vec_capacity recent.new }
+    ensures turns { result ≡ true → AreInTurn recent.new.items }
 {
     keep_young(recent, now);
+    let is_in_turn = is_in_turn && is_behind(recent, new.recent());
     push_reserved(recent, new);
+    is_in_turn
 }
 
 /// The ear at a place.
@@ -135,6 +159,7 @@ impl<A: Allocator + Copy> Bus<A> {
             ears: Vec::new(alloc),
             known: Vec::new(alloc),
             recent: Vec::new(alloc),
+            is_in_turn: true,
         }
     }
 
@@ -171,7 +196,7 @@ impl<A: Allocator + Copy> Bus<A> {
     {
         let Put { recent, known } = put;
         learn(&mut self.known, known);
-        follow(&mut self.recent, recent, now);
+        self.is_in_turn = follow(&mut self.recent, recent, self.is_in_turn, now);
     }
 
     /// What an ear of the bus makes of octets that come to it at the moment `now`, in milliseconds: the frames that

@@ -89,6 +89,7 @@ impl<A: Allocator + Copy> Bus<A> {
             ears: ears_of(alloc, self.ears.as_slice())?,
             known: known_of(alloc, self.known.as_slice())?,
             recent: recent_of(alloc, self.recent.as_slice())?,
+            is_in_turn: self.is_in_turn,
         })
     }
 }

@@ -1,13 +1,14 @@
 //! Which frame an ear is told next.
 
-ghost use Rattle.std.specs.Prelude.{◌≡◌, ◌≤◌, ◌∷◌, [], Some, None, true, IfSome, IfNone, length, slice_get};
+ghost use Rattle.std.specs.Prelude.{◌≡◌, ◌≤◌, ◌<◌, ◌∷◌, [], Some, None, true, IfSome, IfNone, length, slice_get};
+ghost use Rattle.std.specs.List.{AllWithin};
 ghost use Rattle.bus_traffic.specs.Sendings as spec;
 ghost use Rattle.bus_traffic.specs.Telling.{BeginsAt, HasNoTurn, IsDue, IsDueNowhere, IsEarlier, IsFirstEar, IsNext};
-ghost use Rattle.bus_traffic.specs.Telling.{NoneBetween, NoneWaits};
+ghost use Rattle.bus_traffic.specs.Telling.{IsFromTurn, NoneBetween, NoneWaits};
 
 use crate::bus::{Bus, waits_at};
 use crate::ear::Ear;
-use crate::sending::Recent;
+use crate::sending::{Recent, RecentBox};
 use std::alloc::Allocator;
 
 /// Whose turn it is to be told: the frame before which so many were put out on all buses, and the ear at a place.
@@ -89,6 +90,28 @@ fn due_at<'b, A: Allocator>(
     next_ear(ears, recent, first, now)
 }
 
+/// How many frames were put out before so many, of some that stand in the order of their places. It is found by halves.
+fn count_before<A: Allocator>(recent: &[RecentBox<A>], frames: u64) -> usize
+    requires { spec.AreInTurn recent.now }
+    ensures within { result ≤ length recent.now }
+    ensures before { AllWithin (λ r. spec.turn_of r < frames) recent.now 0 result }
+{
+    recent.partition_point(|held| held.recent().sending.place.frames < frames)
+}
+
+/// The frames of a bus, without those in front that were put out before so many.
+fn from_turn<A: Allocator>(bus: &Bus<A>, frames: u64) -> &[RecentBox<A>]
+    ensures { IsFromTurn frames bus.now.recent.items result.now }
+{
+    let recent = bus.recent.as_slice();
+    let first = if bus.is_in_turn {
+        count_before(recent, frames)
+    } else {
+        0
+    };
+    &recent[first..]
+}
+
 /// The first frame of a bus, before another, that is due at one of its ears, from whose turn it is on.
 fn next_on<A: Allocator>(
     bus: &Bus<A>,
@@ -100,7 +123,7 @@ fn next_on<A: Allocator>(
         IsNext now from before (bus.now ∷ []) next.bus.now next.recent.now next.ear_place next.ear.now) }
     ensures none { IfNone result (NoneWaits now from before (bus.now ∷ [])) }
 {
-    for held in &bus.recent {
+    for held in from_turn(bus, from.frames) {
         let recent = held.recent();
         if let Some((ear_place, ear)) = due_at(&bus.ears, recent, from, before, now) {
             return Some(NextTold {

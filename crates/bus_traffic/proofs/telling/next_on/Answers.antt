@@ -1,27 +1,22 @@
-use Rattle.std.proofs.Common.{rules, ◌≡◌, ◌+◌, ◌∷◌, [], drop, length, refl, subst, sym}
+use Rattle.std.proofs.Common.{rules, ◌+◌, ◌∷◌, [], drop, subst, sym}
 use Rattle.std.proofs.Math.ListN.{drop_of_length-le}
-use Rattle.std.proofs.lemmas.Option.{slice_get_read}
-use Rattle.history.specs.Lists.{Has}
 use Rattle.bus_traffic.specs.Telling.{IsDue, IsDueNowhere, IsFirstEar, IsNext}
 use Rattle.bus_traffic.proofs.Places.{rest_at}
-use Rattle.bus_traffic.proofs.TellingLaws.{AreLeft, next_left, none_left, one_less}
+use Rattle.bus_traffic.proofs.TellingLaws.{AreLeft, left_from, next_from, none_left, one_less}
 use Rattle.bus_traffic.proofs.telling.next_on.Goals as goal
+
+pub loop-held-init : goal.loop-held-init
+loop-held-init g c = left_from c.args.now c.args.from c.args.before c.args.bus.now.ears.items
+    c.args.bus.now.recent.items c.from_turn-held-items.result.now c.from_turn-held-items.ensures
 
 pub returns-in-Some-clause-next : goal.returns-in-Some-clause-next
 returns-in-Some-clause-next g c = subst (λ r. IsNext c.args.now c.args.from c.args.before (c.args.bus.now ∷ [])
     c.args.bus.now r c.in-Some.ear_place c.in-Some.ear.now) (sym c.recent-recent.ensures)
-    (next_left c.args.bus.now c.held-item.result
-    (drop (c.loop-held.held-index + 1) c.args.bus.now.recent.items) c.loop-held.held-index c.in-Some.ear_place
-    c.in-Some.ear.now c.loop-held.invariant
-    (subst (λ xs. drop c.loop-held.held-index xs ≡ c.held-item.result ∷ drop (c.loop-held.held-index + 1) xs)
-    c.deref-held-items.ensures.value
-    (rest_at c.deref-held-items.result.now c.loop-held.held-index c.held-item.result (search rules)
-    (sym c.held-item.is)))
-    (subst (λ xs. Has xs c.held-item.result) c.deref-held-items.ensures.value (record {
-      place = c.loop-held.held-index;
-      at_place = slice_get_read c.deref-held-items.result.now (length c.deref-held-items.result.now)
-          c.loop-held.held-index c.held-item.result refl (search rules) (search rules);
-    }))
+    (next_from c.args.now c.args.from c.args.before c.args.bus.now c.held-item.result
+    c.from_turn-held-items.result.now c.loop-held.held-index c.in-Some.ear_place c.in-Some.ear.now
+    c.from_turn-held-items.ensures c.loop-held.invariant
+    (rest_at c.from_turn-held-items.result.now c.loop-held.held-index c.held-item.result (search rules)
+    (sym c.held-item.is))
     (subst (λ xs. IsDue c.args.now c.args.from c.args.before xs c.held-item.result c.in-Some.ear_place c.in-Some.ear.now)
     c.deref.ensures.value (subst (λ r. IsDue c.args.now c.args.from c.args.before c.deref.result.now r
     c.in-Some.ear_place c.in-Some.ear.now) c.recent-recent.ensures c.in-Some.ensures.due))
@@ -31,13 +26,10 @@ returns-in-Some-clause-next g c = subst (λ r. IsNext c.args.now c.args.from c.a
 
 pub loop-held-preserved : goal.loop-held-preserved
 loop-held-preserved g c = one_less c.args.bus.now.ears.items c.args.bus.now.recent.items c.held-item.result
-    (drop (c.loop-held.held-index + 1) c.args.bus.now.recent.items)
+    (drop (c.loop-held.held-index + 1) c.from_turn-held-items.result.now)
     (subst (λ xs. AreLeft c.args.now c.args.from c.args.before c.args.bus.now.ears.items c.args.bus.now.recent.items xs)
-    (subst (λ xs. drop c.loop-held.held-index xs
-    ≡ c.held-item.result ∷ drop (c.loop-held.held-index + 1) xs)
-    c.deref-held-items.ensures.value
-    (rest_at c.deref-held-items.result.now c.loop-held.held-index c.held-item.result (search rules)
-    (sym c.held-item.is)))
+    (rest_at c.from_turn-held-items.result.now c.loop-held.held-index c.held-item.result (search rules)
+    (sym c.held-item.is))
     c.loop-held.invariant)
     (subst (λ xs. IsDueNowhere c.args.now c.args.from c.args.before xs c.held-item.result) c.deref.ensures.value
     (subst (λ r. IsDueNowhere c.args.now c.args.from c.args.before c.deref.result.now r) c.recent-recent.ensures
@@ -46,6 +38,5 @@ loop-held-preserved g c = one_less c.args.bus.now.ears.items c.args.bus.now.rece
 pub returns-clause-none : goal.returns-clause-none
 returns-clause-none g c = none_left c.args.bus.now
     (subst (λ xs. AreLeft c.args.now c.args.from c.args.before c.args.bus.now.ears.items c.args.bus.now.recent.items xs)
-    (subst (λ xs. drop c.loop-held.held-index xs ≡ []) c.deref-held-items.ensures.value
-    (drop_of_length-le c.deref-held-items.result.now (search rules)))
+    (drop_of_length-le c.from_turn-held-items.result.now (search rules))
     c.loop-held.invariant)
