@@ -8,7 +8,7 @@ use console::{say_failed, say_refused};
 use std::alloc::Global;
 use std::cell::Cell;
 use std::fs::Metadata;
-use std::io::{BufWriter, ErrorKind, IsTerminal, Read, Stdout, Write};
+use std::io::{BufWriter, ErrorKind, IsTerminal, Read, Stdin, Stdout, Write};
 use std::os::unix::fs::MetadataExt;
 use std::process::ExitCode;
 use std::{env, fs, io};
@@ -89,6 +89,22 @@ impl Write for Written {
     }
 }
 
+/// A file that is read piece by piece.
+#[derive(Drop)]
+enum Source {
+    File(fs::File),
+    Input(Stdin),
+}
+
+impl Read for Source {
+    fn read(&mut self, buf: &mut [u8]) -> io::Result<usize> {
+        match self {
+            Source::File(file) => file.read(buf),
+            Source::Input(input) => input.read(buf),
+        }
+    }
+}
+
 /// The name of standard input where a file is read, and of standard output where one is written.
 const STANDARD: &str = "-";
 
@@ -104,6 +120,8 @@ impl Files for Host<'_> {
 
     type File = Written;
 
+    type Input = Source;
+
     fn read(&self, alloc: Global, name: &str) -> io::Result<Vec<u8>> {
         if name != STANDARD {
             return fs::read(self.0, name);
@@ -111,6 +129,13 @@ impl Files for Host<'_> {
         let mut text = Vec::new(alloc);
         self.0.stdin().read_to_end(&mut text)?;
         Ok(text)
+    }
+
+    fn open(&self, name: &str) -> io::Result<Source> {
+        if name == STANDARD {
+            return Ok(Source::Input(self.0.stdin()));
+        }
+        Ok(Source::File(fs::File::open(self.0, name)?))
     }
 
     fn write(&self, name: &str, octets: &[u8]) -> io::Result<()> {

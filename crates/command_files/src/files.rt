@@ -4,13 +4,16 @@ ghost use Rattle.std.specs.Prelude.{◌≡◌, ℕ, List, true, false, IfOk, IfS
 
 use std::alloc::Global;
 use std::io;
-use std::io::Write;
+use std::io::{Read, Write};
 
 /// What reads and writes files: the operating system, or texts that stand for it. The name `-` is standard input where
 /// a file is read, and standard output where one is written.
 pub trait Files {
     /// A file that is written piece by piece.
     type File: Write + Drop;
+
+    /// A file that is read piece by piece.
+    type Input: Read + Drop;
 
     /// A file of this name may be read as this text.
     ghost reads: { Self → List ℕ → List ℕ → Type 0 };
@@ -30,6 +33,12 @@ pub trait Files {
     /// Those of reading, and want of memory.
     fn read(&self, alloc: Global, name: &str) -> io::Result<Vec<u8>>
         ensures { IfOk result (λ text. reads self.now name.now text.items) };
+
+    /// The file of this name, to be read piece by piece.
+    ///
+    /// # Errors
+    /// Those of opening.
+    fn open(&self, name: &str) -> io::Result<Self::Input>;
 
     /// Writes these octets into the file of this name, and nothing else is in it then.
     ///

@@ -12,7 +12,7 @@ use Rattle.command_order.specs.declared.order.Checking.{Checking}
 use Rattle.command_order.specs.declared.order.LiveRun.{LiveRun}
 use Rattle.command_order.specs.declared.order.Order.{Order}
 use Rattle.command_order.specs.declared.order.Order.TheVariants.{Answer, Check, Completions, Explain, Fmt, Init, Man}
-use Rattle.command_order.specs.declared.order.Order.TheVariants.{Pics, Run, Search, Sim, Storm}
+use Rattle.command_order.specs.declared.order.Order.TheVariants.{Diagnose, Pics, Run, Search, Sim, Storm}
 use Rattle.command_order.specs.declared.simulating.Simulation.{Simulation}
 use Rattle.site_check.specs.Judged.{AreJudged}
 use Rattle.site_capture.specs.site_live.Runs.{RunsLive}
@@ -163,6 +163,7 @@ IsDone reads writes same apart (Ok (Some (Answer words))) status old new err_old
 IsDone reads writes same apart (Ok (Some (Explain e))) status old new err_old err_new =
     IsExplained (spelling_of e.is_named e.is_json) (option_map string_bytes e.capture)
     (map string_bytes e.words.items) status (shown e.is_json old) (shown e.is_json new)
+IsDone reads writes same apart (Ok (Some (Diagnose d))) status old new err_old err_new = status ≤ 2
 IsDone reads writes same apart (Ok (Some (Pics p))) status old new err_old err_new = status ≤ 1
 IsDone reads writes same apart (Ok (Some (Fmt script))) status old new err_old err_new = status ≤ 1
 IsDone reads writes same apart (Ok (Some (Init s))) status old new err_old err_new = IsBegun writes s status

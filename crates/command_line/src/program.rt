@@ -16,7 +16,7 @@ use clap::error::ErrorKind;
 use command_files::{Files, is_read_twice, read_file};
 use command_order::{Checking, Order, order_of};
 use command_tools::{
-    begin, ended, explain, print_completions, print_mended, print_page, print_statement,
+    begin, diagnose, ended, explain, print_completions, print_mended, print_page, print_statement,
 };
 use console::{answer_line, say_failed, say_refused};
 use json_lines::{JsonOut, Kind};
@@ -67,6 +67,9 @@ fn done<R: Net + Clock, F: Files, W: Write, E: Write>(
         Ok(Some(Order::Answer(words))) => answer_line(alloc, words.as_slice(), out, err),
         Ok(Some(Order::Explain(explaining))) => {
             explain(alloc, explaining, files, in_colour, out, err)
+        }
+        Ok(Some(Order::Diagnose(diagnosing))) => {
+            diagnose(alloc, diagnosing, files, in_colour, out, err)
         }
         Ok(Some(Order::Sim(simulation))) => sim(alloc, simulation, files, in_colour, out, err),
         Ok(Some(Order::Storm(storming))) => {

@@ -8,6 +8,7 @@ use Rattle.clap.specs.declared.builder.ArgAction.TheVariants.{Append}
 use Rattle.command_order.specs.Words.{IsFlag, at_site, capture_rule, file_rule, flag_rule, json_rule, names_rule}
 use Rattle.command_order.specs.Words.{option_rule, optional_file_rule, site_rule, word_of}
 use Rattle.command_order.specs.Describing.{IsStatingOf, completions, man, pics}
+use Rattle.command_order.specs.Diagnosing.{IsDiagnosingOf, diagnose}
 use Rattle.command_order.specs.Searching.{IsSearchingOf, search}
 use Rattle.command_order.specs.Simulating.{IsSimulationOf, sim}
 use Rattle.command_order.specs.Starting.{IsStartingOf, init}
@@ -17,7 +18,7 @@ use Rattle.command_order.specs.declared.order.Explaining.{Explaining}
 use Rattle.command_order.specs.declared.order.LiveRun.{LiveRun}
 use Rattle.command_order.specs.declared.order.Order.{Order}
 use Rattle.command_order.specs.declared.order.Order.TheVariants.{Answer, Check, Completions, Explain, Fmt, Init, Man}
-use Rattle.command_order.specs.declared.order.Order.TheVariants.{Pics, Run, Search, Sim, Storm}
+use Rattle.command_order.specs.declared.order.Order.TheVariants.{Diagnose, Pics, Run, Search, Sim, Storm}
 
 -- one word or more, which spell a datagram
 abbrev pub hex_rule : Rule
@@ -68,9 +69,9 @@ abbrev pub fmt : App
 fmt = with_rule (new_app (codes "fmt")) (file_rule (codes "script"))
 
 -- the program with the subcommands of one datagram: answer HEX.., explain HEX.. or explain --pcap FILE,
--- each explain with --json and --names or without
+-- each explain with --json and --names or without, and diagnose CAPTURE ..
 abbrev pub tools : App
-tools = with_subcommand (with_subcommand bare (tool (codes "answer")).top) explain.top
+tools = with_subcommand (with_subcommand (with_subcommand bare (tool (codes "answer")).top) explain.top) diagnose.top
 
 -- .. with those of a simulated site: sim SITE SCRIPT .., storm SITE SCRIPT --seed N --steps N .. and
 -- search SITE SCRIPT --until WORDS [--depth N]
@@ -142,6 +143,7 @@ NamesNoSiteCommand found = (name_of found ≢ Some (codes "sim")) × (name_of fo
 -- they name none of a datagram, and none that describes or begins something
 abbrev pub NamesNoTool : Option (Text × List Row) → Type 0
 NamesNoTool found = (name_of found ≢ Some (codes "answer")) × (name_of found ≢ Some (codes "explain"))
+    × (name_of found ≢ Some (codes "diagnose"))
     × (name_of found ≢ Some (codes "pics")) × (name_of found ≢ Some (codes "init"))
     × (name_of found ≢ Some (codes "completions")) × (name_of found ≢ Some (codes "man"))
 
@@ -155,6 +157,7 @@ IsOrderOf found None = NamesNone found
 IsOrderOf found (Some (Answer words)) =
     (name_of found ≡ Some (codes "answer")) × (map string_bytes words.items ≡ digits_of found)
 IsOrderOf found (Some (Explain e)) = (name_of found ≡ Some (codes "explain")) × IsExplainingOf (rows_in found) e
+IsOrderOf found (Some (Diagnose d)) = (name_of found ≡ Some (codes "diagnose")) × IsDiagnosingOf (rows_in found) d
 IsOrderOf found (Some (Sim s)) = (name_of found ≡ Some (codes "sim")) × IsSimulationOf (rows_in found) s
 IsOrderOf found (Some (Storm s)) = (name_of found ≡ Some (codes "storm")) × IsStormingOf (rows_in found) s
 IsOrderOf found (Some (Search s)) = (name_of found ≡ Some (codes "search")) × IsSearchingOf (rows_in found) s

@@ -1,10 +1,11 @@
 //! The examples at the end of each command's help.
 
 /// The examples of the program and of each command, by its name: a title, and lines with two spaces before each.
-pub static EXAMPLES: [(&str, &str); 13] = [
+pub static EXAMPLES: [(&str, &str); 14] = [
     ("bacsite", PROGRAM),
     ("answer", ANSWER),
     ("explain", EXPLAIN),
+    ("diagnose", DIAGNOSE),
     ("sim", SIM),
     ("storm", STORM),
     ("search", SEARCH),
@@ -32,6 +33,11 @@ pub(crate) const EXPLAIN: &str = "Examples:
   bacsite explain --names 81 0A 00 11 01 04 02 65 01 0C 0C 01 40 00 01 19 55
   bacsite explain --pcap plant.pcapng --names
   bacsite explain --pcap plant.pcapng --json";
+
+pub(crate) const DIAGNOSE: &str = "Examples:
+  bacsite diagnose plant.pcapng
+  bacsite diagnose plant.pcapng --transactions --timeout 10000
+  bacsite diagnose plant.pcapng --stations";
 
 pub(crate) const SIM: &str = "Examples:
   bacsite sim plant.toml plant.script --names

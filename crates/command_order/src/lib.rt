@@ -5,6 +5,7 @@
 //!
 //! - `order`: what the command line asks for.
 //! - `describing`: what the commands ask for that describe the program.
+//! - `diagnosing`: what the command of a diagnosis asks for.
 //! - `examples`: the examples of each command.
 //! - `searching`: what the command of a search asks for.
 //! - `simulating`: what the command of a simulation asks for.
@@ -14,6 +15,7 @@
 #![tactic(auto)]
 
 mod describing;
+mod diagnosing;
 mod examples;
 mod order;
 mod searching;
@@ -23,6 +25,7 @@ mod storming;
 mod words;
 
 pub use describing::Stating;
+pub use diagnosing::Diagnosing;
 pub use examples::EXAMPLES;
 pub use order::{Checking, Explaining, LiveRun, Order, command, order_of};
 pub use searching::Searching;

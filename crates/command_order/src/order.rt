@@ -9,6 +9,7 @@ ghost use Rattle.command_order.specs.Order.{IsExplainingOf, IsOrderOf, IsLiveRun
 ghost use Rattle.command_order.specs.Order.{IsOrderOr, NamesNoSiteCommand, NamesNoTool};
 
 use crate::describing::{Stating, completions, man, pics, stating_in};
+use crate::diagnosing::{Diagnosing, diagnose, diagnosing_in};
 use crate::examples;
 use crate::searching::{Searching, search, searching_in};
 use crate::simulating::{Simulation, sim, simulation_in};
@@ -31,6 +32,8 @@ pub enum Order {
     Answer(Vec<String>),
     /// Take a datagram apart, or each packet of a capture.
     Explain(Explaining),
+    /// Follow the requests of a capture to their ends.
+    Diagnose(Diagnosing),
     /// Run a script on a site.
     Sim(Simulation),
     /// Run a script on a site, and continue with random events.
@@ -167,6 +170,9 @@ fn tool_order_in(alloc: Global, matches: &ArgMatches<'_>) -> Result<Option<Order
     if let Some(explain) = matches.subcommand_matches("explain") {
         return Ok(Some(Order::Explain(explaining_in(alloc, explain)?)));
     }
+    if let Some(diagnose) = matches.subcommand_matches("diagnose") {
+        return Ok(Some(Order::Diagnose(diagnosing_in(alloc, diagnose)?)));
+    }
     if let Some(pics) = matches.subcommand_matches("pics") {
         return Ok(Some(Order::Pics(stating_in(pics))));
     }
@@ -250,7 +256,7 @@ fn simulators<'a>(alloc: Global) -> Result<Command<'a>, AllocError>
     add(command, search(alloc)?, examples::SEARCH)
 }
 
-/// The program with the commands of one datagram.
+/// The program with the commands of one datagram, and of a capture.
 fn tools<'a>(alloc: Global) -> Result<Command<'a>, AllocError>
     ensures { IfOk result (λ c. app_of c ≡ tools) }
 {
@@ -260,7 +266,8 @@ fn tools<'a>(alloc: Global) -> Result<Command<'a>, AllocError>
         "Prints what the built-in device answers to a BACnet/IP datagram",
     )?;
     let command = add(bare(alloc), answer, examples::ANSWER)?;
-    add(command, explain(alloc)?, examples::EXPLAIN)
+    let command = add(command, explain(alloc)?, examples::EXPLAIN)?;
+    add(command, diagnose(alloc)?, examples::DIAGNOSE)
 }
 
 /// The command that explains a datagram, or a file with a capture.

@@ -24,7 +24,7 @@ impl Value {
         let shown = shown(alloc, arg)?;
         Ok(match value_name(shown.as_str()) {
             "SITE" => Value::Site,
-            "SCRIPT" | "FILE" => Value::File,
+            "SCRIPT" | "FILE" | "CAPTURE" => Value::File,
             "FOLDER" => Value::Folder,
             "SHELL" => Value::Shell,
             _ => Value::Free,

@@ -5,8 +5,8 @@
 //! wanted, and with each prefix of the file and each of its octets changed, where the status is 0, or 1 for what is no
 //! capture.
 
-use crate::pieces::octets_of;
 use capture_lines::explain_capture;
+use rows_packets::octets_of;
 use sheets::{Counts, Given, Row, Said, Stop, Trial, change_octets, differs, try_row};
 use std::alloc::Global;
 use words::Spelling;

@@ -1,18 +1,15 @@
-//! Rows on captures, which are read, written and explained, and on the conformance statement (ANSI/ASHRAE 135, Annexes
-//! A and J and clause 9.3; pcap and pcapng). The program `rows` runs them.
+//! Rows on captures, which are read, written, explained and diagnosed, and on the conformance statement (ANSI/ASHRAE 135,
+//! Annexes A and J and clause 9.3; pcap and pcapng). The program `rows` runs them.
 //!
-//! - `pieces`: the octets of a file, in pieces with names.
-//! - `reading`, `writing`, `explaining`: captures.
+//! - `explaining`: captures that are explained. Rows of packets and of what they show are those of `rows_packets`.
 //! - `stating`: the rows of the statement.
 #![tactic(auto)]
 
 mod explaining;
-mod pieces;
-mod reading;
 mod stating;
-mod writing;
 
-use sheets::{Bench, Counts, Given, Part, Report, Row, Stop, two_words};
+use rows_packets::run_packets;
+use sheets::{Bench, Counts, Given, Report, Row, Stop, two_words};
 use std::alloc::AllocError;
 use words::Spelling;
 
@@ -40,13 +37,10 @@ fn run_row(given: Given<'_>, rows: &[Row<'_>], row: &Row<'_>) -> Result<Counts, 
     };
     let (word, words) = two_words(row.asked);
     match word {
-        "read" => reading::run(given, rows, words, wanted),
-        "write" => writing::run(given, rows, words, wanted),
-        "back" => writing::run_back(given, rows, words, wanted),
         "explain" => explaining::run(given, Spelling::Numbers, rows, words, wanted),
         "named" => explaining::run(given, Spelling::Names, rows, words, wanted),
         "text" => stating::run(given, pics::Form::Text, words, wanted),
         "markdown" => stating::run(given, pics::Form::Markdown, words, wanted),
-        _ => Err(Stop::Unread(Part::Asked)),
+        _ => run_packets(given, rows, word, words, wanted),
     }
 }

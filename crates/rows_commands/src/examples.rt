@@ -83,6 +83,7 @@ fn name_of(order: &Order) -> &'static str {
     match order {
         Order::Answer(_) => "answer",
         Order::Explain(_) => "explain",
+        Order::Diagnose(_) => "diagnose",
         Order::Sim(_) => "sim",
         Order::Storm(_) => "storm",
         Order::Search(_) => "search",

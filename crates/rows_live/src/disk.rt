@@ -4,7 +4,7 @@ use command_line::Files;
 use std::alloc::{AllocError, Global};
 use std::cell::{Cell, RefCell};
 use std::io;
-use std::io::ErrorKind;
+use std::io::{ErrorKind, Read};
 
 /// A file in memory.
 #[derive(Drop)]
@@ -128,6 +128,25 @@ impl Disk {
     }
 }
 
+/// A file that is read piece by piece.
+#[derive(Drop)]
+pub(crate) struct Opened {
+    octets: Vec<u8>,
+    read: usize,
+}
+
+impl Read for Opened {
+    fn read(&mut self, buf: &mut [u8]) -> io::Result<usize> {
+        let mut left = match self.octets.get(self.read..) {
+            Some(left) => left,
+            None => &[],
+        };
+        let count = left.read(buf)?;
+        self.read = self.read.saturating_add(count);
+        Ok(count)
+    }
+}
+
 impl Files for Disk {
     // No clause tells what they hold.
     ghost reads = { λ _ _ _. Unit {0} };
@@ -139,6 +158,13 @@ impl Files for Disk {
     ghost apart = { λ _ _ _. Unit {0} };
 
     type File = Vec<u8>;
+
+    type Input = Opened;
+
+    fn open(&self, name: &str) -> io::Result<Opened> {
+        let octets = self.read(self.alloc, name)?;
+        Ok(Opened { octets, read: 0 })
+    }
 
     fn read(&self, alloc: Global, name: &str) -> io::Result<Vec<u8>> {
         self.call()?;

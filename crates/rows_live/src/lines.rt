@@ -276,23 +276,28 @@ impl Files for Texts {
 
     type File = Vec<u8>;
 
+    type Input = &'static [u8];
+
     fn read(&self, alloc: Global, name: &str) -> io::Result<Vec<u8>> {
-        let file = match name {
-            "p.toml" => SITE.as_bytes(),
-            "none.toml" => NO_SITE.as_bytes(),
-            "live.script" => SCRIPT.as_bytes(),
-            "unended.script" => UNENDED_SCRIPT.as_bytes(),
-            "named.script" => NAMED_SCRIPT.as_bytes(),
-            "reading.script" => READING_SCRIPT.as_bytes(),
-            "refused.script" => REFUSED_SCRIPT.as_bytes(),
-            "numbered.script" => NUMBERED_SCRIPT.as_bytes(),
-            "empty.script" => b"",
-            "bad.script" => NO_SCRIPT.as_bytes(),
-            "one.pcap" => CAPTURE,
-            _ => return Err(io::ErrorKind::NotFound.into()),
-        };
-        let octets = Vec::from_slice(alloc, file)?;
+        let octets = Vec::from_slice(alloc, self.open(name)?)?;
         Ok(octets)
+    }
+
+    fn open(&self, name: &str) -> io::Result<&'static [u8]> {
+        match name {
+            "p.toml" => Ok(SITE.as_bytes()),
+            "none.toml" => Ok(NO_SITE.as_bytes()),
+            "live.script" => Ok(SCRIPT.as_bytes()),
+            "unended.script" => Ok(UNENDED_SCRIPT.as_bytes()),
+            "named.script" => Ok(NAMED_SCRIPT.as_bytes()),
+            "reading.script" => Ok(READING_SCRIPT.as_bytes()),
+            "refused.script" => Ok(REFUSED_SCRIPT.as_bytes()),
+            "numbered.script" => Ok(NUMBERED_SCRIPT.as_bytes()),
+            "empty.script" => Ok(b""),
+            "bad.script" => Ok(NO_SCRIPT.as_bytes()),
+            "one.pcap" => Ok(CAPTURE),
+            _ => Err(io::ErrorKind::NotFound.into()),
+        }
     }
 
     fn write(&self, name: &str, octets: &[u8]) -> io::Result<()> {

@@ -10,7 +10,11 @@ add-requires c = record { plain = ap (λ (a : App). a.top.is_plain) c.in_ok-answ
 pub add-requires-2 : goal.add-requires-2
 add-requires-2 c = record { plain = ap (λ (a : App). a.top.is_plain) c.in_ok-explain.ensures }
 
+pub add-requires-3 : goal.add-requires-3
+add-requires-3 c = record { plain = ap (λ (a : App). a.top.is_plain) c.in_ok-diagnose.ensures }
+
 pub returns : goal.returns
 returns c =
     let answer = c.in_ok-command.ensures ∙ joins c.bare.ensures c.in_ok-answer.ensures in
-    IfOk-weaker c.add-2.result _ _ (λ _ more. more ∙ joins answer c.in_ok-explain.ensures) c.add-2.ensures
+    let explain = c.in_ok-command-2.ensures ∙ joins answer c.in_ok-explain.ensures in
+    IfOk-weaker c.add-3.result _ _ (λ _ more. more ∙ joins explain c.in_ok-diagnose.ensures) c.add-3.ensures

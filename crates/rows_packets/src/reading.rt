@@ -3,10 +3,11 @@
 //!
 //! Each row runs again with each allocation refused in turn: the call that says so is made again, and gives what is
 //! wanted; and with each prefix of the file and each of its octets changed, where it comes to an end, with numbers that
-//! count from 1.
+//! count from 1. Each file is also read in chunks, as `chunks` has it.
 
 ghost use Rattle.std.specs.Prelude.{◌<◌, IfOk, IfSome, length};
 
+use crate::chunks;
 use crate::pieces::octets_of;
 use bvll::Address;
 use captures::{Capture, Carried, Packet};
@@ -24,7 +25,8 @@ pub(crate) fn run(
     let reading = Reading {
         wanted: Some(wanted),
     };
-    run_trial(given, &reading, file.as_slice(), wanted)
+    let counts = run_trial(given, &reading, file.as_slice(), wanted)?;
+    Ok(counts.and(chunks::run(given, file.as_slice(), wanted)?))
 }
 
 /// What is read of a file, and what is wanted where memory is refused.
@@ -35,15 +37,7 @@ pub(crate) struct Reading<'t> {
 
 impl<'a> Trial<'a> for Reading<'_> {
     fn answer(&self, given: Given<'a>, octets: &[u8]) -> Result<String, Stop> {
-        let mut out = String::new(given.alloc);
-        let Some(capture) = Capture::of_file(given.memory, octets) else {
-            out.push_str("none")?;
-            return Ok(out);
-        };
-        let is_refused = push_packets(given, capture, &mut out)?;
-        if out.is_empty() {
-            out.push_str("nothing")?;
-        }
+        let (out, is_refused) = text_of(given, given.memory, octets)?;
         if !is_refused {
             return Ok(out);
         }
@@ -52,6 +46,24 @@ impl<'a> Trial<'a> for Reading<'_> {
             _ => Err(Stop::Differs(out)),
         }
     }
+}
+
+/// What is read of a file in this memory, and whether that was refused.
+pub(crate) fn text_of<A: Allocator>(
+    given: Given<'_>,
+    alloc: A,
+    octets: &[u8],
+) -> Result<(String, bool), Stop> {
+    let mut out = String::new(given.alloc);
+    let Some(capture) = Capture::of_file(alloc, octets) else {
+        out.push_str("none")?;
+        return Ok((out, false));
+    };
+    let is_refused = push_packets(given, capture, &mut out)?;
+    if out.is_empty() {
+        out.push_str("nothing")?;
+    }
+    Ok((out, is_refused))
 }
 
 /// Appends all packets of a capture, and tells whether memory was refused. Where it was, the call is made again.
@@ -90,7 +102,7 @@ fn next_again<'a, A: Allocator>(
 }
 
 /// Appends a packet in words.
-fn push_packet(packet: Packet<'_>, out: &mut String) -> Result<(), AllocError> {
+pub(crate) fn push_packet(packet: Packet<'_>, out: &mut String) -> Result<(), AllocError> {
     push_mark("; ", out)?;
     write!(out, "{} ", packet.number)?;
     match packet.carried {

@@ -7,7 +7,7 @@ use std::alloc::Global;
 ///
 /// # Errors
 /// `Unread` where a word is neither a piece's name nor octets, `Memory`.
-pub(crate) fn octets_of(alloc: Global, rows: &[Row<'_>], words: &str) -> Result<Vec<u8>, Stop> {
+pub fn octets_of(alloc: Global, rows: &[Row<'_>], words: &str) -> Result<Vec<u8>, Stop> {
     let mut all = Vec::new(alloc);
     for word in words.split(' ') {
         match piece_of(rows, word) {
