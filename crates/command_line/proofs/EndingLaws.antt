@@ -13,7 +13,7 @@ module _ (reads same apart : List ℕ → List ℕ → Type 0) (s : Simulation) 
   ended done (inl e) = rw e done
   ended done (inr p) = record {
     few = omega (arith, p.1);
-    whole_run = λ from to safe. omega (arith, p.1);
+    whole_run = λ from to request safe. omega (arith, p.1);
     safe = λ ended. absurd (omega (arith, p.1, ended));
     printed = λ ended. absurd (omega (arith, p.1, ended));
   }

@@ -63,12 +63,12 @@ outputs_of s =
     option_map string_bytes s.outputs.capture ∷ option_map string_bytes s.outputs.ladder
     ∷ option_map string_bytes s.outputs.report ∷ []
 
--- the status of a simulation: 2 for a part of the run that is none and for files that may not be written alone; with 0
--- no file was written that is read or written besides, and it was printed
+-- the status of a simulation: 2 for times and requests that are no numbers and for files that may not be written alone;
+-- with 0 no file was written that is read or written besides, and it was printed
 pub record IsSimulated (reads same apart : List ℕ → List ℕ → Type 0) (s : Simulation) (status : ℕ) (old new : Known) :
     Type 0 where
   pub few : status ≤ 2
-  pub whole_run : s.outputs.from ≡ None → s.outputs.to ≡ None →
+  pub whole_run : s.outputs.from ≡ None → s.outputs.to ≡ None → s.outputs.request ≡ None →
       (AreUnsafe same (string_bytes s.site) (string_bytes s.script) (outputs_of s) → ⊥) → status ≤ 1
   pub safe : status ≡ 0 → AreSafe apart (string_bytes s.site) (string_bytes s.script) (outputs_of s)
   pub printed : status ≡ 0 → PrintsSimulation reads s old new
@@ -77,7 +77,7 @@ pub record IsSimulated (reads same apart : List ℕ → List ℕ → Type 0) (s 
 pub record IsSimulatedBeside (reads same apart : List ℕ → List ℕ → Type 0) (s : Simulation) (status : ℕ)
     (old new err_old err_new : Known) : Type 0 where
   pub few : status ≤ 2
-  pub whole_run : s.outputs.from ≡ None → s.outputs.to ≡ None →
+  pub whole_run : s.outputs.from ≡ None → s.outputs.to ≡ None → s.outputs.request ≡ None →
       (AreUnsafe same (string_bytes s.site) (string_bytes s.script) (outputs_of s) → ⊥) → status ≤ 1
   pub safe : status ≡ 0 → AreSafe apart (string_bytes s.site) (string_bytes s.script) (outputs_of s)
   pub printed : status ≡ 0 → AreNotStandard (outputs_of s) → PrintsSimulation reads s old new

@@ -11,15 +11,18 @@ use crate::faults::{Texts, say_text_faults};
 use crate::program::texts_of;
 use crate::spelling::spelling_of;
 use command_files::{
-    Files, Use, are_safe, is_any_standard, put_in_place, say_file_fault, say_if_faulty,
+    Files, Use, are_safe, is_any_standard, put_in_place, say_faulty_word, say_file_fault,
+    say_if_faulty,
 };
 use command_order::{Outputs, Simulation};
 use command_tools::ended;
+use console::say_refused;
 use json_lines::{JsonOut, Kind};
 use site_capture::{Stop, Telling, capture, say_stop, simulate_told};
 use site_ladder::{Part, ladder, report};
 use std::alloc::Global;
 use std::io::Write;
+use tags::Fault;
 use words::{Unread, parse_u64};
 
 /// Runs a script at a site, and prints what comes of it: on the standard error where a file goes to standard output.
@@ -87,7 +90,33 @@ fn sim_files<F: Files, W: Write, E: Write>(
     ensures { spec.IsSimulated (F.reads files.now) (F.same files.now) (F.apart files.now) simulation.now result
         (W.contents out.old) (W.contents out.new) }
 {
-    let Ok(part) = part_of(&simulation.outputs) else {
+    match requests_of(alloc, simulation.outputs.request.as_deref()) {
+        Ok(requests) => {
+            let requests = requests.as_deref();
+            sim_part(alloc, simulation, requests, files, in_colour, out, err)
+        }
+        Err(Unread::Memory) => say_refused(Fault::Memory, err),
+        Err(_) => {
+            say_faulty_requests(&simulation.outputs, in_colour, err);
+            2
+        }
+    }
+}
+
+/// Reads the files of a simulation of which files show some requests, and runs it.
+fn sim_part<F: Files, W: Write, E: Write>(
+    alloc: Global,
+    simulation: &Simulation,
+    requests: Option<&[u64]>,
+    files: &F,
+    in_colour: bool,
+    out: &mut W,
+    err: &mut E,
+) -> u8
+    ensures { spec.IsSimulated (F.reads files.now) (F.same files.now) (F.apart files.now) simulation.now result
+        (W.contents out.old) (W.contents out.new) }
+{
+    let Ok(part) = part_of(&simulation.outputs, requests) else {
         say_faulty_part(&simulation.outputs, in_colour, err);
         return 2;
     };
@@ -139,14 +168,45 @@ fn say_faulty_part<E: Write>(outputs: &Outputs, in_colour: bool, err: &mut E) {
     say_if_faulty("--to", outputs.to.as_deref(), in_colour, err);
 }
 
-/// The part of a run that words say, which may be no numbers.
-fn part_of(outputs: &Outputs) -> Result<Part, Unread>
+/// Tells which word of those that are to be numbers of requests is none.
+fn say_faulty_requests<E: Write>(outputs: &Outputs, in_colour: bool, err: &mut E) {
+    let _ = writeln!(err, "bacsite: --request takes numbers of requests");
+    if let Some(words) = outputs.request.as_deref() {
+        for word in words.split(',') {
+            say_if_faulty("--request", Some(word), in_colour, err);
+        }
+    }
+}
+
+/// The part of a run that words say, which may be no numbers, of some requests.
+fn part_of<'a>(outputs: &'a Outputs, requests: Option<&'a [u64]>) -> Result<Part<'a>, Unread>
     ensures { outputs.now.from ≡ None → outputs.now.to ≡ None → IsOk result }
 {
     Ok(Part {
         from: moment_of(outputs.from.as_deref())?,
         to: moment_of(outputs.to.as_deref())?,
+        only: outputs.only.as_deref(),
+        requests,
     })
+}
+
+/// The numbers of requests that words say, if there are any.
+fn requests_of(alloc: Global, words: Option<&str>) -> Result<Option<Vec<u64>>, Unread>
+    ensures { words.entry ≡ None → IsOk result }
+{
+    match words {
+        Some(words) => Ok(Some(numbers_in(alloc, words)?)),
+        None => Ok(None),
+    }
+}
+
+/// The numbers that words say, with commas between them.
+fn numbers_in(alloc: Global, words: &str) -> Result<Vec<u64>, Unread> {
+    let mut numbers = Vec::new(alloc);
+    for word in words.split(',') {
+        numbers.push(parse_u64(word)?)?;
+    }
+    Ok(numbers)
 }
 
 /// The moment that a word says, if there is one.
@@ -165,7 +225,7 @@ fn sim_texts<F: Files, W: Write, E: Write>(
     site: &[u8],
     script: &[u8],
     simulation: &Simulation,
-    part: Part,
+    part: Part<'_>,
     files: &F,
     in_colour: bool,
     out: &mut W,
@@ -212,7 +272,7 @@ fn write_all<F: Files, E: Write>(
     site: &[u8],
     script: &[u8],
     outputs: &Outputs,
-    part: Part,
+    part: Part<'_>,
     files: &F,
     in_colour: bool,
     err: &mut E,
@@ -221,14 +281,14 @@ fn write_all<F: Files, E: Write>(
 {
     if let Some(name) = &outputs.capture {
         let made = capture(alloc, alloc, site, script);
-        let status = write_file(alloc, name, made, files, in_colour, err);
+        let status = write_file(alloc, name, made, None, files, in_colour, err);
         if status != 0 {
             return status;
         }
     }
     if let Some(name) = &outputs.ladder {
         let made = ladder(alloc, alloc, site, script, part);
-        let status = write_file(alloc, name, made, files, in_colour, err);
+        let status = write_file(alloc, name, made, part.only, files, in_colour, err);
         if status != 0 {
             return status;
         }
@@ -236,17 +296,18 @@ fn write_all<F: Files, E: Write>(
     match &outputs.report {
         Some(name) => {
             let made = report(alloc, alloc, site, script, part);
-            write_file(alloc, name, made, files, in_colour, err)
+            write_file(alloc, name, made, part.only, files, in_colour, err)
         }
         None => 0,
     }
 }
 
-/// Writes a file, and answers the exit status.
+/// Writes a file of a run, of some stations where they are named, and answers the exit status.
 fn write_file<F: Files, E: Write>(
     alloc: Global,
     name: &String,
     made: Result<Vec<u8>, Stop>,
+    only: Option<&str>,
     files: &F,
     in_colour: bool,
     err: &mut E,
@@ -258,6 +319,21 @@ fn write_file<F: Files, E: Write>(
             Ok(()) => 0,
             Err(error) => say_file_fault(name.as_str(), Use::Written, &error, in_colour, err),
         },
-        Err(stop) => say_stop(stop, err),
+        Err(stop) => {
+            let is_unknown = matches!(&stop, Stop::Refused(Fault::NoSuch));
+            let status = say_stop(stop, err);
+            if is_unknown {
+                say_unknown(only, in_colour, err);
+            }
+            status
+        }
+    }
+}
+
+/// Tells that a station is named which the site hasn't.
+fn say_unknown<E: Write>(only: Option<&str>, in_colour: bool, err: &mut E) {
+    if let Some(names) = only {
+        let taken = "names of stations of the site, with commas between them";
+        say_faulty_word("--only", taken, names, in_colour, err);
     }
 }

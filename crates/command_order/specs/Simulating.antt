@@ -16,10 +16,18 @@ with_files app =
     with_rule (with_rule (with_rule app capture_rule) (option_rule (codes "ladder")))
     (option_rule (codes "report"))
 
+-- .. with the times between which the last two show it
+abbrev pub with_times : App → App
+with_times app = with_rule (with_rule app (option_rule (codes "from"))) (option_rule (codes "to"))
+
+-- .. with the stations and requests that they show
+abbrev pub with_choice : App → App
+with_choice app = with_rule (with_rule app (option_rule (codes "only"))) (option_rule (codes "request"))
+
 -- the subcommand that runs a script at a site: sim SITE SCRIPT, with a trace, as JSON, by names, with files of a
 -- capture, a ladder and a report, and the part of the run that the last two show
 abbrev pub sim : App
-sim = with_rule (with_rule (with_files printed) (option_rule (codes "from"))) (option_rule (codes "to"))
+sim = with_choice (with_times (with_files printed))
 
 -- the files are those that are named, and the part is the one that is given
 pub record AreOutputsOf (rows : List Row) (o : Outputs) : Type 0 where
@@ -28,6 +36,8 @@ pub record AreOutputsOf (rows : List Row) (o : Outputs) : Type 0 where
   pub report : option_map string_bytes o.report ≡ first_of (codes "report") rows
   pub from : option_map string_bytes o.from ≡ first_of (codes "from") rows
   pub to : option_map string_bytes o.to ≡ first_of (codes "to") rows
+  pub only : option_map string_bytes o.only ≡ first_of (codes "only") rows
+  pub request : option_map string_bytes o.request ≡ first_of (codes "request") rows
 
 -- the simulation is of the files that are named, is traced, and printed as JSON and by names, where that is asked for,
 -- and writes what is named

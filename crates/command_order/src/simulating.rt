@@ -39,6 +39,10 @@ pub struct Outputs {
     pub from: Option<String>,
     /// The time at which they end, in milliseconds.
     pub to: Option<String>,
+    /// The names of the stations that they show, with commas between them.
+    pub only: Option<String>,
+    /// The numbers of the requests that they show, with commas between them.
+    pub request: Option<String>,
 }
 
 /// The simulation that is asked for.
@@ -68,6 +72,8 @@ fn outputs_in(alloc: Global, matches: &ArgMatches<'_>) -> Result<Outputs, AllocE
         report: optional_word(alloc, matches, "report")?,
         from: optional_word(alloc, matches, "from")?,
         to: optional_word(alloc, matches, "to")?,
+        only: optional_word(alloc, matches, "only")?,
+        request: optional_word(alloc, matches, "request")?,
     })
 }
 
@@ -75,19 +81,10 @@ fn outputs_in(alloc: Global, matches: &ArgMatches<'_>) -> Result<Outputs, AllocE
 pub(crate) fn sim<'a>(alloc: Global) -> Result<Command<'a>, AllocError>
     ensures { IfOk result (λ c. app_of c ≡ spec.sim) }
 {
-    with_files(alloc, printed(alloc)?)?
-        .arg(option(
-            alloc,
-            "from",
-            "MS",
-            "The time at which the ladder and the report begin [default: 0]",
-        ))?
-        .arg(option(
-            alloc,
-            "to",
-            "MS",
-            "The time at which the ladder and the report end [default: the end of the run]",
-        ))
+    with_choice(
+        alloc,
+        with_times(alloc, with_files(alloc, printed(alloc)?)?)?,
+    )
 }
 
 /// The command with how its lines are printed.
@@ -125,5 +122,43 @@ fn with_files<'a>(alloc: Global, command: Command<'a>) -> Result<Command<'a>, Al
             "report",
             "FILE",
             "Writes an HTML page: the ladder, the history, and each datagram and frame decoded",
+        ))
+}
+
+/// A command with the times between which picture and page show a run.
+fn with_times<'a>(alloc: Global, command: Command<'a>) -> Result<Command<'a>, AllocError>
+    ensures { IfOk result (λ c. app_of c ≡ spec.with_times (app_of command.entry)) }
+{
+    command
+        .arg(option(
+            alloc,
+            "from",
+            "MS",
+            "The time at which the ladder and the report begin [default: 0]",
+        ))?
+        .arg(option(
+            alloc,
+            "to",
+            "MS",
+            "The time at which the ladder and the report end [default: the end of the run]",
+        ))
+}
+
+/// A command with the stations and requests that picture and page show.
+fn with_choice<'a>(alloc: Global, command: Command<'a>) -> Result<Command<'a>, AllocError>
+    ensures { IfOk result (λ c. app_of c ≡ spec.with_choice (app_of command.entry)) }
+{
+    command
+        .arg(option(
+            alloc,
+            "only",
+            "STATION,..",
+            "The stations that the ladder and the report show [default: all]",
+        ))?
+        .arg(option(
+            alloc,
+            "request",
+            "N,..",
+            "The numbers of the requests that the ladder and the report show [default: all]",
         ))
 }

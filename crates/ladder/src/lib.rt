@@ -3,14 +3,18 @@
 //!
 //! To the layer above it promises that it returns; what is written is shown by rows, and isn't proved.
 //!
-//! - `picture`: lanes, rows, arrows and notes.
+//! - `picture`: stations, lanes, rows, messages, events and pauses.
 //! - `row_text`: a row in words.
 //! - `escaped`: texts as they stand in SVG and HTML.
 //! - `layout`: where everything stands.
-//! - `svg`, `marks`: what is written, of the picture and of a row.
+//! - `svg`, `lanes`: what is written of the picture, and behind its rows.
+//! - `marks`, `broadcast`, `label`: what is written of a row.
 #![tactic(auto)]
 
+mod broadcast;
 mod escaped;
+mod label;
+mod lanes;
 mod layout;
 mod marks;
 mod picture;
@@ -18,6 +22,8 @@ mod row_text;
 mod svg;
 
 pub use escaped::Escaped;
-pub use picture::{Anchor, Arrow, Kind, Ladder, Mark, Note, Row};
+pub use picture::{
+    Anchor, Arrow, Band, Kind, Ladder, Mark, Note, Reach, Repeat, Row, Segment, Shade, Station,
+};
 pub use row_text::RowText;
 pub use svg::{Links, write_svg};

@@ -1,39 +1,46 @@
 //! What is written of a row.
 
+use crate::broadcast::write_broadcast;
 use crate::escaped::Escaped;
-use crate::layout::{Layout, MOMENTS, MOST_OF_LABEL, MOST_OF_NOTE, STUB};
-use crate::picture::{Arrow, Kind, Mark, Note, Row};
+use crate::label::write_label;
+use crate::layout::{Layout, MOMENTS, MOST_OF_NOTE, STUB};
+use crate::picture::{Arrow, Kind, Mark, Note, Reach, Row, Station, lane_of};
 use crate::row_text::RowText;
 use crate::svg::Links;
 use std::alloc::Allocator;
 use std::io;
 use std::io::Write;
 
-/// From the line of a row up to the texts that stand above it, and down to those beside it.
-const ABOVE: usize = 5;
-
+/// From the line of a row down to the texts that stand beside it.
 const BESIDE: usize = 4;
 
 /// Writes the row at a place: what it says in words as its title, its moment and its mark.
 pub(crate) fn write_row<A: Allocator, W: Write>(
     layout: Layout,
-    lanes: &[String<A>],
+    stations: &[Station<A>],
     place: usize,
     row: &Row<A>,
     links: Links,
     out: &mut W,
 ) -> io::Result<()> {
     let y = layout.row(place);
-    let text = RowText { row, lanes };
+    let text = RowText { row, stations };
     match &row.mark {
         Mark::Arrow(arrow) => write_link(arrow, links, out)?,
         Mark::Note(_) => write!(out, "<g class=\"note\">")?,
+        Mark::Gap(_) => write!(out, "<g class=\"gap\">")?,
     }
     writeln!(out, "<title>{text}</title>")?;
-    write_moment(row.moment, y, out)?;
     match &row.mark {
-        Mark::Arrow(arrow) => write_arrow(layout, arrow, y, out)?,
-        Mark::Note(note) => write_note(layout, note, y, out)?,
+        Mark::Arrow(arrow) => {
+            write_moment(row.moment, y, out)?;
+            write_arrow(layout, stations, arrow, y, out)?;
+        }
+        Mark::Note(note) => {
+            write_moment(row.moment, y, out)?;
+            write_note(layout, stations, note, y, out)?;
+        }
+        Mark::Gap(length) => write_gap(layout, *length, y, out)?,
     }
     write_end(&row.mark, links, out)
 }
@@ -44,19 +51,19 @@ fn write_link<A: Allocator, W: Write>(
     links: Links,
     out: &mut W,
 ) -> io::Result<()> {
-    if links == Links::Anchors {
-        write!(out, "<a href=\"#{}\">", arrow.anchor)?;
-    }
     let kind = class_of(arrow.kind);
     let lost = if arrow.is_heard { "" } else { " lost" };
-    write!(out, "<g class=\"{kind}{lost}\">")
+    match links {
+        Links::Anchors => write!(out, "<a href=\"#{}\" class=\"{kind}{lost}\">", arrow.anchor),
+        Links::None => write!(out, "<g class=\"{kind}{lost}\">"),
+    }
 }
 
 /// Writes what a mark ends with.
 fn write_end<A: Allocator, W: Write>(mark: &Mark<A>, links: Links, out: &mut W) -> io::Result<()> {
     match (mark, links) {
-        (Mark::Arrow(_), Links::Anchors) => writeln!(out, "</g></a>"),
-        (Mark::Arrow(_), Links::None) | (Mark::Note(_), _) => writeln!(out, "</g>"),
+        (Mark::Arrow(_), Links::Anchors) => writeln!(out, "</a>"),
+        (Mark::Arrow(_), Links::None) | (Mark::Note(_) | Mark::Gap(_), _) => writeln!(out, "</g>"),
     }
 }
 
@@ -81,29 +88,53 @@ fn write_moment<W: Write>(moment: u64, y: usize, out: &mut W) -> io::Result<()> 
     )
 }
 
-/// Writes an arrow, and its label above its middle.
+/// Writes a message: an arrow to one station, or a line with dots.
 fn write_arrow<A: Allocator, W: Write>(
     layout: Layout,
+    stations: &[Station<A>],
     arrow: &Arrow<A>,
     y: usize,
     out: &mut W,
 ) -> io::Result<()> {
-    let from = layout.lane(arrow.from);
-    let end = end_of(layout, arrow, from);
-    writeln!(out, "<path class=\"shaft\" d=\"M{from} {y}H{end}\"/>")?;
-    if arrow.is_heard {
-        write_head(from, end, y, out)?;
-    } else {
-        write_cross(end, y, out)?;
-    }
-    write_label(layout, arrow.label.as_str(), from.midpoint(end), y, out)
+    let from = layout.lane_or_end(lane_of(arrow.from, stations));
+    let end = match arrow.reach {
+        Reach::One => write_single(layout, stations, arrow, from, y, out)?,
+        Reach::All => write_broadcast(layout, stations, arrow, from, y, out)?,
+    };
+    write_label(layout, stations, arrow, from, end, y, out)
 }
 
-/// Where an arrow ends: at the lane of who heard it, or in the air on the way there.
-fn end_of<A: Allocator>(layout: Layout, arrow: &Arrow<A>, from: usize) -> usize {
-    let to = match arrow.to {
-        Some(to) => layout.lane(to),
-        None => layout.width(),
+/// Writes an arrow to one station, and answers where it ends.
+fn write_single<A: Allocator, W: Write>(
+    layout: Layout,
+    stations: &[Station<A>],
+    arrow: &Arrow<A>,
+    from: usize,
+    y: usize,
+    out: &mut W,
+) -> io::Result<usize> {
+    let end = end_of(layout, stations, arrow, from);
+    writeln!(out, "<path d=\"M{from} {y}H{end}\"/>")?;
+    if !arrow.is_heard {
+        write_cross(end, y, out)?;
+    } else if from < end {
+        writeln!(out, "<path class=\"head\" d=\"M{end} {y}l-8 -4v8z\"/>")?;
+    } else {
+        writeln!(out, "<path class=\"head\" d=\"M{end} {y}l8 -4v8z\"/>")?;
+    }
+    Ok(end)
+}
+
+/// Where an arrow ends: at the lane of who hears it, or in the air on the way there.
+fn end_of<A: Allocator>(
+    layout: Layout,
+    stations: &[Station<A>],
+    arrow: &Arrow<A>,
+    from: usize,
+) -> usize {
+    let to = match arrow.to.as_slice() {
+        [to, ..] => layout.lane_or_end(lane_of(*to, stations)),
+        [] => layout.width(),
     };
     if arrow.is_heard && to != from {
         to
@@ -114,53 +145,29 @@ fn end_of<A: Allocator>(layout: Layout, arrow: &Arrow<A>, from: usize) -> usize 
     }
 }
 
-/// Writes the head of an arrow.
-fn write_head<W: Write>(from: usize, end: usize, y: usize, out: &mut W) -> io::Result<()> {
-    if from < end {
-        writeln!(out, "<path class=\"head\" d=\"M{end} {y}l-8 -4v8z\"/>")
-    } else {
-        writeln!(out, "<path class=\"head\" d=\"M{end} {y}l8 -4v8z\"/>")
-    }
-}
-
-/// Writes the cross of an arrow that ends in the air.
-fn write_cross<W: Write>(end: usize, y: usize, out: &mut W) -> io::Result<()> {
-    writeln!(out, "<path d=\"M{end} {y}m-5 -5l10 10m0 -10l-10 10\"/>")
-}
-
-/// Writes a label above the line of its row.
-fn write_label<W: Write>(
-    layout: Layout,
-    label: &str,
-    near: usize,
-    y: usize,
-    out: &mut W,
-) -> io::Result<()> {
-    let x = layout.middle_near(near, label.chars().count());
-    let y = y.saturating_sub(ABOVE);
-    let label = shown(label, MOST_OF_LABEL);
+/// Writes the cross of a message that nobody hears.
+pub(crate) fn write_cross<W: Write>(end: usize, y: usize, out: &mut W) -> io::Result<()> {
     writeln!(
         out,
-        "<text class=\"label\" x=\"{x}\" y=\"{y}\">{label}</text>"
+        "<path class=\"cross\" d=\"M{end} {y}m-5 -5l10 10m0 -10l-10 10\"/>"
     )
 }
 
 /// Writes a note: a dot on its lane, and its text beside that.
 fn write_note<A: Allocator, W: Write>(
     layout: Layout,
+    stations: &[Station<A>],
     note: &Note<A>,
     y: usize,
     out: &mut W,
 ) -> io::Result<()> {
     let text = note.text.as_str();
-    match note.lane {
-        Some(lane) => {
-            let x = layout.lane(lane);
-            writeln!(out, "<circle class=\"dot\" cx=\"{x}\" cy=\"{y}\" r=\"4\"/>")?;
-            write_beside(layout, text, x, y, out)
-        }
-        None => write_beside(layout, text, MOMENTS, y, out),
-    }
+    let Some(place) = note.station else {
+        return write_beside(layout, text, MOMENTS, y, out);
+    };
+    let x = layout.lane_or_end(lane_of(place, stations));
+    writeln!(out, "<circle class=\"dot\" cx=\"{x}\" cy=\"{y}\" r=\"4\"/>")?;
+    write_beside(layout, text, x, y, out)
 }
 
 /// Writes a text behind a place, or before it where there is no room behind it.
@@ -174,7 +181,10 @@ fn write_beside<W: Write>(
     let y = y.saturating_add(BESIDE);
     let behind = place.saturating_add(10);
     let is_behind = layout.fits_behind(behind, text.chars().count());
-    let text = shown(text, MOST_OF_NOTE);
+    let text = Escaped {
+        text,
+        most: MOST_OF_NOTE,
+    };
     if is_behind {
         writeln!(out, "<text x=\"{behind}\" y=\"{y}\">{text}</text>")
     } else {
@@ -186,7 +196,18 @@ fn write_beside<W: Write>(
     }
 }
 
-/// What is shown of a text: so many characters at most.
-fn shown(text: &str, most: usize) -> Escaped<'_> {
-    Escaped { text, most }
+/// Writes a pause: a bar across the lanes, with its length.
+fn write_gap<W: Write>(layout: Layout, length: u64, y: usize, out: &mut W) -> io::Result<()> {
+    let top = y.saturating_sub(12);
+    let width = layout.width().saturating_sub(MOMENTS);
+    let x = layout.lane_or_end(Some(0)).saturating_add(10);
+    let base = y.saturating_sub(1);
+    writeln!(
+        out,
+        "<rect x=\"{MOMENTS}\" y=\"{top}\" width=\"{width}\" height=\"14\"/>"
+    )?;
+    writeln!(
+        out,
+        "<text class=\"pause\" x=\"{x}\" y=\"{base}\">{length} ms</text>"
+    )
 }

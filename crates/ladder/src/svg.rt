@@ -1,6 +1,7 @@
 //! The picture as SVG.
 
 use crate::escaped::Escaped;
+use crate::lanes::{write_bands, write_lanes, write_shades};
 use crate::layout::Layout;
 use crate::marks::write_row;
 use crate::picture::Ladder;
@@ -19,17 +20,27 @@ pub enum Links {
 
 /// How the picture looks. Each rule names the class of the picture, as it may stand in a page.
 const STYLE: &str = "\
-.ladder{background:#fff;font:12px system-ui,sans-serif;max-width:100%;height:auto}
+.ladder{background:#fff;font:12px system-ui,sans-serif}
 .ladder .paper{fill:#fff}
 .ladder text{fill:#222;paint-order:stroke;stroke:#fff;stroke-width:3px;stroke-linejoin:round}
-.ladder path{fill:none;stroke:currentColor;stroke-width:1.5}
+.ladder path,.ladder circle{fill:none;stroke:currentColor;stroke-width:1.5}
 .ladder .lane path{stroke:#ccc;stroke-width:1}
-.ladder .name{font-weight:600;text-anchor:middle}
+.ladder .name{font-weight:600}
+.ladder .over{text-anchor:middle}
+.ladder .band rect{fill:#e3e8ef}
+.ladder .band .column{fill:#f6f8fa}
+.ladder .band text{stroke:none;fill:#555}
+.ladder .deaf{fill:#f3c9c5}
+.ladder .gap rect{fill:#eee}
+.ladder .gap text{stroke:none;fill:#666}
 .ladder .moment{fill:#666;text-anchor:end}
 .ladder .label{text-anchor:middle;fill:currentColor}
 .ladder .before{text-anchor:end}
 .ladder .head,.ladder .dot{fill:currentColor}
-.ladder .lost .shaft{stroke-dasharray:4 3}
+.ladder circle{fill:#fff}
+.ladder .dots{stroke-width:8;stroke-linecap:round}
+.ladder .lost path{stroke-dasharray:4 3}
+.ladder .lost .cross{stroke-dasharray:none}
 .ladder .request{color:#1452a8}
 .ladder .answer{color:#1d6b2c}
 .ladder .refusal{color:#b3261e}
@@ -38,6 +49,25 @@ const STYLE: &str = "\
 .ladder .note{color:#222}
 .ladder .legend tspan{fill:currentColor}
 .ladder a:hover .label{text-decoration:underline}
+@media (prefers-color-scheme:dark){
+.ladder{background:#16191d}
+.ladder .paper,.ladder circle{fill:#16191d}
+.ladder text{fill:#e4e6e8;stroke:#16191d}
+.ladder .lane path{stroke:#454b52}
+.ladder .band rect{fill:#2a313a}
+.ladder .band .column{fill:#1b1f24}
+.ladder .band text,.ladder .gap text,.ladder .moment{fill:#a4abb3}
+.ladder .deaf{fill:#5a2f2c}
+.ladder .gap rect{fill:#23282e}
+.ladder .label{fill:currentColor}
+.ladder .head,.ladder .dot{fill:currentColor}
+.ladder .request{color:#7db4ff}
+.ladder .answer{color:#7ccf8a}
+.ladder .refusal{color:#ff8f86}
+.ladder .unconfirmed{color:#c9a2f2}
+.ladder .other{color:#b0b6bd}
+.ladder .note{color:#e4e6e8}
+}
 ";
 
 /// Writes a ladder as a picture in SVG: UTF-8 of one element `svg`.
@@ -49,16 +79,18 @@ pub fn write_svg<A: Allocator, W: Write>(
     links: Links,
     out: &mut W,
 ) -> io::Result<()> {
-    let lanes = ladder.lanes.as_slice();
+    let stations = ladder.stations.as_slice();
     let layout = Layout {
-        lanes: lanes.len(),
+        lanes: ladder.lanes(),
         rows: ladder.rows.len(),
     };
     write_start(layout, out)?;
-    write_lanes(layout, lanes, out)?;
+    write_bands(layout, ladder.bands.as_slice(), out)?;
+    write_shades(layout, stations, ladder.shades.as_slice(), out)?;
+    write_lanes(layout, stations, out)?;
     let mut place = 0usize;
     for row in &ladder.rows {
-        write_row(layout, lanes, place, row, links, out)?;
+        write_row(layout, stations, place, row, links, out)?;
         place = place.saturating_add(1);
     }
     write_legend(layout, ladder.remark.as_str(), out)?;
@@ -69,6 +101,7 @@ pub fn write_svg<A: Allocator, W: Write>(
 fn write_start<W: Write>(layout: Layout, out: &mut W) -> io::Result<()> {
     let width = layout.width();
     let height = layout.height();
+    let y = layout.head().saturating_sub(8);
     writeln!(
         out,
         "<svg xmlns=\"http://www.w3.org/2000/svg\" class=\"ladder\" width=\"{width}\" height=\"{height}\" \
@@ -82,48 +115,13 @@ fn write_start<W: Write>(layout: Layout, out: &mut W) -> io::Result<()> {
         out,
         "<rect class=\"paper\" width=\"{width}\" height=\"{height}\"/>"
     )?;
-    writeln!(out, "<text class=\"moment\" x=\"66\" y=\"24\">ms</text>")
-}
-
-/// Writes the lanes, each with its name above and below.
-fn write_lanes<A: Allocator, W: Write>(
-    layout: Layout,
-    lanes: &[String<A>],
-    out: &mut W,
-) -> io::Result<()> {
-    let mut place = 0usize;
-    for name in lanes {
-        write_lane(layout, place, name.as_str(), out)?;
-        place = place.saturating_add(1);
-    }
-    Ok(())
-}
-
-/// Writes the lane at a place.
-fn write_lane<W: Write>(layout: Layout, place: usize, name: &str, out: &mut W) -> io::Result<()> {
-    let x = layout.lane(place);
-    let foot = layout.foot();
-    let below = foot.saturating_add(20);
-    let whole = Escaped::whole(name);
-    let name = Escaped {
-        text: name,
-        most: layout.name_length(),
-    };
-    writeln!(
-        out,
-        "<g class=\"lane\"><title>{whole}</title><path d=\"M{x} 32V{foot}\"/>"
-    )?;
-    writeln!(out, "<text class=\"name\" x=\"{x}\" y=\"24\">{name}</text>")?;
-    writeln!(
-        out,
-        "<text class=\"name\" x=\"{x}\" y=\"{below}\">{name}</text></g>"
-    )
+    writeln!(out, "<text class=\"moment\" x=\"66\" y=\"{y}\">ms</text>")
 }
 
 /// What the picture says of its marks.
 const LEGEND: &str = "\
-An arrow is a message at the time it is received; one with a cross was sent then, and is never received. \
-A dot is an event of the history.";
+An arrow is a message at the time it is received, a line with dots a broadcast; one with a cross was sent then, and is \
+never received. A dot alone is an event.";
 
 /// Which colour is what.
 const COLOURS: &str = "\
@@ -133,7 +131,7 @@ const COLOURS: &str = "\
 
 /// Writes what the marks mean, and what isn't in the picture.
 fn write_legend<W: Write>(layout: Layout, remark: &str, out: &mut W) -> io::Result<()> {
-    let first = layout.foot().saturating_add(48);
+    let first = layout.legend().saturating_add(20);
     let second = first.saturating_add(18);
     let third = second.saturating_add(18);
     writeln!(

@@ -19,11 +19,18 @@ fn between<'a>(line: &'a str, before: &str, behind: &str) -> Option<&'a str> {
     Some(inner)
 }
 
+/// Whether a line begins a lane, a band or a shade, which stand behind the rows.
+fn is_behind(line: &str) -> bool {
+    line.starts_with("<g class=\"lane\">")
+        || line.starts_with("<g class=\"band\">")
+        || line.starts_with("<g class=\"shade\">")
+}
+
 /// The rows of a picture in words, as its titles say them.
 pub(crate) fn titles(alloc: Global, text: &str) -> Result<String, Stop> {
     let mut out = String::new(alloc);
     for line in text.lines() {
-        let is_row = !line.starts_with("<g class=\"lane\">") && !line.starts_with("<title>");
+        let is_row = !is_behind(line) && !line.starts_with("<title>");
         if let Some(title) = between(line, "<title>", "</title>") {
             if is_row {
                 push_part(title, &mut out)?;
@@ -33,8 +40,34 @@ pub(crate) fn titles(alloc: Global, text: &str) -> Result<String, Stop> {
     Ok(out)
 }
 
-/// The shapes of paths and the places of dots and of texts beside the names of lanes, in order: `M305 58H768`,
-/// `dot 305 58`, `Who-Is 536 53`.
+/// The networks, the shades and the lanes of a picture, and the lines of the lanes: `network 1`, `c M305 42V66`.
+pub(crate) fn lanes(alloc: Global, text: &str) -> Result<String, Stop> {
+    let mut out = String::new(alloc);
+    for line in text.lines() {
+        if is_behind(line) {
+            let title = between(line, "<title>", "</title>").unwrap_or("");
+            match between(line, " d=\"", "\"") {
+                Some(shape) => push_part(format!(in alloc; "{title} {shape}")?.as_str(), &mut out)?,
+                None => push_part(title, &mut out)?,
+            }
+        }
+    }
+    Ok(out)
+}
+
+/// What a picture says of what isn't in it: the last of its lines.
+pub(crate) fn remark(alloc: Global, text: &str) -> Result<String, Stop> {
+    let mut said = String::new(alloc);
+    for line in text.lines() {
+        if line.starts_with("<text x=\"8\"") {
+            said = String::from_str(alloc, between(line, "\">", "</text>").unwrap_or(""))?;
+        }
+    }
+    Ok(said)
+}
+
+/// The shapes of paths and the places of dots, rings, bars and of texts beside the names of lanes, in order: `M305 58H768`,
+/// `dot 305 58`, `bar 74 48 926 14`, `Who-Is 536 53`.
 pub(crate) fn shapes(alloc: Global, text: &str) -> Result<String, Stop> {
     let mut out = String::new(alloc);
     for line in text.lines() {
@@ -42,7 +75,14 @@ pub(crate) fn shapes(alloc: Global, text: &str) -> Result<String, Stop> {
             push_part(shape, &mut out)?;
         } else if let Some(x) = between(line, " cx=\"", "\"") {
             let y = between(line, " cy=\"", "\"").unwrap_or("");
-            push_part(format!(in alloc; "dot {x} {y}")?.as_str(), &mut out)?;
+            let shape = if line.contains("\"dot\"") {
+                "dot"
+            } else {
+                "ring"
+            };
+            push_part(format!(in alloc; "{shape} {x} {y}")?.as_str(), &mut out)?;
+        } else if line.starts_with("<rect ") && line.contains(" x=") {
+            push_part(bar(alloc, line)?.as_str(), &mut out)?;
         } else if is_beside(line) {
             push_part(placed(alloc, line)?.as_str(), &mut out)?;
         }
@@ -54,6 +94,8 @@ pub(crate) fn shapes(alloc: Global, text: &str) -> Result<String, Stop> {
 fn is_beside(line: &str) -> bool {
     line.starts_with("<text class=\"label\"")
         || line.starts_with("<text class=\"before\"")
+        || line.starts_with("<text class=\"pause\"")
+        || line.starts_with("<text class=\"number\"")
         || line.starts_with("<text x=\"") && !line.starts_with("<text x=\"8\"")
 }
 
@@ -63,6 +105,15 @@ fn placed(alloc: Global, line: &str) -> Result<String, Stop> {
     let y = between(line, " y=\"", "\"").unwrap_or("");
     let shown = between(line, ">", "</text>").unwrap_or("");
     Ok(format!(in alloc; "{shown} {x} {y}")?)
+}
+
+/// A bar, its place and its size.
+fn bar(alloc: Global, line: &str) -> Result<String, Stop> {
+    let x = between(line, " x=\"", "\"").unwrap_or("");
+    let y = between(line, " y=\"", "\"").unwrap_or("");
+    let width = between(line, " width=\"", "\"").unwrap_or("");
+    let height = between(line, " height=\"", "\"").unwrap_or("");
+    Ok(format!(in alloc; "bar {x} {y} {width} {height}")?)
 }
 
 /// What a page says of each message, with the name of its place: `d0 Datagram 0, sent at 0 ms, c to d: Who-Is`.

@@ -1,14 +1,16 @@
 //! What is drawn of a script at a site: `KIND SITE: STEP; STEP; .. -> ..`, the site of the file `SITE.site` and the
-//! steps of a script, or `KIND SITE FROM..TO: ..` for a part of the run, either end of which may be left out.
+//! steps of a script, or `KIND SITE FROM..TO: ..` for a part of the run, either end of which may be left out, and
+//! `KIND SITE FROM..TO STATION,.. #REQUEST,..: ..` for a part of some stations and requests, or of either.
 //!
-//! - `rows` wants the rows of the picture in words, as its titles say them;
+//! - `rows` wants the rows of the picture in words, as its titles say them, `lanes` what stands behind them, and `remark`
+//!   what is said below them of what isn't in it;
 //! - `history` the table of the page, `page` what it says of each message with the name of its place, and `explain-d0`
 //!   the lines of the one at this place.
 //!
 //! The elements of each picture and of each page are nested, and each link leads to a place. Each row runs again with
 //! each allocation refused in turn (behind the eighth not each): that is told as want of memory.
 
-use crate::drawn::{are_links_there, explained, history, summaries, titles};
+use crate::drawn::{are_links_there, explained, history, lanes, remark, summaries, titles};
 use crate::nesting::is_nested;
 use refusing::Refusing;
 use sheets::{Counts, Report, Row, Stop, compare, differs, refusal, rows, two_words};
@@ -26,11 +28,11 @@ const MANY: u64 = 2000;
 
 /// A run that is drawn, and what is wanted of it.
 #[derive(Clone, Copy)]
-struct Run<'a> {
+struct Run<'a, 'p> {
     kind: &'a str,
     site: &'a [u8],
     script: &'a [u8],
-    part: Part,
+    part: Part<'p>,
 }
 
 /// Runs each row of the file, each at the site that it names, and prints what comes of them.
@@ -66,22 +68,45 @@ fn run_row(
     for step in steps.split("; ") {
         writeln!(script, "{step}")?;
     }
+    let mut requests = Vec::new(alloc);
     let run = Run {
         kind,
         site,
         script: script.as_bytes(),
-        part: part_in(part)?,
+        part: part_in(part, &mut requests)?,
     };
     try_run(alloc, run, row.wanted()?)
 }
 
-/// The part of a run that words describe.
-fn part_in(words: &str) -> Result<Part, Stop> {
-    let (from, to) = words.split_once("..").unwrap_or(("", ""));
-    Ok(Part {
+/// The part of a run that words describe, with the numbers of its requests.
+fn part_in<'a>(words: &'a str, requests: &'a mut Vec<u64>) -> Result<Part<'a>, Stop> {
+    let (moments, chosen) = two_words(words);
+    let (from, to) = moments.split_once("..").unwrap_or(("", ""));
+    let mut part = Part {
         from: moment_in(from)?,
         to: moment_in(to)?,
-    })
+        only: None,
+        requests: None,
+    };
+    for word in chosen.split(' ') {
+        if let Some(numbers) = word.strip_prefix("#") {
+            add_numbers(numbers, requests)?;
+        } else if !word.is_empty() {
+            part.only = Some(word);
+        }
+    }
+    if !requests.is_empty() {
+        part.requests = Some(requests.as_slice());
+    }
+    Ok(part)
+}
+
+/// Adds the numbers that words say, with commas between them.
+fn add_numbers(words: &str, numbers: &mut Vec<u64>) -> Result<(), Stop> {
+    for word in words.split(',') {
+        numbers.push(parse_u64(word)?)?;
+    }
+    Ok(())
 }
 
 /// The moment that a word is, if it is one.
@@ -93,7 +118,7 @@ fn moment_in(word: &str) -> Result<Option<u64>, Stop> {
 }
 
 /// Draws a run, and then with each allocation refused in turn, until a run meets no refusal.
-fn try_run(alloc: Global, run: Run<'_>, wanted: &str) -> Result<Counts, Stop> {
+fn try_run(alloc: Global, run: Run<'_, '_>, wanted: &str) -> Result<Counts, Stop> {
     let memory = Refusing::new(alloc);
     compare(drawn(alloc, &memory, run)?, wanted)?;
     let mut n = 1u64;
@@ -124,14 +149,14 @@ fn try_run(alloc: Global, run: Run<'_>, wanted: &str) -> Result<Counts, Stop> {
 ///
 /// # Errors
 /// `Memory` where the call says so.
-fn drawn<A: Allocator + Copy>(alloc: Global, memory: A, run: Run<'_>) -> Result<String, Stop> {
+fn drawn<A: Allocator + Copy>(alloc: Global, memory: A, run: Run<'_, '_>) -> Result<String, Stop> {
     let Run {
         kind,
         site,
         script,
         part,
     } = run;
-    let drawn = if kind == "rows" {
+    let drawn = if kind == "rows" || kind == "lanes" || kind == "remark" {
         ladder(alloc, memory, site, script, part)
     } else {
         report(alloc, memory, site, script, part)
@@ -157,6 +182,8 @@ fn in_words(alloc: Global, kind: &str, octets: &[u8]) -> Result<String, Stop> {
     }
     match kind {
         "rows" => titles(alloc, text),
+        "lanes" => lanes(alloc, text),
+        "remark" => remark(alloc, text),
         "history" => history(alloc, text),
         "page" => summaries(alloc, text),
         _ => explained(alloc, kind.strip_prefix("explain-").unwrap_or(""), text),

@@ -1,10 +1,10 @@
 //! The ladder of a run, and the page that tells of it.
 
-use crate::gathering::Gathering;
-use crate::lanes::lanes;
+use crate::folding::{folded, shades_of, with_pauses};
+use crate::lanes::{bands_of, stations_of};
 use crate::page::write_page;
-use crate::part::Part;
 use ladder::{Ladder, Links, write_svg};
+use site_gathering::{Gathering, Part, place_named};
 use site_steps::{Event, Stop, Watcher, World, watch};
 use std::alloc::{AllocError, Allocator, Global};
 use tags::Fault;
@@ -20,14 +20,18 @@ enum Form {
 
 /// A run that is drawn at its end.
 #[derive(Drop)]
-struct Drawing<A: Allocator + Copy> {
-    gathering: Gathering<A>,
+struct Drawing<'p, A: Allocator + Copy> {
+    gathering: Gathering<'p, A>,
     form: Form,
     drawn: Vec<u8, A>,
 }
 
-impl<A: Allocator + Copy> Watcher<A> for Drawing<A> {
-    fn begin(&mut self, _world: &World<A>) -> Result<(), Fault> {
+impl<A: Allocator + Copy> Watcher<A> for Drawing<'_, A> {
+    fn begin(&mut self, world: &World<A>) -> Result<(), Fault> {
+        if let Some(names) = self.gathering.part.only {
+            let only = flags_of(self.gathering.alloc, names, world)?;
+            self.gathering.only = Some(only);
+        }
         Ok(())
     }
 
@@ -54,38 +58,85 @@ impl<A: Allocator + Copy> Watcher<A> for Drawing<A> {
     }
 }
 
+/// Of each station whether it is one of some, whose names have commas between them.
+///
+/// # Errors
+/// `NoSuch` for a name that no station has, and `Memory`.
+fn flags_of<A: Allocator + Copy>(
+    alloc: A,
+    names: &str,
+    world: &World<A>,
+) -> Result<Vec<bool, A>, Fault> {
+    let stations = world.site().stations();
+    let mut flags = Vec::new(alloc);
+    for _ in stations {
+        flags.push(false)?;
+    }
+    for name in names.split(',') {
+        match place_named(name.as_bytes(), stations) {
+            Some(place) if place < flags.len() => flags[place] = true,
+            Some(_) | None => return Err(Fault::NoSuch),
+        }
+    }
+    Ok(flags)
+}
+
 /// The ladder of what was gathered.
 fn ladder_of<A: Allocator + Copy>(
     world: &World<A>,
-    gathering: &mut Gathering<A>,
+    gathering: &mut Gathering<'_, A>,
 ) -> Result<Ladder<A>, AllocError> {
     let alloc = gathering.alloc;
-    let part = gathering.part;
-    let left_out = if world.buses().buses.is_empty() {
+    let rows = gathering.take_rows()?;
+    let stations = stations_of(alloc, world, rows.as_slice())?;
+    let rows = folded(alloc, rows, stations.as_slice())?;
+    let rows = with_pauses(alloc, rows)?;
+    let shades = shades_of(alloc, gathering.restarts.as_slice(), rows.as_slice())?;
+    let mut ladder = Ladder {
+        bands: bands_of(alloc, world, stations.as_slice())?,
+        stations,
+        rows,
+        shades,
+        remark: String::new(alloc),
+    };
+    ladder.remark = remark_of(alloc, world, gathering.part, &ladder)?;
+    Ok(ladder)
+}
+
+/// What is said of what isn't in a picture.
+fn remark_of<A: Allocator + Copy>(
+    alloc: A,
+    world: &World<A>,
+    part: Part<'_>,
+    ladder: &Ladder<A>,
+) -> Result<String<A>, AllocError> {
+    let tokens = if world.buses().buses.is_empty() {
         ""
     } else {
         " Token, Poll For Master and Reply To Poll For Master are left out where they carry no data."
     };
-    Ok(Ladder {
-        lanes: lanes(alloc, world.site().stations())?,
-        rows: gathering.take_rows(world)?,
-        remark: format!(in alloc; "{part}{left_out}")?,
-    })
+    let count = ladder.stations.len().saturating_sub(ladder.lanes());
+    if count == 0 {
+        return format!(in alloc; "{part}{tokens}");
+    }
+    format!(in alloc;
+        "{part}{tokens} Stations without a lane, of which no message but broadcasts is shown: {count}."
+    )
 }
 
 /// Takes the steps of a script in a world of a site, as their texts describe them, and gives the picture of a part of
-/// the run: SVG in UTF-8, with a lane for each station, an arrow for each message that is heard, one that ends in the
-/// air for each that is put out and never heard, and each entry of the history. The document is read in memory of
-/// `reading`.
+/// the run: SVG in UTF-8, with a lane for each station that sends or receives more than broadcasts, an arrow for each
+/// message that is received, one that ends in the air for each that is sent and never received, and each entry of the
+/// history. The document is read in memory of `reading`.
 ///
 /// # Errors
-/// Those of `site_steps::open`, and `Memory`.
+/// Those of `site_steps::open`, `NoSuch` where the part names a station that the site hasn't, and `Memory`.
 pub fn ladder<A: Allocator + Copy>(
     reading: Global,
     alloc: A,
     site: &[u8],
     script: &[u8],
-    part: Part,
+    part: Part<'_>,
 ) -> Result<Vec<u8, A>, Stop> {
     draw(reading, alloc, site, script, part, Form::Picture)
 }
@@ -94,13 +145,13 @@ pub fn ladder<A: Allocator + Copy>(
 /// frame of the part with what its octets say.
 ///
 /// # Errors
-/// Those of `site_steps::open`, and `Memory`.
+/// Those of [`ladder`].
 pub fn report<A: Allocator + Copy>(
     reading: Global,
     alloc: A,
     site: &[u8],
     script: &[u8],
-    part: Part,
+    part: Part<'_>,
 ) -> Result<Vec<u8, A>, Stop> {
     draw(reading, alloc, site, script, part, Form::Page)
 }
@@ -111,7 +162,7 @@ fn draw<A: Allocator + Copy>(
     alloc: A,
     site: &[u8],
     script: &[u8],
-    part: Part,
+    part: Part<'_>,
     form: Form,
 ) -> Result<Vec<u8, A>, Stop> {
     let mut drawing = Drawing {

@@ -1,11 +1,11 @@
 //! What the page says of each message: a line, and what its octets say below it.
 
-use crate::gathering::{Gathering, PutFrame};
-use crate::labels::{DatagramLabel, FrameLabel, npdu_in_frame};
 use console::{explain_datagram, explain_npdu};
 use ladder::{Anchor, Escaped};
+use ladder_labels::{DatagramLabel, FrameLabel, npdu_in_frame};
 use mstp_frame::Frame;
 use npdu::{Mac, Station};
+use site_gathering::{Datagram, Gathering, PutFrame};
 use site_steps::World;
 use site_trace::NameAt;
 use std::alloc::Allocator;
@@ -17,24 +17,24 @@ use words::{Hex, Spelling};
 /// Writes the datagrams of the part (J.2).
 pub(crate) fn write_datagrams<A: Allocator + Copy, W: Write>(
     world: &World<A>,
-    gathering: &Gathering<A>,
+    gathering: &Gathering<'_, A>,
     out: &mut W,
 ) -> io::Result<()> {
     writeln!(out, "<h2>Datagrams</h2>")?;
     let mut number = 0u64;
     for item in world.items() {
-        if is_told(gathering.told.as_slice(), number) {
-            write_datagram(world, gathering.alloc, number, item, out)?;
+        if is_told(gathering.datagrams.as_slice(), number) {
+            write_datagram(world, gathering, number, item, out)?;
         }
         number = number.saturating_add(1);
     }
     Ok(())
 }
 
-/// Whether the part tells of the datagram of a number.
-fn is_told(told: &[bool], number: u64) -> bool {
-    match told.get(number as usize) {
-        Some(is_told) => *is_told,
+/// Whether the part tells of the datagram of a number: of the first of a broadcast.
+fn is_told(datagrams: &[Datagram], number: u64) -> bool {
+    match datagrams.get(number as usize) {
+        Some(datagram) => datagram.is_told,
         None => false,
     }
 }
@@ -45,29 +45,84 @@ fn name_at<A: Allocator>(net: u16, mac: Mac, stations: &[site_parts::Station<A>]
     NameAt { address, stations }
 }
 
-/// Writes a datagram with its number.
+/// How many datagrams carry the same broadcast, and how many of them are received. Any other message is in one.
+#[derive(Clone, Copy)]
+struct Copies {
+    sent: u64,
+    received: u64,
+}
+
+/// The datagrams of the message whose first one stands at a place.
+fn copies_of(datagrams: &[Datagram], first: usize) -> Copies {
+    let mut copies = Copies {
+        sent: 0,
+        received: 0,
+    };
+    let Some(datagrams) = datagrams.get(first..) else {
+        return copies;
+    };
+    for datagram in datagrams {
+        if datagram.first != first {
+            break;
+        }
+        copies.sent = copies.sent.saturating_add(1);
+        if datagram.is_received {
+            copies.received = copies.received.saturating_add(1);
+        }
+    }
+    copies
+}
+
+/// Writes a datagram, or a broadcast, with the number of its first datagram.
 fn write_datagram<A: Allocator + Copy, W: Write>(
     world: &World<A>,
-    alloc: A,
+    gathering: &Gathering<'_, A>,
     number: u64,
     item: &Item<A>,
     out: &mut W,
 ) -> io::Result<()> {
-    let stations = world.site().stations();
-    let from = name_at(item.net, item.from, stations);
-    let to = name_at(item.net, item.to, stations);
+    let alloc = gathering.alloc;
+    let from = name_at(item.net, item.from, world.site().stations());
     let moment = item.put_out;
     write!(
         out,
-        "<details><summary>Datagram {number}, sent at {moment} ms, {from} to {to}"
+        "<details><summary>Datagram {number}, sent at {moment} ms, {from} to "
     )?;
-    write_heard(item.is_delivered, out)?;
+    let copies = copies_of(gathering.datagrams.as_slice(), number as usize);
+    write_receivers(world, item, copies, out)?;
     let octets = item.octets.as_slice();
     let label = format!(in alloc; "{}", DatagramLabel(octets))?;
     write_summary(label.as_str(), Anchor::Datagram(number), out)?;
     let mut told = Vec::new(alloc);
     let _ = explain_datagram(Spelling::Numbers, octets, &mut told)?;
     write_told(told.as_slice(), out)
+}
+
+/// Writes who a datagram or a broadcast is for, and that some of these never receive it.
+fn write_receivers<A: Allocator + Copy, W: Write>(
+    world: &World<A>,
+    item: &Item<A>,
+    copies: Copies,
+    out: &mut W,
+) -> io::Result<()> {
+    let Copies { sent, received } = copies;
+    if sent <= 1 {
+        write!(
+            out,
+            "{}",
+            name_at(item.net, item.to, world.site().stations())
+        )?;
+    } else {
+        write!(out, "{sent} stations")?;
+    }
+    if received == 0 || sent <= received {
+        return write_heard(0 < received, out);
+    }
+    let lost = sent.saturating_sub(received);
+    write!(
+        out,
+        ", <span class=\"lost\">never received by {lost}</span>"
+    )
 }
 
 /// Writes that a message is never received, where it isn't.
@@ -94,17 +149,19 @@ fn write_told<W: Write>(lines: &[u8], out: &mut W) -> io::Result<()> {
 /// Writes the frames of the part, where the site has buses (9.3).
 pub(crate) fn write_frames<A: Allocator + Copy, W: Write>(
     world: &World<A>,
-    gathering: &Gathering<A>,
+    gathering: &Gathering<'_, A>,
     out: &mut W,
 ) -> io::Result<()> {
     if world.buses().buses.is_empty() {
         return Ok(());
     }
     writeln!(out, "<h2>Frames</h2>")?;
+    let mut place = 0u64;
     for frame in &gathering.frames {
         if frame.is_told {
-            write_frame(world, gathering.alloc, frame, out)?;
+            write_frame(world, gathering.alloc, frame, place, out)?;
         }
+        place = place.saturating_add(1);
     }
     Ok(())
 }
@@ -114,6 +171,7 @@ fn write_frame<A: Allocator + Copy, W: Write>(
     world: &World<A>,
     alloc: A,
     put: &PutFrame<A>,
+    place: u64,
     out: &mut W,
 ) -> io::Result<()> {
     let Some(frame) = Frame::read(put.octets.as_slice()) else {
@@ -129,7 +187,7 @@ fn write_frame<A: Allocator + Copy, W: Write>(
     )?;
     write_heard(put.is_heard, out)?;
     let label = format!(in alloc; "{}", FrameLabel(frame))?;
-    write_summary(label.as_str(), Anchor::Frame(*number), out)?;
+    write_summary(label.as_str(), Anchor::Frame(place), out)?;
     let mut told = Vec::new(alloc);
     explain_frame(frame, &mut told)?;
     write_told(told.as_slice(), out)

@@ -1,10 +1,10 @@
 use Rattle.std.proofs.Common.{◌∙◌, ap}
-use Rattle.command_order.specs.Simulating.{with_files}
-use Rattle.command_order.proofs.CommandLaws.{adds, adds_last}
+use Rattle.std.proofs.lemmas.Result.{IfOk-weaker}
+use Rattle.command_order.specs.Simulating.{with_choice, with_files, with_times}
 use Rattle.command_order.proofs.simulating.sim.Goals as goal
 
 pub returns : goal.returns
 returns c =
     let files = c.in_ok-with_files.ensures ∙ ap with_files c.in_ok-printed.ensures in
-    let from = adds c.in_ok-arg.ensures c.option.ensures.own files c.option.ensures.rule in
-    adds_last c.arg-2.result _ _ c.arg-2.ensures c.option-2.ensures.own from c.option-2.ensures.rule
+    let times = c.in_ok-with_times.ensures ∙ ap with_times files in
+    IfOk-weaker c.with_choice.result _ _ (λ _ e. e ∙ ap with_choice times) c.with_choice.ensures

@@ -1,7 +1,7 @@
 //! The frames that an event lets a station hear (9.5).
 
 use crate::gathering::PutFrame;
-use crate::lanes::mac_on;
+use crate::places::mac_on;
 use bus_traffic::{Bus, HeardFrame, RecentBox};
 use mstp_frame::{Frame, FrameType};
 use site_steps::{Event, World};
@@ -10,6 +10,9 @@ use tags::{Fault, Octets};
 
 /// The address that stands for all nodes of a bus (9.1.2).
 const ALL_NODES: u8 = 255;
+
+/// How many of the frames that are shown a station may still receive: those of the last second are fewer.
+const RECENT: usize = 4096;
 
 /// A frame that a station hears which it is for.
 #[derive(Drop)]
@@ -148,30 +151,26 @@ fn number_on<A: Allocator>(recent: &[RecentBox<A>], mac: u8, octets: &[u8]) -> O
     None
 }
 
-/// Marks that a frame was heard, and whether the part that is shown tells of it, and answers its number. One that was
-/// delivered there before is the last of those with the same octets.
+/// Marks that a frame was received, and answers its place. One that was delivered there before is the last of those
+/// with the same octets.
 pub(crate) fn mark_heard<A: Allocator>(
     frames: &mut Vec<PutFrame<A>, A>,
     heard: &Heard<A>,
-    is_told: bool,
-) -> Option<u64> {
-    let Some(place) = last_same(frames.as_slice(), heard) else {
-        return None;
-    };
-    if place >= frames.len() {
+) -> Option<usize> {
+    let place = last_same(frames.as_slice(), heard)?;
+    if frames.len() <= place {
         return None;
     }
-    let frame = &mut frames[place];
-    frame.is_heard = true;
-    frame.is_told = frame.is_told || is_told;
-    Some(frame.number)
+    frames[place].is_heard = true;
+    Some(place)
 }
 
-/// The place of the last frame that was put out and is one that is heard.
+/// The place of the last frame that was sent and is one that is received, among the last ones.
 fn last_same<A: Allocator>(frames: &[PutFrame<A>], heard: &Heard<A>) -> Option<usize> {
+    let first = frames.len().saturating_sub(RECENT);
     let mut last = None;
-    let mut place = 0usize;
-    for frame in frames {
+    let mut place = first;
+    for frame in frames.get(first..)? {
         if is_same(frame, heard) {
             last = Some(place);
         }
@@ -180,7 +179,7 @@ fn last_same<A: Allocator>(frames: &[PutFrame<A>], heard: &Heard<A>) -> Option<u
     last
 }
 
-/// Whether a frame that was put out is one that is heard.
+/// Whether a frame that was sent is one that is received.
 fn is_same<A: Allocator>(frame: &PutFrame<A>, heard: &Heard<A>) -> bool {
     match heard.number {
         Some(number) => frame.number == number,

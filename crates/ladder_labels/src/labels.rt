@@ -1,7 +1,7 @@
-//! What stands at an arrow, from the headers of a message: the service or the type, and the invoke ID.
+//! The label of a message, from its headers: the service or the type, and the invoke ID.
 
 use crate::header_names::{ConfirmedName, MessageName, TypeName, UnconfirmedName, function_name};
-use apdu::{Apdu, PduType, Segment};
+use apdu::{Apdu, PduType};
 use bvll::Bvll;
 use ladder::Kind;
 use mstp_frame::{Frame, FrameType};
@@ -11,7 +11,7 @@ use std::fmt;
 /// The label of a datagram (J.2): `ReadProperty, invoke 1`, `Forwarded-NPDU: Who-Is`, `Register-Foreign-Device`,
 /// `unread: BadLength`.
 #[derive(Clone, Copy)]
-pub(crate) struct DatagramLabel<'a>(pub(crate) &'a [u8]);
+pub struct DatagramLabel<'a>(pub &'a [u8]);
 
 impl fmt::Display for DatagramLabel<'_> {
     fn fmt<W: fmt::Write>(&self, f: &mut fmt::Formatter<W>) -> fmt::Result {
@@ -44,7 +44,7 @@ fn fmt_bvll<W: fmt::Write>(bvll: Bvll<'_>, f: &mut fmt::Formatter<W>) -> fmt::Re
 
 /// The label of a frame (9.3): `Data Expecting Reply: ReadProperty, invoke 1`, `Reply Postponed`.
 #[derive(Clone, Copy)]
-pub(crate) struct FrameLabel<'a>(pub(crate) Frame<'a>);
+pub struct FrameLabel<'a>(pub Frame<'a>);
 
 impl fmt::Display for FrameLabel<'_> {
     fn fmt<W: fmt::Write>(&self, f: &mut fmt::Formatter<W>) -> fmt::Result {
@@ -60,7 +60,7 @@ impl fmt::Display for FrameLabel<'_> {
 }
 
 /// The NPDU that a frame carries, if it carries one (9.3).
-pub(crate) fn npdu_in_frame(frame: Frame<'_>) -> Option<&[u8]> {
+pub fn npdu_in_frame(frame: Frame<'_>) -> Option<&[u8]> {
     match frame.frame_type {
         FrameType::BacnetDataExpectingReply | FrameType::BacnetDataNotExpectingReply => {
             Some(frame.data)
@@ -94,36 +94,30 @@ fn fmt_npdu<W: fmt::Write>(octets: &[u8], f: &mut fmt::Formatter<W>) -> fmt::Res
 fn fmt_apdu<W: fmt::Write>(apdu: Apdu<'_>, f: &mut fmt::Formatter<W>) -> fmt::Result {
     match apdu {
         Apdu::ConfirmedRequest {
-            segment,
             invoke_id,
             service,
             ..
-        } => fmt_call("", service, invoke_id, segment, f),
+        } => fmt_call("", service, invoke_id, f),
         Apdu::UnconfirmedRequest { service, .. } => write!(f, "{}", UnconfirmedName(service)),
-        Apdu::SimpleAck { invoke_id, service } => fmt_call(
-            "SimpleACK ",
-            service,
-            invoke_id,
-            None,
-            f,
-        ),
+        Apdu::SimpleAck { invoke_id, service } => fmt_call("SimpleACK ", service, invoke_id, f),
         Apdu::ComplexAck {
-            segment,
             invoke_id,
             service,
             ..
-        } => fmt_call("ComplexACK ", service, invoke_id, segment, f),
+        } => fmt_call("ComplexACK ", service, invoke_id, f),
         Apdu::SegmentAck {
             negative,
             invoke_id,
-            sequence_number,
             ..
-        } => fmt_segment_ack(negative, invoke_id, sequence_number, f),
+        } => {
+            let front = if negative { "negative " } else { "" };
+            write!(f, "{front}SegmentACK, invoke {invoke_id}")
+        }
         Apdu::Error {
             invoke_id,
             service,
             ..
-        } => fmt_call("Error ", service, invoke_id, None, f),
+        } => fmt_call("Error ", service, invoke_id, f),
         Apdu::Reject { invoke_id, reason } => {
             write!(f, "Reject {}, invoke {invoke_id}", u8::from(reason))
         }
@@ -135,52 +129,47 @@ fn fmt_apdu<W: fmt::Write>(apdu: Apdu<'_>, f: &mut fmt::Formatter<W>) -> fmt::Re
     }
 }
 
-/// Writes a service behind the type of its APDU, and its invoke ID; of a segment also its number.
+/// Writes a service behind the type of its APDU, and its invoke ID.
 fn fmt_call<W: fmt::Write>(
     front: &str,
     service: u8,
     invoke_id: u8,
-    segment: Option<Segment>,
     f: &mut fmt::Formatter<W>,
 ) -> fmt::Result {
-    write!(f, "{front}{}, invoke {invoke_id}", ConfirmedName(service))?;
-    match segment {
-        Some(segment) => write!(f, ", segment {}", segment.sequence_number),
-        None => Ok(()),
-    }
+    write!(f, "{front}{}, invoke {invoke_id}", ConfirmedName(service))
 }
 
-/// Writes a SegmentACK (20.1.6).
-fn fmt_segment_ack<W: fmt::Write>(
-    negative: bool,
-    invoke_id: u8,
-    sequence_number: u8,
-    f: &mut fmt::Formatter<W>,
-) -> fmt::Result {
-    if negative {
-        f.write_str("negative ")?;
-    }
-    write!(
-        f,
-        "SegmentACK, invoke {invoke_id}, segment {sequence_number}"
-    )
-}
-
-/// What a datagram is.
-pub(crate) fn kind_of_datagram(octets: &[u8]) -> Kind {
+/// The NPDU that a datagram carries, if it carries one (J.2).
+pub fn npdu_in_datagram(octets: &[u8]) -> Option<&[u8]> {
     match Bvll::read(octets) {
         Ok(
             Bvll::ForwardedNpdu { npdu, .. }
             | Bvll::DistributeBroadcastToNetwork(npdu)
             | Bvll::OriginalUnicastNpdu(npdu)
             | Bvll::OriginalBroadcastNpdu(npdu),
-        ) => kind_of_npdu(npdu),
-        Ok(_) | Err(_) => Kind::Other,
+        ) => Some(npdu),
+        Ok(_) | Err(_) => None,
+    }
+}
+
+/// Whether a datagram goes to all on a subnet, or as one of those that carry a broadcast on (J.2.6, J.2.12).
+pub fn is_broadcast(octets: &[u8]) -> bool {
+    matches!(
+        Bvll::read(octets),
+        Ok(Bvll::ForwardedNpdu { .. } | Bvll::OriginalBroadcastNpdu(_))
+    )
+}
+
+/// What a datagram is.
+pub fn kind_of_datagram(octets: &[u8]) -> Kind {
+    match npdu_in_datagram(octets) {
+        Some(npdu) => kind_of_npdu(npdu),
+        None => Kind::Other,
     }
 }
 
 /// What a frame is.
-pub(crate) fn kind_of_frame(frame: Frame<'_>) -> Kind {
+pub fn kind_of_frame(frame: Frame<'_>) -> Kind {
     match npdu_in_frame(frame) {
         Some(npdu) => kind_of_npdu(npdu),
         None => Kind::Other,
