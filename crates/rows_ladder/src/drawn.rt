@@ -66,8 +66,8 @@ pub(crate) fn remark(alloc: Global, text: &str) -> Result<String, Stop> {
     Ok(said)
 }
 
-/// The shapes of paths and the places of dots, rings, bars and of texts beside the names of lanes, in order: `M305 58H768`,
-/// `dot 305 58`, `bar 74 48 926 14`, `Who-Is 536 53`.
+/// The shapes of paths and the places of dots, rings, bars and of texts beside the names of lanes, in order:
+/// `M305 58H768`, `dot 305 58`, `bar 74 48 926 14`, `Who-Is 536 53`.
 pub(crate) fn shapes(alloc: Global, text: &str) -> Result<String, Stop> {
     let mut out = String::new(alloc);
     for line in text.lines() {

@@ -1,10 +1,11 @@
-//! Pictures that a row describes: `draw a b (c) [1:0..1] {1:0..2:13020}; 20 0>1 Who-Is -> ..`, the names of the stations,
-//! in brackets where they have no lane, the lanes of each network, and the shades: a station, its first and its last row,
-//! and the moment at which it ends. Behind them the rows, each with its moment: a message that is received, one that isn't
-//! (`0x1`, or `0x` for all), a broadcast (`0>*1,2`, `0x*1`), and its text, where `#3/7` is a segment of so many, `#3` one
-//! of an unknown number, `~1` a retry, `~again` what is delivered again and `+28` so many senders more; a note on a lane
-//! (`0`, or `-` for none); or a pause (`gap 3000`). `draw` wants what the picture draws: the shapes of paths, and the
-//! places of dots, bars and texts; `titles` wants each row in words. `escape` and `cut N` want a text as it stands in SVG.
+//! Pictures that a row describes: `draw a b (c) [1:0..1] {1:0..2:13020}; 20 0>1 Who-Is -> ..`, the names of the
+//! stations, in brackets where they have no lane, the lanes of each network, and the shades: a station, its first and
+//! its last row, and the moment at which it ends. Behind them the rows, each with its moment: a message that is
+//! received, one that isn't (`0x1`, or `0x` for all), a broadcast (`0>*1,2`, `0x*1`), and its text, where `#3/7` is a
+//! segment of so many, `#3` one of an unknown number, `~1` a retry, `~again` what is delivered again and `+28` so many
+//! senders more; a note on a lane (`0`, or `-` for none); or a pause (`gap 3000`). `draw` wants what the picture draws:
+//! the shapes of paths, and the places of dots, bars and texts; `titles` wants each row in words. `escape` and `cut N`
+//! want a text as it stands in SVG.
 //!
 //! A picture is drawn again with each allocation refused in turn.
 

@@ -2,8 +2,8 @@
 //! steps of a script, or `KIND SITE FROM..TO: ..` for a part of the run, either end of which may be left out, and
 //! `KIND SITE FROM..TO STATION,.. #REQUEST,..: ..` for a part of some stations and requests, or of either.
 //!
-//! - `rows` wants the rows of the picture in words, as its titles say them, `lanes` what stands behind them, and `remark`
-//!   what is said below them of what isn't in it;
+//! - `rows` wants the rows of the picture in words, as its titles say them, `lanes` what stands behind them, and
+//!   `remark` what is said below them of what isn't in it;
 //! - `history` the table of the page, `page` what it says of each message with the name of its place, and `explain-d0`
 //!   the lines of the one at this place.
 //!
