@@ -163,7 +163,7 @@ IsDone reads writes same apart (Ok (Some (Answer words))) status old new err_old
 IsDone reads writes same apart (Ok (Some (Explain e))) status old new err_old err_new =
     IsExplained (spelling_of e.is_named e.is_json) (option_map string_bytes e.capture)
     (map string_bytes e.words.items) status (shown e.is_json old) (shown e.is_json new)
-IsDone reads writes same apart (Ok (Some (Diagnose d))) status old new err_old err_new = status ≤ 2
+IsDone reads writes same apart (Ok (Some (Diagnose d))) status old new err_old err_new = status ≤ 3
 IsDone reads writes same apart (Ok (Some (Pics p))) status old new err_old err_new = status ≤ 1
 IsDone reads writes same apart (Ok (Some (Fmt script))) status old new err_old err_new = status ≤ 1
 IsDone reads writes same apart (Ok (Some (Init s))) status old new err_old err_new = IsBegun writes s status

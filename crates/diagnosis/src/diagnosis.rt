@@ -1,18 +1,23 @@
 //! What is known of a capture, packet by packet.
 
-use crate::following::{Asked, At, Following};
 use crate::sighting::Sightings;
 use crate::stations::{Route, Stations};
 use apdu::{UnconfirmedService, i_am_from};
-use bvll::Bvll;
+use bus_findings::Buses;
+use bvll::{Bvll, ResultCode};
 use captures::{Carried, Datagram, Packet};
 use diagnosis_parts::{
-    Heading, Key, LinkAddress, PacketCounts, Party, RequestCounts, Role, Settings, Station,
-    Transaction, heading_of, raise,
+    Answered, Asked, At, Heading, Key, LinkAddress, PacketCounts, Party, RequestCounts, Role,
+    Settings, Station, Transaction, WentOn, heading_of, raise,
 };
+use findings::{Finding, Findings, Kind, Layer, Packets};
+use following::Following;
 use mstp_frame::{Frame, FrameType};
+use network_findings::Networks;
 use npdu::{Message, View};
 use std::alloc::{AllocError, Allocator};
+use std::marker::Model;
+use tags::Fault;
 
 /// The address that stands for all nodes of a bus (9.1.2).
 const ALL_NODES: u8 = 255;
@@ -28,6 +33,24 @@ pub struct Diagnosis<A: Allocator> {
     sightings: Sightings<A>,
     following: Following<A>,
     stations: Stations<A>,
+    networks: Networks<A>,
+    buses: Buses<A>,
+    findings: Findings<A>,
+    /// A port beside the usual ones.
+    port: Option<u16>,
+}
+
+/// The first port of UDP that BACnet/IP uses (J.1.2).
+const FIRST_PORT: u16 = 47_808;
+
+/// .. and the last one of those that networks use beside it.
+const LAST_PORT: u16 = 47_823;
+
+/// Where a datagram or a frame comes from, and where it goes.
+#[derive(Clone, Copy)]
+struct Way {
+    from: LinkAddress,
+    to: LinkAddress,
 }
 
 /// The ends of a message on its link; several stations receive it where there is no one end.
@@ -35,9 +58,33 @@ pub struct Diagnosis<A: Allocator> {
 struct Ends {
     from: LinkAddress,
     to: Option<LinkAddress>,
+    /// The address that it is sent to, also where that stands for several.
+    target: LinkAddress,
+}
+
+/// A contract sees how many packets were taken, and the findings that are kept: each packet that they name was taken.
+impl<A: Allocator> Model for Diagnosis<A> {
+    ghost use Rattle.std.specs.Prelude.{ℕ, List};
+    ghost use Rattle.findings.specs.declared.finding.Finding.{Finding};
+
+    ghost Value = { ℕ × List Finding };
+
+    ghost view = { λ d. d.findings };
+}
+
+impl Ends {
+    /// Where the message comes from, and where it goes.
+    fn way(&self) -> Way {
+        Way {
+            from: self.from,
+            to: self.target,
+        }
+    }
 }
 
 impl<A: Allocator + Copy> Diagnosis<A> {
+    ghost use Rattle.std.specs.Prelude.{◌≡◌};
+
     /// Nothing is known yet.
     ///
     /// # Errors
@@ -50,6 +97,10 @@ impl<A: Allocator + Copy> Diagnosis<A> {
             sightings: Sightings::new(alloc, settings.sightings)?,
             following: Following::new(alloc, settings)?,
             stations: Stations::new(alloc, settings)?,
+            networks: Networks::new(alloc, settings)?,
+            buses: Buses::new(alloc, settings)?,
+            findings: Findings::new(alloc, settings.findings),
+            port: settings.port,
         })
     }
 
@@ -58,15 +109,16 @@ impl<A: Allocator + Copy> Diagnosis<A> {
     /// # Errors
     /// Want of memory. Then part of what the packet shows may be known.
     pub fn take(&mut self, packet: &Packet<'_>) -> Result<(), AllocError> {
-        raise(&mut self.counts.packets);
+        self.findings.count_packet();
         if let Some(moment) = packet.microseconds {
             self.began = Some(self.began.unwrap_or(moment));
             self.moment = moment;
         }
-        self.following.forget(self.moment)?;
+        self.following.pass(self.moment, &mut self.findings)?;
         let at = At {
             packet: packet.number,
             moment: self.moment,
+            since: self.duration(),
         };
         match packet.carried {
             Carried::Datagram(datagram) => self.take_datagram(at, &datagram),
@@ -89,10 +141,43 @@ impl<A: Allocator + Copy> Diagnosis<A> {
         let to = LinkAddress::from(datagram.to);
         match Bvll::read(datagram.octets) {
             Ok(bvll) => self.take_bvll(at, from, to, bvll),
-            Err(_) => {
+            Err(fault) => {
                 raise(&mut self.counts.unread);
-                Ok(())
+                self.tell_malformed(at, Way { from, to }, Layer::Bvll, fault)
             }
+        }
+    }
+
+    /// Tells that a header can't be read, where the port is one of BACnet/IP. A function or a type that isn't known may
+    /// be another maker's.
+    fn tell_malformed(
+        &mut self,
+        at: At,
+        way: Way,
+        layer: Layer,
+        fault: Fault,
+    ) -> Result<(), AllocError> {
+        if fault == Fault::BadTag || !self.is_judged(way.from) && !self.is_judged(way.to) {
+            return Ok(());
+        }
+        self.findings.tell(Finding {
+            kind: Kind::Malformed {
+                from: way.from,
+                to: way.to,
+                layer,
+                fault,
+            },
+            packets: Packets::one(at.packet),
+        })
+    }
+
+    /// Whether an address has a port of BACnet/IP, or the one that is asked for.
+    fn is_judged(&self, address: LinkAddress) -> bool {
+        match address {
+            LinkAddress::Ip(_, port) => {
+                (FIRST_PORT <= port && port <= LAST_PORT) || self.port == Some(port)
+            }
+            LinkAddress::Node(_, _) => false,
         }
     }
 
@@ -106,20 +191,33 @@ impl<A: Allocator + Copy> Diagnosis<A> {
     ) -> Result<(), AllocError> {
         match bvll {
             Bvll::OriginalUnicastNpdu(npdu) => {
-                let to = Some(to);
-                self.take_npdu(at, Ends { from, to }, npdu)
+                let ends = Ends {
+                    from,
+                    to: Some(to),
+                    target: to,
+                };
+                self.take_npdu(at, ends, npdu)
             }
-            Bvll::OriginalBroadcastNpdu(npdu) => self.take_npdu(at, Ends { from, to: None }, npdu),
+            Bvll::OriginalBroadcastNpdu(npdu) => self.take_broadcast(at, from, to, npdu),
             Bvll::DistributeBroadcastToNetwork(npdu) => {
                 self.hear_as(at, from, Role::ForeignDevice)?;
-                self.take_npdu(at, Ends { from, to: None }, npdu)
+                self.take_broadcast(at, from, to, npdu)
             }
             Bvll::ForwardedNpdu { origin, npdu } => {
                 self.hear_as(at, from, Role::Manager)?;
-                let from = LinkAddress::from(origin);
-                self.take_npdu(at, Ends { from, to: None }, npdu)
+                let origin = LinkAddress::from(origin);
+                self.networks
+                    .forward(from, to, origin, npdu, at, &mut self.findings)?;
+                self.take_broadcast(at, origin, to, npdu)
             }
-            Bvll::RegisterForeignDevice { .. } => self.hear_as(at, from, Role::ForeignDevice),
+            Bvll::RegisterForeignDevice { .. } => {
+                self.networks.register(from, to, at)?;
+                self.hear_as(at, from, Role::ForeignDevice)
+            }
+            Bvll::Result(ResultCode::RegisterForeignDeviceNak) => {
+                self.networks.refuse(to, from, at, &mut self.findings)?;
+                self.hear(at, from)
+            }
             Bvll::Result(_)
             | Bvll::WriteBroadcastDistributionTable(_)
             | Bvll::ReadBroadcastDistributionTable
@@ -130,22 +228,45 @@ impl<A: Allocator + Copy> Diagnosis<A> {
         }
     }
 
+    /// Takes a broadcast that came from a station on the link or through a manager, to this address.
+    fn take_broadcast(
+        &mut self,
+        at: At,
+        from: LinkAddress,
+        target: LinkAddress,
+        npdu: &[u8],
+    ) -> Result<(), AllocError> {
+        self.networks.hear_broadcast(at, &mut self.findings)?;
+        let ends = Ends {
+            from,
+            to: None,
+            target,
+        };
+        self.take_npdu(at, ends, npdu)
+    }
+
     /// Takes a frame of the bus of an interface (9.3).
     fn take_frame(&mut self, at: At, bus: u32, octets: &[u8]) -> Result<(), AllocError> {
-        let Some(frame) = Frame::read(octets) else {
+        let frame = Frame::read(octets);
+        self.buses.hear(bus, octets, frame, at, &mut self.findings)?;
+        let Some(frame) = frame else {
             raise(&mut self.counts.passed_over);
             return Ok(());
         };
         raise(&mut self.counts.frames);
         let from = LinkAddress::Node(bus, frame.source);
-        let to = if frame.destination == ALL_NODES {
-            None
-        } else {
-            Some(LinkAddress::Node(bus, frame.destination))
-        };
+        let target = LinkAddress::Node(bus, frame.destination);
         match frame.frame_type {
             FrameType::BacnetDataExpectingReply | FrameType::BacnetDataNotExpectingReply => {
-                self.take_npdu(at, Ends { from, to }, frame.data)
+                if frame.destination == ALL_NODES {
+                    return self.take_broadcast(at, from, target, frame.data);
+                }
+                let ends = Ends {
+                    from,
+                    to: Some(target),
+                    target,
+                };
+                self.take_npdu(at, ends, frame.data)
             }
             FrameType::Token
             | FrameType::PollForMaster
@@ -182,25 +303,53 @@ impl<A: Allocator + Copy> Diagnosis<A> {
 
     /// Takes a message of the network layer (6.2).
     fn take_npdu(&mut self, at: At, ends: Ends, npdu: &[u8]) -> Result<(), AllocError> {
-        let Ok(view) = View::read(npdu) else {
-            raise(&mut self.counts.unread);
-            return self.hear(at, ends.from);
+        let view = match View::read(npdu) {
+            Ok(view) => view,
+            Err(fault) => {
+                raise(&mut self.counts.unread);
+                self.tell_malformed(at, ends.way(), Layer::Npdu, fault)?;
+                return self.hear(at, ends.from);
+            }
         };
         let Some(sender) = Party::sender(ends.from, view.source) else {
             return Ok(());
         };
         self.stations.hear(sender, at.packet)?;
+        self.networks
+            .pass(ends.from, sender, &view, at, &mut self.findings)?;
         match view.message {
-            Some(Message::IAmRouterToNetwork) => {
-                self.stations.announce(sender, view.body, at.packet)
-            }
-            Some(_) => Ok(()),
+            Some(message) => self.take_message(at, sender, ends.target, message, view.body),
             None => {
                 let receiver = match ends.to {
                     Some(to) => Party::receiver(to, view.destination),
                     None => None,
                 };
-                self.take_apdu(at, sender, receiver, view.body)
+                self.take_apdu(at, ends, sender, receiver, view.body)
+            }
+        }
+    }
+
+    /// Takes a message for routers (6.2.4).
+    fn take_message(
+        &mut self,
+        at: At,
+        sender: Party,
+        target: LinkAddress,
+        message: Message,
+        contents: &[u8],
+    ) -> Result<(), AllocError> {
+        match message {
+            Message::IAmRouterToNetwork => {
+                self.networks
+                    .announce(sender, target, contents, at, &mut self.findings)?;
+                self.stations.announce(sender, contents, at.packet)
+            }
+            Message::RejectMessageToNetwork => {
+                self.networks
+                    .reject(sender, contents, at, &mut self.findings)
+            }
+            Message::WhoIsRouterToNetwork | Message::Other(_) | Message::Proprietary { .. } => {
+                Ok(())
             }
         }
     }
@@ -209,19 +358,23 @@ impl<A: Allocator + Copy> Diagnosis<A> {
     fn take_apdu(
         &mut self,
         at: At,
+        ends: Ends,
         sender: Party,
         receiver: Option<Party>,
         octets: &[u8],
     ) -> Result<(), AllocError> {
-        let Some(heading) = heading_of(octets) else {
-            raise(&mut self.counts.unread);
-            return Ok(());
+        let heading = match heading_of(octets) {
+            Ok(heading) => heading,
+            Err(fault) => {
+                raise(&mut self.counts.unread);
+                return self.tell_malformed(at, ends.way(), Layer::Apdu, fault);
+            }
         };
         match (heading, receiver) {
             (Heading::Unconfirmed { service, data }, _) => {
-                self.take_unconfirmed(sender, service, data)
+                self.take_unconfirmed(at, sender, service, data)
             }
-            (heading, Some(receiver)) => self.follow(at, sender, receiver, heading),
+            (heading, Some(receiver)) => self.follow(at, sender, receiver, heading, octets),
             (_, None) => Ok(()),
         }
     }
@@ -229,6 +382,7 @@ impl<A: Allocator + Copy> Diagnosis<A> {
     /// Takes a request that is not answered (20.1.3).
     fn take_unconfirmed(
         &mut self,
+        at: At,
         sender: Party,
         service: u8,
         data: &[u8],
@@ -237,18 +391,23 @@ impl<A: Allocator + Copy> Diagnosis<A> {
             return Ok(());
         }
         match i_am_from(data) {
-            Some(i_am) => self.stations.identify(sender, i_am),
+            Some(i_am) => {
+                self.networks
+                    .claim(sender, i_am.instance, at, &mut self.findings)?;
+                self.stations.identify(sender, i_am)
+            }
             None => Ok(()),
         }
     }
 
-    /// Follows a transaction by one of its messages.
+    /// Follows a transaction by one of its messages, which has these octets.
     fn follow(
         &mut self,
         at: At,
         sender: Party,
         receiver: Party,
         heading: Heading<'_>,
+        octets: &[u8],
     ) -> Result<(), AllocError> {
         match heading {
             Heading::Request {
@@ -257,37 +416,80 @@ impl<A: Allocator + Copy> Diagnosis<A> {
                 segment,
                 data,
             } => {
+                let key = Key::of(sender, receiver, invoke_id);
                 let asked = Asked {
                     service,
                     segment,
                     data,
                 };
-                self.following
-                    .asked(Key::of(sender, receiver, invoke_id), asked, at)
+                self.following.asked(key, asked, at, &mut self.findings)
             }
             Heading::Answer {
                 invoke_id,
                 outcome,
-                is_segment,
+                segment,
+                data,
             } => {
                 let key = Key::of(receiver, sender, invoke_id);
-                self.following.answered(key, outcome, is_segment, at)
+                let answered = Answered {
+                    outcome,
+                    segment,
+                    data,
+                    octets,
+                };
+                self.following
+                    .answered(key, answered, at, &mut self.findings)
             }
-            Heading::FromClient { invoke_id, outcome } => {
+            Heading::GaveUp { invoke_id, outcome } => {
                 let key = Key::of(sender, receiver, invoke_id);
-                self.following.went_on(key, outcome, at)
+                self.go_on(key, WentOn::GaveUp(outcome), at)
             }
-            Heading::Received { invoke_id } => {
+            Heading::ClientTook { invoke_id, taken } => {
+                let key = Key::of(sender, receiver, invoke_id);
+                self.go_on(key, WentOn::ClientTook(taken), at)
+            }
+            Heading::ServerTook { invoke_id, taken } => {
                 let key = Key::of(receiver, sender, invoke_id);
-                self.following.went_on(key, None, at)
+                self.go_on(key, WentOn::ServerTook(taken), at)
             }
             Heading::Unconfirmed { .. } => Ok(()),
         }
     }
 
+    /// Follows a transaction by what is said between its request and its answer.
+    fn go_on(&mut self, key: Key, went_on: WentOn, at: At) -> Result<(), AllocError> {
+        self.following.went_on(key, went_on, at, &mut self.findings)
+    }
+
+    /// The capture ends: what can be found only then is found.
+    ///
+    /// # Errors
+    /// Want of memory.
+    pub fn finish(&mut self) -> Result<(), AllocError> {
+        self.following.finish(self.moment, &mut self.findings)?;
+        self.buses.finish(&mut self.findings)
+    }
+
+    /// The findings; each packet that one names has been taken.
+    pub fn findings(&self) -> &Findings<A>
+        ensures { result.now ≡ self.now }
+    {
+        &self.findings
+    }
+
+    /// Keeps none of the findings so far.
+    pub(crate) fn forget_findings(&mut self) {
+        self.findings.forget_kept();
+    }
+
     /// What is counted of packets.
-    pub fn packets(&self) -> PacketCounts {
-        self.counts
+    pub fn packets(&self) -> PacketCounts
+        ensures { result.packets ≡ self.now.0 }
+    {
+        PacketCounts {
+            packets: self.findings.packets_read(),
+            ..self.counts
+        }
     }
 
     /// What is counted of transactions, where the capture ends with the packet that was taken last.

@@ -2,6 +2,7 @@
 
 use crate::diagnosis::Diagnosis;
 use diagnosis_parts::{PacketCounts, RequestCounts};
+use findings::print_counts;
 use std::alloc::Allocator;
 use std::io::Write;
 use std::{fmt, io};
@@ -19,7 +20,8 @@ impl fmt::Display for Thousands {
 /// What is said of requests that came again.
 const REPEATED: &str = "whether it was executed again, the wire doesn't show";
 
-/// Prints what is counted of a capture, a line each; counts of what is rare only where there is some.
+/// Prints what is counted of a capture, a line each; counts of what is rare only where there is some, and those of
+/// findings last.
 ///
 /// # Errors
 /// Those of writing.
@@ -32,7 +34,8 @@ pub fn print_summary<A: Allocator + Copy, W: Write>(
     print_rare("stations forgotten", diagnosis.stations_left(), out)?;
     print_requests(&diagnosis.requests(), out)?;
     print_time("median answer time", diagnosis.percentile(50), out)?;
-    print_time("99th percentile", diagnosis.percentile(99), out)
+    print_time("99th percentile", diagnosis.percentile(99), out)?;
+    print_counts(diagnosis.findings(), out)
 }
 
 /// Prints what is counted of packets.

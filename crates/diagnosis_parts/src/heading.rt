@@ -1,6 +1,7 @@
 //! What an APDU is to the transaction that it belongs to, whichever its service: Errors are taken in any form.
 
 use apdu::{Apdu, Segment};
+use tags::Fault;
 
 /// How a transaction ended.
 #[derive(Clone, Copy)]
@@ -13,6 +14,17 @@ pub enum Outcome {
     Rejected(u8),
     /// By an Abort for the reason of this number (18.10), from the server or the client.
     Aborted(u8),
+}
+
+/// What a SegmentACK says (20.1.6).
+#[derive(Clone, Copy)]
+pub struct SegmentsTaken {
+    /// Whether a segment is lacking.
+    pub is_negative: bool,
+    /// The number of the last segment that came in its order, modulo 256.
+    pub sequence_number: u8,
+    /// How many segments may be sent before the next SegmentACK.
+    pub window: u8,
 }
 
 /// An APDU, as far as transactions go.
@@ -34,37 +46,41 @@ pub enum Heading<'a> {
     Answer {
         invoke_id: u8,
         outcome: Option<Outcome>,
-        is_segment: bool,
+        segment: Option<Segment>,
+        /// What a ComplexACK says; empty of other answers.
+        data: &'a [u8],
     },
-    /// What the client says to segments of the answer, or as it gives up.
-    FromClient {
+    /// What the client says as it gives up.
+    GaveUp {
         invoke_id: u8,
-        outcome: Option<Outcome>,
+        outcome: Outcome,
+    },
+    /// What the client says to segments of the answer.
+    ClientTook {
+        invoke_id: u8,
+        taken: SegmentsTaken,
     },
     /// What the server says to segments of the request.
-    Received {
+    ServerTook {
         invoke_id: u8,
+        taken: SegmentsTaken,
     },
 }
 
 /// The type of an Error among those of APDUs (20.1.7).
 const ERROR: u8 = 5;
 
-/// What an APDU is, and `None` for octets that are none.
-pub fn heading_of(octets: &[u8]) -> Option<Heading<'_>> {
+/// What an APDU is.
+///
+/// # Errors
+/// Why octets are none (20.1).
+pub fn heading_of(octets: &[u8]) -> Result<Heading<'_>, Fault> {
     if let [first, invoke_id, _, ..] = octets {
         if *first >> 4 == ERROR {
-            return Some(Heading::Answer {
-                invoke_id: *invoke_id,
-                outcome: Some(Outcome::Failed),
-                is_segment: false,
-            });
+            return Ok(answer(*invoke_id, Outcome::Failed));
         }
     }
-    match Apdu::read(octets) {
-        Ok(apdu) => Some(heading_in(apdu)),
-        Err(_) => None,
-    }
+    Ok(heading_in(Apdu::read(octets)?))
 }
 
 /// What an APDU is.
@@ -87,21 +103,22 @@ fn heading_in(apdu: Apdu<'_>) -> Heading<'_> {
         Apdu::ComplexAck {
             segment,
             invoke_id,
+            data,
             ..
-        } => acknowledgement(invoke_id, segment),
+        } => acknowledgement(invoke_id, segment, data),
         Apdu::SegmentAck {
+            negative,
             server,
             invoke_id,
-            ..
+            sequence_number,
+            window,
         } => {
-            if server {
-                Heading::Received { invoke_id }
-            } else {
-                Heading::FromClient {
-                    invoke_id,
-                    outcome: None,
-                }
-            }
+            let taken = SegmentsTaken {
+                is_negative: negative,
+                sequence_number,
+                window,
+            };
+            segments_taken(server, invoke_id, taken)
         }
         Apdu::Error { invoke_id, .. } => answer(invoke_id, Outcome::Failed),
         Apdu::Reject { invoke_id, reason } => {
@@ -120,12 +137,21 @@ fn answer<'a>(invoke_id: u8, outcome: Outcome) -> Heading<'a> {
     Heading::Answer {
         invoke_id,
         outcome: Some(outcome),
-        is_segment: false,
+        segment: None,
+        data: &[],
     }
 }
 
+/// What either side says to segments of the other.
+fn segments_taken<'a>(is_server: bool, invoke_id: u8, taken: SegmentsTaken) -> Heading<'a> {
+    if is_server {
+        return Heading::ServerTook { invoke_id, taken };
+    }
+    Heading::ClientTook { invoke_id, taken }
+}
+
 /// A ComplexACK, or a segment of one.
-fn acknowledgement<'a>(invoke_id: u8, segment: Option<Segment>) -> Heading<'a> {
+fn acknowledgement(invoke_id: u8, segment: Option<Segment>, data: &[u8]) -> Heading<'_> {
     let outcome = match segment {
         Some(segment) if segment.more_follows => None,
         Some(_) | None => Some(Outcome::Acknowledged),
@@ -133,7 +159,8 @@ fn acknowledgement<'a>(invoke_id: u8, segment: Option<Segment>) -> Heading<'a> {
     Heading::Answer {
         invoke_id,
         outcome,
-        is_segment: segment.is_some(),
+        segment,
+        data,
     }
 }
 
@@ -143,8 +170,5 @@ fn abort<'a>(is_server: bool, invoke_id: u8, reason: u8) -> Heading<'a> {
     if is_server {
         return answer(invoke_id, outcome);
     }
-    Heading::FromClient {
-        invoke_id,
-        outcome: Some(outcome),
-    }
+    Heading::GaveUp { invoke_id, outcome }
 }

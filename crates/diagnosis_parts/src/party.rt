@@ -60,6 +60,13 @@ impl Remote {
     }
 }
 
+impl Remote {
+    /// Its network's number.
+    pub fn net(&self) -> u16 {
+        self.net
+    }
+}
+
 impl fmt::Display for Remote {
     fn fmt<W: fmt::Write>(&self, f: &mut fmt::Formatter<W>) -> fmt::Result {
         write!(f, "{}:", self.net)?;

@@ -1,5 +1,6 @@
 //! A transaction: a request, followed to its end (5.4).
 
+use crate::at::At;
 use crate::heading::Outcome;
 use crate::subject::Subject;
 
@@ -10,6 +11,17 @@ pub struct FirstAnswer {
     pub packet: u64,
     /// How long that took from the first packet of the request, in microseconds.
     pub microseconds: u64,
+    /// What stands for its octets; `None` for a segment.
+    pub contents: Option<u64>,
+}
+
+/// The same request before, which was answered.
+#[derive(Clone, Copy)]
+pub struct Before {
+    /// The number of its first packet.
+    pub first: u64,
+    /// Its answer.
+    pub answer: FirstAnswer,
 }
 
 /// A request, followed to its end.
@@ -29,6 +41,10 @@ pub struct Transaction {
     pub contents: u64,
     /// How often the request came again.
     pub repeats: u32,
+    /// The number of the packet with which it came last.
+    pub said: u64,
+    /// The same request with the same invoke ID, which was answered shortly before.
+    pub before: Option<Before>,
     /// How many segments came, of the request and of the answer.
     pub segments: u32,
     /// Its first answer.
@@ -53,11 +69,17 @@ impl Transaction {
         self.service == service && self.contents == contents
     }
 
+    /// Whether nobody knows how it will end: it has no answer yet, and waits.
+    pub fn is_open(&self, timeout: u64, moment: u64) -> bool {
+        self.answer.is_none() && !self.is_over(timeout, moment)
+    }
+
     /// After the request came again.
-    pub fn repeated(self, moment: u64) -> Transaction {
+    pub fn repeated(self, at: At) -> Transaction {
         Transaction {
             repeats: self.repeats.saturating_add(1),
-            last: moment,
+            said: at.packet,
+            last: at.moment,
             ..self
         }
     }
@@ -80,15 +102,16 @@ impl Transaction {
         }
     }
 
-    /// After an answer in the packet of this number.
-    pub fn answered(self, packet: u64, moment: u64) -> Transaction {
+    /// After an answer whose octets these stand for, if it is no segment.
+    pub fn answered(self, contents: Option<u64>, at: At) -> Transaction {
         let first = FirstAnswer {
-            packet,
-            microseconds: moment.saturating_sub(self.began),
+            packet: at.packet,
+            microseconds: at.moment.saturating_sub(self.began),
+            contents,
         };
         Transaction {
             answer: Some(self.answer.unwrap_or(first)),
-            last: moment,
+            last: at.moment,
             ..self
         }
     }

@@ -258,9 +258,9 @@ pub(crate) fn disk_texts() -> [(&'static str, &'static [u8]); 7] {
 const SECTION: &[u8] = &[0x0A, 0x0D, 0x0D, 0x0A];
 
 /// Eleven files, `p.toml`, `none.toml`, `live.script`, `unended.script`, `named.script`, `numbered.script`,
-/// `reading.script`, `refused.script`, `empty.script`, `bad.script` and `one.pcap`, and six that may be written:
-/// `storm.script`; `restarts.script` and `behind.script` if they hold just these texts; and `live.pcapng`, `live.svg`
-/// and `live.html` if they begin as such files do.
+/// `reading.script`, `refused.script`, `empty.script`, `bad.script` and `one.pcap`, which is also standard input where
+/// that is read piece by piece; and six that may be written: `storm.script`; `restarts.script` and `behind.script` if
+/// they hold just these texts; and `live.pcapng`, `live.svg` and `live.html` if they begin as such files do.
 #[derive(Clone, Copy)]
 pub(crate) struct Texts;
 
@@ -279,6 +279,9 @@ impl Files for Texts {
     type Input = &'static [u8];
 
     fn read(&self, alloc: Global, name: &str) -> io::Result<Vec<u8>> {
+        if name == "-" {
+            return Err(io::ErrorKind::NotFound.into());
+        }
         let octets = Vec::from_slice(alloc, self.open(name)?)?;
         Ok(octets)
     }
@@ -295,7 +298,7 @@ impl Files for Texts {
             "numbered.script" => Ok(NUMBERED_SCRIPT.as_bytes()),
             "empty.script" => Ok(b""),
             "bad.script" => Ok(NO_SCRIPT.as_bytes()),
-            "one.pcap" => Ok(CAPTURE),
+            "one.pcap" | "-" => Ok(CAPTURE),
             _ => Err(io::ErrorKind::NotFound.into()),
         }
     }

@@ -1,15 +1,21 @@
-//! What a capture shows: `summary STEPS -> LINES`, and the same of `transactions` and `stations`, the tables. Steps are
-//! packets of a capture: `FROM TO WORDS @MS`, a datagram with its ends, or `frame WORDS @MS`, a frame on the bus of
-//! network 2, each in octets or names of pieces; `raw WORDS` alone is a file in itself. Tables hold 16 entries, and in
-//! rows of `summary few ..` two.
+//! What a capture shows: `summary STEPS -> LINES`, and the same of `transactions` and `stations`, the tables, of
+//! `found`, the findings as they come about, each without what it means, and of `told`, the findings with that. Steps
+//! are packets of a capture: `FROM TO WORDS @MS`, a datagram with its ends, or `frame WORDS @MS`, a frame on the bus of
+//! network 2, each in octets or names of pieces; `A & B @MS` are two at a moment, and `.. @MS x5+10` stands for five
+//! steps, 10 ms apart. `raw WORDS` alone is a file in itself. Tables hold 16 entries, and 16 findings of a name are
+//! kept; in rows of `summary few ..` two.
 //!
-//! Each row runs with the file in reads of each size from 1 to 16; with those of 16 octets also with each allocation
-//! refused in turn, and those of transactions cut at each octet and with each octet changed, where they come to an end.
+//! Each row runs with the file in reads of 16 octets, also with each allocation refused in turn; those of tables and of
+//! the summary in reads of each size from 1, and those of transactions cut at each octet and with each octet changed,
+//! where they come to an end.
 
 use crate::pieces::octets_of;
 use bvll::{ADDRESS_OCTETS, Address};
 use captures::{Datagram, write_datagram, write_frame, write_start};
-use diagnosis::{Diagnosis, Settings, diagnose, print_stations, print_summary, print_transactions};
+use diagnosis::{
+    Diagnosis, Failure, Settings, Telling, diagnose, print_kept, print_stations, print_summary,
+    print_transactions,
+};
 use sheets::{
     Counts, Given, Part, Row, Said, Stop, Trial, change_octets, compare, differs, try_row,
     two_words,
@@ -32,7 +38,27 @@ pub(crate) enum Printed {
     Summary,
     Transactions,
     Stations,
+    /// The findings as they come about, the first line of each.
+    Found,
+    /// The findings that are kept.
+    Told,
 }
+
+impl Printed {
+    /// The least size of reads.
+    fn least(self) -> usize {
+        match self {
+            Printed::Summary | Printed::Transactions | Printed::Stations => 1,
+            Printed::Found | Printed::Told => MOST,
+        }
+    }
+}
+
+/// A port of UDP where malformed datagrams are found too.
+const MORE_PORT: u16 = 50_000;
+
+/// More broadcasts within a second are a storm.
+const MOST_BROADCASTS: u64 = 8;
 
 /// The most entries of each table, where a row doesn't ask for few.
 const MANY: usize = 16;
@@ -65,7 +91,7 @@ fn run(
 ) -> Result<Counts, Stop> {
     let file = file_of(given.alloc, rows, steps)?;
     let file = file.as_slice();
-    for size in 1..MOST {
+    for size in printed.least()..MOST {
         let trial = Diagnosing {
             printed,
             most,
@@ -81,7 +107,7 @@ fn run(
     let counts = try_row(given, &trial, file, wanted)?;
     let changed = match printed {
         Printed::Transactions => change_octets(given, &trial, file)?,
-        Printed::Summary | Printed::Stations => 0,
+        Printed::Summary | Printed::Stations | Printed::Found | Printed::Told => 0,
     };
     Ok(Counts { changed, ..counts })
 }
@@ -101,12 +127,49 @@ fn file_of(alloc: Global, rows: &[Row<'_>], steps: &str) -> Result<Vec<u8>, Stop
     Ok(file)
 }
 
-/// Appends the packet of a step.
+/// Appends the packets of a step.
 fn write_step(alloc: Global, rows: &[Row<'_>], step: &str, file: &mut Vec<u8>) -> Result<(), Stop> {
     let Some((words, moment)) = step.split_once(" @") else {
         return Err(Stop::Unread(Part::Asked));
     };
-    let moment: u64 = parse_number(moment)?;
+    let Some((moment, times)) = moment.split_once(" x") else {
+        return write_packets(alloc, rows, words, parse_number(moment)?, file);
+    };
+    let Some((count, apart)) = times.split_once('+') else {
+        return Err(Stop::Unread(Part::Asked));
+    };
+    let mut moment: u64 = parse_number(moment)?;
+    let count: u64 = parse_number(count)?;
+    let apart: u64 = parse_number(apart)?;
+    for _ in 0..count {
+        write_packets(alloc, rows, words, moment, file)?;
+        moment = moment.saturating_add(apart);
+    }
+    Ok(())
+}
+
+/// Appends the packets that are captured at a moment.
+fn write_packets(
+    alloc: Global,
+    rows: &[Row<'_>],
+    words: &str,
+    moment: u64,
+    file: &mut Vec<u8>,
+) -> Result<(), Stop> {
+    for packet in words.split(" & ") {
+        write_packet(alloc, rows, packet, moment, file)?;
+    }
+    Ok(())
+}
+
+/// Appends a packet that is captured at a moment.
+fn write_packet(
+    alloc: Global,
+    rows: &[Row<'_>],
+    words: &str,
+    moment: u64,
+    file: &mut Vec<u8>,
+) -> Result<(), Stop> {
     let (first, words) = two_words(words);
     if first == "frame" {
         let octets = octets_of(alloc, rows, words)?;
@@ -152,16 +215,39 @@ impl<'a> Trial<'a> for Diagnosing {
             left: octets,
             size: self.size,
         };
-        match diagnose(given.memory, settings(self.most), &mut input) {
+        let telling = match self.printed {
+            Printed::Found => Telling::AtOnce,
+            Printed::Summary | Printed::Transactions | Printed::Stations | Printed::Told => {
+                Telling::Later
+            }
+        };
+        let settings = settings(self.most);
+        match diagnose(given.memory, settings, telling, &mut input, &mut said.out) {
             Ok(Some(diagnosis)) => {
                 let printed = self.print(given.memory, &diagnosis, &mut said.out);
                 told(given.alloc, printed)?;
             }
             Ok(None) => said.status = 1,
-            Err(error) => told(given.alloc, Err(error))?,
+            Err(Failure::Reading(error) | Failure::Writing(error)) => {
+                told(given.alloc, Err(error))?;
+            }
+        }
+        if let Printed::Found = self.printed {
+            said.out = first_lines(given.alloc, said.out.as_slice())?;
         }
         said.in_words(given.alloc)
     }
+}
+
+/// What was printed, without the lines that are indented.
+fn first_lines(alloc: Global, printed: &[u8]) -> Result<Vec<u8>, Stop> {
+    let mut lines = Vec::new(alloc);
+    for line in printed.split_inclusive(|octet| *octet == b'\n') {
+        if !line.starts_with(b"  ") {
+            lines.extend_from_slice(line)?;
+        }
+    }
+    Ok(lines)
 }
 
 impl Diagnosing {
@@ -176,6 +262,8 @@ impl Diagnosing {
             Printed::Summary => print_summary(diagnosis, out),
             Printed::Transactions => print_transactions(alloc, diagnosis, out),
             Printed::Stations => print_stations(alloc, diagnosis, out),
+            Printed::Found => Ok(()),
+            Printed::Told => print_kept(diagnosis.findings(), out),
         }
     }
 }
@@ -194,6 +282,10 @@ fn settings(most: usize) -> Settings {
     let most_known = NonZeroUsize::new(most).unwrap_or(NonZeroUsize::MIN);
     Settings {
         timeout: 20_000,
+        slow: 1000,
+        port: Some(MORE_PORT),
+        broadcasts: MOST_BROADCASTS,
+        findings: most as u64,
         transactions: most_known,
         listed: most,
         stations: most_known,

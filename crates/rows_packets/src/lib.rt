@@ -35,6 +35,8 @@ pub fn run_packets(
         "summary" => run_printed(given, Printed::Summary, rows, words, wanted),
         "transactions" => run_printed(given, Printed::Transactions, rows, words, wanted),
         "stations" => run_printed(given, Printed::Stations, rows, words, wanted),
+        "found" => run_printed(given, Printed::Found, rows, words, wanted),
+        "told" => run_printed(given, Printed::Told, rows, words, wanted),
         _ => Err(Stop::Unread(Part::Asked)),
     }
 }

@@ -8,5 +8,8 @@ returns c =
     let named = ap app_of_fields c.about.ensures ∙ c.new.ensures.app in
     let capture = adds c.in_ok-arg.ensures c.file.ensures.own named c.file.ensures.rule in
     let timeout = adds c.in_ok-arg-2.ensures c.option.ensures.own capture c.option.ensures.rule in
-    let transactions = adds c.in_ok-arg-3.ensures c.flag.ensures.own timeout c.flag.ensures.rule in
-    adds_last c.arg-4.result _ _ c.arg-4.ensures c.flag-2.ensures.own transactions c.flag-2.ensures.rule
+    let slow = adds c.in_ok-arg-3.ensures c.option-2.ensures.own timeout c.option-2.ensures.rule in
+    let port = adds c.in_ok-arg-4.ensures c.option-3.ensures.own slow c.option-3.ensures.rule in
+    let all = adds c.in_ok-arg-5.ensures c.flag.ensures.own port c.flag.ensures.rule in
+    let transactions = adds c.in_ok-arg-6.ensures c.flag-2.ensures.own all c.flag-2.ensures.rule in
+    adds_last c.arg-7.result _ _ c.arg-7.ensures c.flag-3.ensures.own transactions c.flag-3.ensures.rule

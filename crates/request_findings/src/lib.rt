@@ -1,0 +1,15 @@
+//! What no plant should show of what requests say: writes that are executed twice, and messages in segments that are
+//! lost or sent beyond a window (ANSI/ASHRAE 135, clauses 5.2.2, 5.4.5, 15 and 20.1).
+//!
+//! To the layer above it promises that any message is taken. What is found is shown by rows, and isn't proved.
+//!
+//! - `commands`: writes that are said again after others. `value`: what they write.
+//! - `segments`: messages in segments.
+#![tactic(auto)]
+
+mod commands;
+mod segments;
+mod value;
+
+pub use commands::Commands;
+pub use segments::{Segments, Sender};
