@@ -1,7 +1,7 @@
 //! What is done in worlds (ANSI/ASHRAE 135, clauses 5.4 and 16.10).
 
 ghost use Rattle.std.specs.Prelude.{IsTrue};
-ghost use Rattle.simulator.specs.internetwork.Step.{IsSoundEvent};
+ghost use Rattle.simulator.specs.world.Step.{IsSoundEvent};
 
 use apdu::Limits;
 use primitives::{ObjectType, Property, Request};

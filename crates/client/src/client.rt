@@ -67,6 +67,16 @@ impl<A: Allocator + Copy> Client<A> {
         self.machine.moment()
     }
 
+    /// Returns where it is (6.1).
+    pub fn station(&self) -> Station
+        ensures { result ≡ record { net = self.now.net; mac = self.now.mac } }
+    {
+        Station {
+            net: self.net,
+            mac: self.mac,
+        }
+    }
+
     /// The devices that it is bound to, in the order of their first I-Ams.
     pub fn bindings(&self) -> &[Binding]
         ensures { result.now ≡ self.now.bindings }

@@ -7,7 +7,7 @@ use crate::client::Client;
 use crate::plan::{ClientChange, ClientPlan, ClientTold};
 use apdu::{Apdu, IAm, UnconfirmedService, i_am_from};
 use bindings::{has_place, introduced};
-use npdu::{Parcel, Station, Way};
+use npdu::{Mac, Parcel, Station, Target, Way};
 use std::alloc::Allocator;
 use tags::{Fault, Items};
 use unitdata::{HeardContent, hear};
@@ -59,28 +59,34 @@ impl<A: Allocator + Copy> Client<A> {
         ensures heard { OnErr result (BringsSomething self.old.net parcel.now.from parcel.now.to parcel.now.npdu) }
         ensures unchanged { OnErr result (self.new ≡ self.old) }
     {
-        let plan = self.plan_parcel(parcel, now)?;
+        let plan = self.plan_npdu(parcel.from, parcel.to, parcel.npdu.as_slice(), now)?;
         let told = self.commit(plan, now)?;
         Ok(told)
     }
 
-    /// What it does where it hears a parcel at the moment `now`, in milliseconds: `commit` does it. A parcel that
-    /// brings nothing to the client is dropped without memory.
+    /// What it does where it hears an NPDU from a station of its network, for one or all there, at the moment `now`, in
+    /// milliseconds: `commit` does it. One that brings nothing to the client is dropped without memory.
     ///
     /// # Errors
     /// `TableFull` for an I-Am for whose device there is no place, or `Memory`.
     #[tactic(auto, using(crate::proofs::HearLaws::heard_rules))]
-    pub fn plan_parcel(&self, parcel: &Parcel<A>, now: u64) -> Result<ClientPlan<A>, Fault>
-        ensures step { IfOk result (λ plan. ClientHears now parcel.now.from parcel.now.to parcel.now.npdu self.now
+    pub fn plan_npdu(
+        &self,
+        from: Mac,
+        to: Target,
+        npdu: &[u8],
+        now: u64,
+    ) -> Result<ClientPlan<A>, Fault>
+        ensures step { IfOk result (λ plan. ClientHears now from to npdu.now self.now
             (told_by plan) (left_by now plan self.now)) }
         ensures planned { IfOk result (IsPlanned now self.now) }
         ensures changes { IfOk result (λ plan. ChangesSomething plan.change →
-            BringsSomething self.now.net parcel.now.from parcel.now.to parcel.now.npdu) }
+            BringsSomething self.now.net from to npdu.now) }
         ensures cause { IfErr result (λ fault. (fault ≡ Fault.Memory) ⊎ ((fault ≡ Fault.TableFull) ×
-            BringsTooMany self.now.net parcel.now.from parcel.now.to parcel.now.npdu self.now.bindings)) }
-        ensures heard { OnErr result (BringsSomething self.now.net parcel.now.from parcel.now.to parcel.now.npdu) }
+            BringsTooMany self.now.net from to npdu.now self.now.bindings)) }
+        ensures heard { OnErr result (BringsSomething self.now.net from to npdu.now) }
     {
-        let Some(heard) = hear(self.net, parcel.from, parcel.to, parcel.npdu.as_slice()) else {
+        let Some(heard) = hear(self.net, from, to, npdu) else {
             return Ok(quiet(self.alloc, ClientChange::Stays));
         };
         match heard.content {

@@ -9,7 +9,7 @@ ghost use Rattle.link_ip.specs.Port.{station_of};
 
 use bvll::Address;
 use endpoint::Device;
-use link::Sent;
+use link::{Change, Link, PortSent};
 use link_ip::{IpPort, Reach};
 use npdu::{Mac, Parcel};
 use objects::{SiteObject, SiteObjects, ValueKind};
@@ -45,6 +45,9 @@ const ADDRESS: Address = Address {
     ip: [127, 0, 0, 1],
     port: 47808,
 };
+
+/// The number of its one port.
+const ITS_PORT: usize = 0;
 
 /// The one other member of its subnet.
 const OTHER: Address = Address {
@@ -133,97 +136,100 @@ pub fn respond<A: Allocator + Copy>(
     ensures memory { IfErr result (λ fault. fault ≡ Fault.Memory) }
     ensures unchanged { OnErr result (device.new ≡ device.old) }
 {
-    let Some(parcel) = handed_up(&mut device.port, from, datagram)? else {
+    let Some(parcel) = handed_up(device.alloc, &device.port, from, datagram)? else {
         return Ok(Items::new(device.alloc));
     };
     let mut next = device.device.copy()?;
-    let said = say_to(device.alloc, &mut next, &mut device.port, &parcel)?;
+    let said = say_to(device.alloc, &mut next, &device.port, &parcel)?;
     device.device = next;
     Ok(said)
 }
 
-/// What a datagram from a station hands up at the moment 0, if it hands anything up.
+/// Returns what a datagram from a station hands up at the moment 0, if it hands anything up.
 #[tactic(auto, using(crate::proofs::HearLaws::link_rules))]
 fn handed_up<A: Allocator + Copy>(
-    port: &mut IpPort<A>,
+    alloc: A,
+    port: &IpPort<A>,
     from: Mac,
     datagram: &[u8],
 ) -> Result<Option<Parcel<A>>, Fault>
-    requires { port.old ≡ builtin_port }
+    requires { port.now ≡ builtin_port }
     ensures up { IfOk result (λ up. Brings (station_of (builtin_port {A = A})).mac from datagram.now up) }
     ensures memory { IfErr result (λ fault. fault ≡ Fault.Memory) }
-    ensures same { port.new ≡ builtin_port }
 {
-    match port.heard(from, datagram, 0, 0) {
-        Ok(step) => Ok(step.up),
+    let mut change = Change::Nothing;
+    let mut out = Items::new(alloc);
+    match port.heard(&mut change, from, datagram, 0, ITS_PORT, 0, &mut out) {
+        Ok(Some(up)) => Ok(Some(up.to_parcel(alloc)?)),
+        Ok(None) => Ok(None),
         Err(Fault::Memory) => Err(Fault::Memory),
         Err(_) => Ok(None),
     }
 }
 
-/// What a device says that hears a parcel, at the moment 0. After an `Err` it may have changed.
+/// Returns what a device says that hears a parcel, at the moment 0. After an `Err` it may have changed.
 fn say_to<A: Allocator + Copy>(
     alloc: A,
     device: &mut Device<A>,
-    port: &mut IpPort<A>,
+    port: &IpPort<A>,
     parcel: &Parcel<A>,
 ) -> Result<Items<Octets<A>, A>, Fault>
     requires order { device.old.server.moment ≤ 0 }
-    requires port { port.old ≡ builtin_port }
+    requires port { port.now ≡ builtin_port }
     ensures says { IfOk result (λ said. SaysTo parcel.now device.old device.new said) }
     ensures memory { IfErr result (λ fault. fault ≡ Fault.Memory) }
-    ensures same { port.new ≡ builtin_port }
 {
     let told = device.on_parcel(parcel, 0)?;
     datagrams(alloc, port, told.said.as_slice())
 }
 
-/// The datagrams of parcels.
+/// Returns the datagrams of parcels.
 fn datagrams<A: Allocator + Copy>(
     alloc: A,
-    port: &mut IpPort<A>,
+    port: &IpPort<A>,
     parcels: &[Parcel<A>],
 ) -> Result<Items<Octets<A>, A>, Fault>
-    requires { port.old ≡ builtin_port }
+    requires { port.now ≡ builtin_port }
     ensures said { IfOk result (λ said. said ≡ flat_map datagrams_of parcels.now) }
     ensures memory { IfErr result (λ fault. fault ≡ Fault.Memory) }
-    ensures same { port.new ≡ builtin_port }
 {
     let mut said = Items::new(alloc);
     for parcel in parcels {
-        put_down(port, parcel, &mut said)?;
+        put_down(alloc, port, parcel, &mut said)?;
     }
     Ok(said)
 }
 
-/// Puts the datagrams of a parcel behind others: none where it is too long.
+/// Appends the datagrams of a parcel: none where it is too long.
 #[tactic(auto, using(crate::proofs::SayLaws::say_rules))]
 fn put_down<A: Allocator + Copy>(
-    port: &mut IpPort<A>,
+    alloc: A,
+    port: &IpPort<A>,
     parcel: &Parcel<A>,
     said: &mut Items<Octets<A>, A>,
 ) -> Result<(), Fault>
-    requires { port.old ≡ builtin_port }
+    requires { port.now ≡ builtin_port }
     ensures said { OnOk result (said.new ≡ said.old ++ datagrams_of parcel.now) }
     ensures memory { IfErr result (λ fault. fault ≡ Fault.Memory) }
-    ensures same { port.new ≡ builtin_port }
 {
-    match port.down(parcel, 0) {
-        Ok(step) => Ok(put_octets(step.out, said)?),
+    let mut change = Change::Nothing;
+    let mut out = Items::new(alloc);
+    match port.down(&mut change, parcel, ITS_PORT, 0, &mut out) {
+        Ok(()) => Ok(put_octets(out, said)?),
         Err(Fault::TooLong) => Ok(()),
         Err(fault) => Err(fault),
     }
 }
 
-/// Puts the octets of what is put out behind others.
+/// Appends the octets of what is put out.
 fn put_octets<A: Allocator + Copy>(
-    out: Items<Sent<A>, A>,
+    out: Items<PortSent<A>, A>,
     said: &mut Items<Octets<A>, A>,
 ) -> Result<(), AllocError>
-    ensures { OnOk result (said.new ≡ said.old ++ map (λ s. s.octets) out) }
+    ensures { OnOk result (said.new ≡ said.old ++ map (λ s. s.sent.octets) out) }
 {
     for sent in out.into_vec() {
-        said.push(sent.octets)?;
+        said.push(sent.sent.octets)?;
     }
     Ok(())
 }

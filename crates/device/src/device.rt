@@ -95,6 +95,16 @@ impl<A: Allocator + Copy> Device<A> {
         self.mac
     }
 
+    /// Returns where it is (6.1).
+    pub fn station(&self) -> Station
+        ensures { result ≡ record { net = self.now.net; mac = self.now.mac } }
+    {
+        Station {
+            net: self.net,
+            mac: self.mac,
+        }
+    }
+
     /// Its objects.
     pub fn table(&self) -> &Table<A>
         ensures { result.now ≡ self.now.server.table }

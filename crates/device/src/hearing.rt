@@ -8,7 +8,7 @@ use crate::device::Device;
 use crate::plan::{DevicePlan, DeviceTold};
 use crate::saying::{i_am_parcel, said_parcels};
 use apdu::Apdu;
-use npdu::Parcel;
+use npdu::{Mac, Parcel, Target};
 use server_tsm::Origin;
 use std::alloc::Allocator;
 use tags::{Fault, Items};
@@ -58,27 +58,34 @@ impl<A: Allocator + Copy> Device<A> {
         ensures heard { OnErr result (BringsSomething self.old.net parcel.now.from parcel.now.to parcel.now.npdu) }
         ensures unchanged { OnErr result (self.new ≡ self.old) }
     {
-        let plan = self.plan_parcel(parcel, now)?;
+        let plan = self.plan_npdu(parcel.from, parcel.to, parcel.npdu.as_slice(), now)?;
         let told = self.commit(plan, now)?;
         Ok(told)
     }
 
-    /// What it does where it hears a parcel at the moment `now`, in milliseconds: `commit` does it. A parcel that
-    /// brings nothing to the device, for its header or its destination, is never refused.
+    /// What it does where it hears an NPDU from a station of its network, for one or all there, at the moment `now`, in
+    /// milliseconds: `commit` does it. One that brings nothing to the device, for its header or its destination, is
+    /// never refused.
     ///
     /// # Errors
     /// `Memory` alone.
     #[tactic(auto, using(crate::proofs::ServeLaws::heard_rules))]
-    pub fn plan_parcel(&self, parcel: &Parcel<A>, now: u64) -> Result<DevicePlan<A>, Fault>
-        ensures step { IfOk result (λ plan. DeviceHears now parcel.now.from parcel.now.to parcel.now.npdu self.now
+    pub fn plan_npdu(
+        &self,
+        from: Mac,
+        to: Target,
+        npdu: &[u8],
+        now: u64,
+    ) -> Result<DevicePlan<A>, Fault>
+        ensures step { IfOk result (λ plan. DeviceHears now from to npdu.now self.now
             (told_by plan) (left_by now plan self.now)) }
         ensures planned { IfOk result (IsPlanned now self.now) }
         ensures changes { IfOk result (λ plan. ChangesSomething plan.server →
-            BringsSomething self.now.net parcel.now.from parcel.now.to parcel.now.npdu) }
+            BringsSomething self.now.net from to npdu.now) }
         ensures cause { IfErr result (λ fault. fault ≡ Fault.Memory) }
-        ensures heard { OnErr result (BringsSomething self.now.net parcel.now.from parcel.now.to parcel.now.npdu) }
+        ensures heard { OnErr result (BringsSomething self.now.net from to npdu.now) }
     {
-        let Some(heard) = hear(self.net, parcel.from, parcel.to, parcel.npdu.as_slice()) else {
+        let Some(heard) = hear(self.net, from, to, npdu) else {
             return Ok(silence(self.alloc));
         };
         let origin = origin_of(&heard);

@@ -5,8 +5,8 @@ ghost use Rattle.std.specs.Prelude.{IfOk, OnOk};
 ghost use Rattle.std.specs.List.{AllByRecursion};
 ghost use Rattle.simulator.specs.carry_world.Laws.{IsLegal};
 ghost use Rattle.simulator.specs.Judged.{instances_of, judged_of};
-ghost use Rattle.simulator.specs.internetwork.Step.{IsSoundEvent};
-ghost use Rattle.simulator.specs.internetwork.World.{fresh_world};
+ghost use Rattle.simulator.specs.world.Step.{IsSoundEvent};
+ghost use Rattle.simulator.specs.world.World.{fresh_world};
 ghost use Rattle.simulator.specs.Runs.{Runs};
 
 use simulator::{Event, Flow, World};

@@ -1,3 +1,4 @@
 pub mod Step
+pub mod Up
 pub mod Limits
 pub mod Carrying

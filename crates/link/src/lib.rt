@@ -7,14 +7,17 @@
 //! datagrams nor frames.
 //!
 //! - `link`: the trait.
-//! - `step`: what comes of a call, and what is put out.
+//! - `step`: what is put out, and what an event changes of a link.
+//! - `up`: a message as it comes up from a network.
 //! - `limits`: what a network carries.
 #![tactic(auto)]
 
 mod limits;
 mod link;
 mod step;
+mod up;
 
 pub use limits::{is_target, max_npdu_at};
 pub use link::Link;
-pub use step::{LinkStep, Sent};
+pub use step::{Change, PortSent, Sent};
+pub use up::Up;

@@ -1,22 +1,30 @@
 //! Links, and the law that all of them keep.
 
-ghost use Rattle.std.specs.Prelude.{◌≡◌, ◌≢◌, ◌<◌, ◌≤◌, ◌⊎◌, ℕ, Bool, true, false, List, IfOk, IfErr, OnErr, length};
+ghost use Rattle.std.specs.Prelude.{◌≡◌, ◌≢◌, ◌<◌, ◌≤◌, ◌⊎◌, ℕ, Bool, true, false, List, None, IfOk, IfErr, OnOk, OnErr};
+ghost use Rattle.std.specs.Prelude.{length};
 ghost use Rattle.npdu.specs.declared.mac.Mac.{Mac};
 ghost use Rattle.npdu.specs.declared.mac.Station.{Station};
 ghost use Rattle.npdu.specs.declared.parcel.Parcel.{Parcel};
 ghost use Rattle.profile.specs.Times.{MAX_MOMENT_MS};
 ghost use Rattle.tags.specs.declared.fault.Fault.{Fault};
-ghost use Rattle.link.specs.Step.{LinkStep};
+ghost use Rattle.link.specs.Up.{parcel_if};
+ghost use Rattle.link.specs.Step.{LinkStep, PutsOver, step_of};
+ghost use Rattle.link.specs.declared.step.Change.{Change};
 ghost use Rattle.link.specs.Carrying.{CarriesDown, CarriesOn, CarriesUp, Restarts, nothing};
 ghost use Rattle.link.specs.Limits.{max_npdu_at};
 
-use crate::step::LinkStep;
+use crate::step::{Change, PortSent};
+use crate::up::Up;
 use npdu::{Mac, Parcel, Station};
 use std::alloc::{AllocError, Allocator};
-use tags::Fault;
+use tags::{Fault, Items};
 
-/// One end of a network: where a station's parcels go down to it and come up from it. After want of memory a link may
-/// hold any state, and isn't used again; after any other refusal it is as it was.
+/// One end of a network: where a station's parcels go down to it and come up from it.
+///
+/// A call of an event changes no link: what it changes stands in a `Change`, which further calls of that event go on
+/// from, and is made by `settle` once the event can't be refused any more. What is put out is appended to a list that
+/// is lent. After want of memory the change and what was appended may be anything that the list began with, and the
+/// event is given up; after any other refusal both are as they were.
 pub trait Link<A: Allocator> {
     /// The network, and this station's address on it.
     ghost station: { Self → Station };
@@ -57,6 +65,9 @@ pub trait Link<A: Allocator> {
     /// The same at a later moment.
     ghost at: { ℕ → Self → Self };
 
+    /// It as what an event at a moment changes of it leaves it.
+    ghost changed: { ℕ → Self → Change Self → Self };
+
     /// The network, and this station's address on it (6.1).
     fn station(&self) -> Station
         ensures { result ≡ station self.now };
@@ -74,73 +85,123 @@ pub trait Link<A: Allocator> {
         Self: Sized,
         ensures { IfOk result (λ copy. copy ≡ self.now) };
 
-    /// Hands a parcel down at the moment `now`, in milliseconds. A parcel from another address than the link's, or for
-    /// an address of another kind, is dropped.
+    /// Hands a parcel down at the moment `now`, in milliseconds, and appends what is put out over the port of this
+    /// number. A parcel from another address than the link's, or for an address of another kind, is dropped.
     ///
     /// # Errors
-    /// `TooLong` for an NPDU that the network doesn't carry; or `Memory`.
-    fn down(&mut self, parcel: &Parcel<A>, now: u64) -> Result<LinkStep<A>, Fault>
+    /// `TooLong` for an NPDU that the network doesn't carry: nothing is appended then; or `Memory`.
+    fn down(
+        &self,
+        change: &mut Change<Self>,
+        parcel: &Parcel<A>,
+        port: usize,
+        now: u64,
+        out: &mut Items<PortSent<A>, A>,
+    ) -> Result<(), Fault>
+    where
+        Self: Sized,
         requires greatest { now ≤ MAX_MOMENT_MS }
-        requires order { moment self.old ≤ now }
-        ensures step { IfOk result (λ step. downs now parcel.now self.old step self.new) }
-        ensures cause { IfErr result (λ fault. (fault ≡ Fault.Memory) ⊎
-            ((fault ≡ Fault.TooLong) × (max_npdu_at (station self.old).mac < length parcel.now.npdu))) }
-        ensures unchanged { IfErr result (λ fault. fault ≢ Fault.Memory → self.new ≡ self.old) };
+        requires order { moment (changed now self.now change.old) ≤ now }
+        ensures step { OnOk result (downs now parcel.now (changed now self.now change.old)
+            (step_of None out.old out.new) (changed now self.now change.new)) }
+        ensures over { PutsOver port out.old out.new }
+        ensures cause { IfErr result (λ fault. (fault ≡ Fault.Memory) ⊎ ((fault ≡ Fault.TooLong) ×
+            (max_npdu_at (station (changed now self.now change.old)).mac < length parcel.now.npdu))) }
+        ensures unchanged { IfErr result (λ fault. fault ≢ Fault.Memory →
+            (changed now self.now change.new ≡ changed now self.now change.old) × (out.new ≡ out.old)) };
 
     /// Hears a whole datagram or frame from an address on the network, said at the moment `stamp`, at the moment
-    /// `now`, in milliseconds. What comes from an address of another kind is dropped.
+    /// `now`, in milliseconds: hands up what is in it for this station, and appends what is put out over the port of
+    /// this number. What comes from an address of another kind is dropped.
     ///
     /// # Errors
-    /// What a reader of such octets refuses; or `Memory`.
-    fn heard(
-        &mut self,
+    /// What a reader of such octets refuses: nothing is appended then; or `Memory`.
+    fn heard<'o>(
+        &self,
+        change: &mut Change<Self>,
         from: Mac,
-        octets: &[u8],
+        octets: &'o [u8],
         stamp: u64,
+        port: usize,
         now: u64,
-    ) -> Result<LinkStep<A>, Fault>
+        out: &mut Items<PortSent<A>, A>,
+    ) -> Result<Option<Up<'o>>, Fault>
+    where
+        Self: Sized,
         requires greatest { now ≤ MAX_MOMENT_MS }
-        requires order { moment self.old ≤ now }
-        ensures step { IfOk result (λ step. hears now from octets.now stamp self.old step self.new) }
-        ensures cause { IfErr result (λ fault. (fault ≡ Fault.Memory) ⊎ refuses fault from octets.now) }
-        ensures unchanged { IfErr result (λ fault. fault ≢ Fault.Memory → self.new ≡ self.old) };
+        requires order { moment (changed now self.now change.old) ≤ now }
+        ensures step { IfOk result (λ up. hears now from octets.entry.now stamp (changed now self.now change.old)
+            (step_of (parcel_if up) out.old out.new) (changed now self.now change.new)) }
+        ensures over { PutsOver port out.old out.new }
+        ensures cause { IfErr result (λ fault. (fault ≡ Fault.Memory) ⊎ refuses fault from octets.entry.now) }
+        ensures unchanged { IfErr result (λ fault. fault ≢ Fault.Memory →
+            (changed now self.now change.new ≡ changed now self.now change.old) × (out.new ≡ out.old)) };
 
-    /// Wakes at the moment `now`, in milliseconds.
+    /// Wakes at the moment `now`, in milliseconds, and appends what is put out over the port of this number.
     ///
     /// # Errors
     /// `Memory` alone, and only where something is due.
-    fn on_tick(&mut self, now: u64) -> Result<LinkStep<A>, Fault>
+    fn on_tick(
+        &self,
+        change: &mut Change<Self>,
+        port: usize,
+        now: u64,
+        out: &mut Items<PortSent<A>, A>,
+    ) -> Result<(), Fault>
+    where
+        Self: Sized,
         requires greatest { now ≤ MAX_MOMENT_MS }
-        requires order { moment self.old ≤ now }
-        ensures step { IfOk result (λ step. wakes now self.old step self.new) }
+        requires order { moment (changed now self.now change.old) ≤ now }
+        ensures step { OnOk result (wakes now (changed now self.now change.old)
+            (step_of None out.old out.new) (changed now self.now change.new)) }
+        ensures over { PutsOver port out.old out.new }
         ensures cause { IfErr result (λ fault. fault ≡ Fault.Memory) }
-        ensures due { OnErr result (is_due now self.old ≡ true) };
+        ensures due { OnErr result (is_due now (changed now self.now change.old) ≡ true) };
 
     /// Whether anything is due where it wakes at the moment `now`, in milliseconds. It takes no memory.
     fn is_due(&self, now: u64) -> bool
         ensures { result ≡ is_due now self.now };
 
     /// So many octets, at least one, are heard on its network at the moment `now`, in milliseconds, in a frame or not
-    /// (9.5.2). A link without octets of its own stays as it was.
+    /// (9.5.2). A link without octets of its own comes to that moment. Nothing is put out.
     ///
     /// # Errors
     /// `Memory` alone.
-    fn on_octets(&mut self, count: usize, now: u64) -> Result<LinkStep<A>, Fault>
+    fn on_octets(&self, change: &mut Change<Self>, count: usize, now: u64) -> Result<(), Fault>
+    where
+        Self: Sized,
         requires greatest { now ≤ MAX_MOMENT_MS }
-        requires order { moment self.old ≤ now }
-        ensures step { IfOk result (λ step. counts count now self.old step self.new) }
+        requires order { moment (changed now self.now change.old) ≤ now }
+        ensures step { OnOk result (counts count now (changed now self.now change.old) nothing
+            (changed now self.now change.new)) }
         ensures cause { IfErr result (λ fault. fault ≡ Fault.Memory) };
 
-    /// Registers at the moment `now`, in milliseconds, at the broadcast manager that it is a foreign device of (J.5.2).
-    /// Another link says nothing.
+    /// Registers at the moment `now`, in milliseconds, at the broadcast manager that it is a foreign device of, and
+    /// appends what is put out over the port of this number (J.5.2). Another link says nothing.
     ///
     /// # Errors
     /// `Memory` alone.
-    fn register(&mut self, now: u64) -> Result<LinkStep<A>, Fault>
+    fn register(
+        &self,
+        change: &mut Change<Self>,
+        port: usize,
+        now: u64,
+        out: &mut Items<PortSent<A>, A>,
+    ) -> Result<(), Fault>
+    where
+        Self: Sized,
         requires greatest { now ≤ MAX_MOMENT_MS }
-        requires order { moment self.old ≤ now }
-        ensures step { IfOk result (λ step. registers now self.old step self.new) }
+        requires order { moment (changed now self.now change.old) ≤ now }
+        ensures step { OnOk result (registers now (changed now self.now change.old)
+            (step_of None out.old out.new) (changed now self.now change.new)) }
+        ensures over { PutsOver port out.old out.new }
         ensures cause { IfErr result (λ fault. fault ≡ Fault.Memory) };
+
+    /// Settles: what an event at the moment `now`, in milliseconds, changes of it is made. It takes no memory.
+    fn settle(&mut self, change: Change<Self>, now: u64)
+    where
+        Self: Sized,
+        ensures { self.new ≡ changed now self.old change };
 
     /// Restarts at the moment `now`, in milliseconds: what waited is gone. It takes no memory, and says nothing.
     fn restart(&mut self, now: u64)
@@ -183,6 +244,9 @@ pub trait Link<A: Allocator> {
     /// Where nothing is due, a wake says nothing, and changes the moment alone.
     ghost idles: { (now : ℕ) (old : Self) (step : LinkStep A) (new : Self) → is_due now old ≡ false →
         wakes now old step new → (step ≡ nothing) × (new ≡ at now old) };
+
+    /// Where an event changes nothing of it, it is as it was.
+    ghost stands: { (now : ℕ) (old : Self) → changed now old Change.Nothing ≡ old };
 
     /// The same at a later moment is at the same place, and the same waits there.
     ghost stays: { (now : ℕ) (old : Self) → (station (at now old) ≡ station old) × (moment (at now old) ≡ now) ×

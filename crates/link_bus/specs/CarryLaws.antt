@@ -16,6 +16,7 @@ use Rattle.inside.specs.Inside.{Reaches}
 use Rattle.link.specs.Carrying.{AreKept, CarriesDown, CarriesOn, CarriesUp, HandsUpIf, PutAll, Puts, Restarts, nothing}
 use Rattle.link.specs.Limits.{is_target, max_npdu_at}
 use Rattle.link.specs.Step.{LinkStep}
+use Rattle.link.specs.declared.step.Change.TheVariants.{Nothing}
 use Rattle.link.specs.declared.step.Sent.{Sent}
 use Rattle.mstp_frame.proofs.Spellings.{canonical_spells, one_frame}
 use Rattle.mstp_frame.specs.Frame.{PlainFrame, Spells, canonical}
@@ -39,7 +40,7 @@ use Rattle.npdu.specs.declared.mac.Target.TheVariants as target
 use Rattle.npdu.specs.declared.parcel.Parcel.{Parcel}
 use Rattle.link_bus.specs.FrameLaws.{canonical_once}
 use Rattle.link_bus.specs.Laws.{DataCarry}
-use Rattle.link_bus.specs.Port.{BusPortState, at_moment, moment_of, restarted, station_of, waiting_in, with_node}
+use Rattle.link_bus.specs.Port.{BusPortState, at_moment, changed, moment_of, restarted, station_of, waiting_in, with_node}
 use Rattle.link_bus.specs.Steps.{Counts, Does, Downs, Hears, HearsFrame, HearsNone, Idles, IsOnBus, Wakes, handed_up}
 use Rattle.link_bus.specs.Steps.{is_due, is_taken, queued_if}
 
@@ -371,3 +372,6 @@ module _ {A : Type 0} where
       (station_of (at_moment now old) ≡ station_of old) × (moment_of (at_moment now old) ≡ now) ×
       (waiting_in (at_moment now old) ≡ waiting_in old)
   stays now old = (refl, refl, refl)
+
+  pub stands : (now : ℕ) (old : BusPortState A) → changed now old Nothing ≡ old
+  stands now old = refl

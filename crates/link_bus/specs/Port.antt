@@ -1,5 +1,7 @@
 -- A port on a bus of MS/TP: its network, and its node there (9.5).
 use Rattle.std.specs.Prelude.{ℕ, List}
+use Rattle.link.specs.declared.step.Change.{Change}
+use Rattle.link.specs.declared.step.Change.TheVariants.{Nothing, Moment, Whole}
 use Rattle.mstp_table.specs.Node.{NodeState, parcels_in}
 use Rattle.mstp_table.specs.Table as node
 use Rattle.mstp_table.specs.Table.{made}
@@ -35,6 +37,12 @@ with_node port s = record port { node = s }
 -- the same at a later moment
 abbrev pub at_moment : {A : Type 0} → ℕ → BusPortState A → BusPortState A
 at_moment now port = with_node port (node.at_moment port.node now)
+
+-- it as an event at a moment leaves it
+abbrev pub changed : {A : Type 0} → ℕ → BusPortState A → Change (BusPortState A) → BusPortState A
+changed now port Nothing = port
+changed now port Moment = at_moment now port
+changed now port (Whole other) = other
 
 -- after a restart at a moment: its node is as one made then, and nothing waits (9.5.6, Initialize)
 abbrev pub restarted : {A : Type 0} → ℕ → BusPortState A → BusPortState A

@@ -1,12 +1,15 @@
 //! The port, and its calls.
 
-use crate::hearing::handed_up;
-use link::{LinkStep, is_target, max_npdu_at};
+ghost use Rattle.std.specs.Prelude.{◌≡◌, ◌++◌, OnOk};
+ghost use Rattle.link.specs.Step.{PutsOver, over_port};
+
+use link::{Change, PortSent, Sent, Up, is_target};
 use mstp_frame::Frame;
 use mstp_node::Node;
 use npdu::{Mac, Parcel, Station};
 use std::alloc::{AllocError, Allocator};
 use std::marker::Model;
+use std::mem;
 use tags::{Fault, Items};
 
 /// A port on a bus of MS/TP: one end of it, at an address, with its node there. What is handed down waits in the node
@@ -27,15 +30,16 @@ impl<A: Allocator> Model for BusPort<A> {
 }
 
 impl<A: Allocator + Copy> BusPort<A> {
-    ghost use Rattle.std.specs.Prelude.{◌≡◌, ◌≢◌, ◌<◌, ◌≤◌, ◌⊎◌, true, IfOk, IfErr, OnErr, length};
+    ghost use Rattle.std.specs.Prelude.{◌≡◌, ◌≤◌, false, None, IfOk, IfErr, OnOk, length};
     ghost use Rattle.link.specs.Carrying as carrying;
     ghost use Rattle.link.specs.Limits.{max_npdu_at};
-    ghost use Rattle.link_bus.specs.Port.{at_moment, moment_of, new_port, restarted, station_of};
+    ghost use Rattle.link.specs.Step.{PutsOver, step_of};
+    ghost use Rattle.link_bus.specs.Port.{at_moment, changed, moment_of, new_port, restarted, station_of};
     ghost use Rattle.link_bus.specs.Steps as spec;
-    ghost use Rattle.link_bus.specs.Steps.{Counts, Downs, Hears, HearsIt, Idles, Wakes};
+    ghost use Rattle.link_bus.specs.Steps.{Counts, Downs, Hears, HearsIt, Wakes};
     ghost use Rattle.mstp_table.specs.Node.{named};
+    ghost use Rattle.link.specs.Up.{parcel_if};
     ghost use Rattle.profile.specs.Limits as limit;
-    ghost use Rattle.profile.specs.Times.{MAX_MOMENT_MS};
 
     /// A port on the network of this number, 1 to 65534, at this address, 0 to 127, made at the moment `now`, in
     /// milliseconds (9.5.2).
@@ -80,19 +84,55 @@ impl<A: Allocator + Copy> BusPort<A> {
         })
     }
 
-    /// Nothing is put out or handed up.
-    fn nothing(&self) -> LinkStep<A>
-        ensures { result ≡ carrying.nothing }
+    /// The port that an event so far leaves, to be changed further: an equal one of its own where none is there yet.
+    ///
+    /// # Errors
+    /// Want of memory.
+    pub(crate) fn changing(&self, change: &mut Change<Self>, now: u64) -> Result<Self, AllocError>
+        ensures { IfOk result (λ port. port ≡ changed now self.now change.old) }
     {
-        LinkStep {
-            up: None,
-            out: Items::new(self.alloc),
+        match mem::replace(change, Change::Nothing) {
+            Change::Nothing => self.copy(),
+            Change::Moment => {
+                let mut port = self.copy()?;
+                port.come_to(now);
+                Ok(port)
+            }
+            Change::Whole(port) => Ok(port),
         }
+    }
+
+    /// Whether anything is due where the port wakes that an event so far leaves.
+    pub(crate) fn is_due_after(&self, change: &Change<Self>, now: u64) -> bool
+        ensures { result ≡ spec.is_due now (changed now self.now change.now) }
+    {
+        match change {
+            Change::Nothing | Change::Moment => self.node.is_due(now),
+            Change::Whole(port) => port.node.is_due(now),
+        }
+    }
+
+    /// The port that an event so far leaves comes to the moment `now`, in milliseconds. It takes no memory.
+    pub(crate) fn come_later(&self, change: &mut Change<Self>, now: u64)
+        ensures { changed now self.now change.new ≡ at_moment now (changed now self.now change.old) }
+    {
+        match change {
+            Change::Nothing | Change::Moment => *change = Change::Moment,
+            Change::Whole(port) => port.come_to(now),
+        }
+    }
+
+    /// Wakes where nothing is due: it comes to that moment, and no more. It takes no memory.
+    pub(crate) fn rest(&self, change: &mut Change<Self>, now: u64)
+        requires quiet { spec.is_due now (changed now self.now change.old) ≡ false }
+        ensures { Wakes now (changed now self.now change.old) carrying.nothing (changed now self.now change.new) }
+    {
+        self.come_later(change, now);
     }
 
     /// Comes to the moment `now`, in milliseconds: no octets are heard.
     #[tactic(auto, unfolding(mstp_table::specs::Table::after_octets))]
-    fn come_to(&mut self, now: u64)
+    pub(crate) fn come_to(&mut self, now: u64)
         ensures { self.new ≡ at_moment now self.old }
     {
         self.node.on_octets(0, now);
@@ -106,84 +146,90 @@ impl<A: Allocator + Copy> BusPort<A> {
         parcel.from == own && is_target(own, parcel.to)
     }
 
-    /// Queues a parcel at the moment `now`, in milliseconds, until the node has the token (9.5.6, Use_Token). A parcel
-    /// from another address than the port's, or for an address of another kind, is dropped. Nothing is put out.
+    /// Queues a parcel at the moment `now`, in milliseconds, until the node has the token (9.5.6, Use_Token).
     ///
     /// # Errors
-    /// `TooLong` for an NPDU of more than 501 octets: the port is then as it was. Or `Memory`.
+    /// Want of memory.
     #[tactic(auto, unfolding(mstp_table::specs::Table::step))]
-    pub fn down(&mut self, parcel: &Parcel<A>, now: u64) -> Result<LinkStep<A>, Fault>
-        requires greatest { now ≤ MAX_MOMENT_MS }
-        requires order { moment_of self.old ≤ now }
-        ensures step { IfOk result (λ step. Downs now parcel.now self.old step self.new) }
-        ensures cause { IfErr result (λ fault. (fault ≡ Fault.Memory) ⊎
-            ((fault ≡ Fault.TooLong) × (max_npdu_at (station_of self.old).mac < length parcel.now.npdu))) }
-        ensures unchanged { IfErr result (λ fault. fault ≢ Fault.Memory → self.new ≡ self.old) }
+    pub(crate) fn queue(&mut self, parcel: &Parcel<A>, now: u64) -> Result<(), AllocError>
+        requires fits { length parcel.now.npdu ≤ max_npdu_at (station_of self.old).mac }
+        ensures { OnOk result (Downs now parcel.now self.old carrying.nothing self.new) }
     {
-        if parcel.npdu.len() > usize::from(max_npdu_at(self.station().mac)) {
-            return Err(Fault::TooLong);
-        }
         let is_taken = self.is_taken(parcel);
         self.come_to(now);
         if is_taken {
             self.node.queue(parcel)?;
         }
-        Ok(self.nothing())
+        Ok(())
     }
 
-    /// Hears the octets of a whole frame from an address on the bus, said at the moment `stamp`, at the moment `now`,
-    /// in milliseconds. Its data are handed up where the node does so, whatever is in them (9.5.6). What is no frame,
-    /// or comes from an address of another kind, is dropped.
+    /// Hears the octets of a whole frame, and puts out over the port of this number what its node says to it.
     ///
     /// # Errors
     /// `Memory` alone.
-    pub fn heard(
+    #[tactic(auto, using(crate::proofs::Doing::doing_rules))]
+    pub(crate) fn hear<'o>(
         &mut self,
         from: Mac,
-        octets: &[u8],
+        octets: &'o [u8],
         stamp: u64,
+        port: usize,
         now: u64,
-    ) -> Result<LinkStep<A>, Fault>
-        requires greatest { now ≤ MAX_MOMENT_MS }
-        requires order { moment_of self.old ≤ now }
-        ensures step { IfOk result (λ step. Hears now from octets.now stamp self.old step self.new) }
+        out: &mut Items<PortSent<A>, A>,
+    ) -> Result<Option<Up<'o>>, Fault>
+        ensures hears { IfOk result (λ up. Hears now from octets.entry.now stamp self.old
+            (step_of (parcel_if up) out.old out.new) self.new) }
+        ensures over { PutsOver port out.old out.new }
         ensures memory { IfErr result (λ fault. fault ≡ Fault.Memory) }
     {
         match (from, Frame::read(octets)) {
-            (Mac::One(_), Some(frame)) => self.hear(&frame, stamp, now),
+            (Mac::One(_), Some(frame)) => self.hear_frame(&frame, stamp, port, now, out),
             (Mac::One(_), None) | (Mac::Six(_), _) => {
                 self.come_to(now);
-                Ok(self.nothing())
+                Ok(None)
             }
         }
     }
 
     /// Hears a frame of at most 501 octets of data.
-    #[tactic(auto, unfolding(mstp_table::specs::Table::step))]
-    fn hear(&mut self, frame: &Frame<'_>, stamp: u64, now: u64) -> Result<LinkStep<A>, Fault>
+    #[tactic(auto, unfolding(mstp_table::specs::Table::step), using(crate::proofs::Doing::doing_rules))]
+    fn hear_frame<'o>(
+        &mut self,
+        frame: &Frame<'o>,
+        stamp: u64,
+        port: usize,
+        now: u64,
+        out: &mut Items<PortSent<A>, A>,
+    ) -> Result<Option<Up<'o>>, Fault>
         requires { length (named frame.now).contents ≤ limit.MAX_FRAME_DATA_OCTETS }
-        ensures does { IfOk result (λ step. HearsIt now (named frame.now) stamp self.old step self.new) }
+        ensures does { IfOk result (λ up. HearsIt now (named frame.now) stamp self.old
+            (step_of (parcel_if up) out.old out.new) self.new) }
+        ensures over { PutsOver port out.old out.new }
         ensures memory { IfErr result (λ fault. fault ≡ Fault.Memory) }
     {
         let step = self.node.on_frame(frame, now)?;
-        let up = handed_up(self.alloc, step.hands_up, frame, stamp)?;
-        Ok(LinkStep { up, out: step.out })
+        put_over(port, step.out, out)?;
+        Ok(self.handed_up(step.hands_up, frame, stamp))
     }
 
     /// Wakes at the moment `now`, in milliseconds, and puts out the frames of its node (9.5.6).
     ///
     /// # Errors
     /// `Memory` alone, and only where something is due.
-    #[tactic(auto, unfolding(mstp_table::specs::Table::step))]
-    pub fn on_tick(&mut self, now: u64) -> Result<LinkStep<A>, Fault>
-        requires greatest { now ≤ MAX_MOMENT_MS }
-        requires order { moment_of self.old ≤ now }
-        ensures step { IfOk result (λ step. Wakes now self.old step self.new) }
+    #[tactic(auto, unfolding(mstp_table::specs::Table::step), using(crate::proofs::Doing::doing_rules))]
+    pub(crate) fn wake(
+        &mut self,
+        port: usize,
+        now: u64,
+        out: &mut Items<PortSent<A>, A>,
+    ) -> Result<(), Fault>
+        ensures wakes { OnOk result (Wakes now self.old (step_of None out.old out.new) self.new) }
+        ensures over { PutsOver port out.old out.new }
         ensures memory { IfErr result (λ fault. fault ≡ Fault.Memory) }
-        ensures due { OnErr result (spec.is_due now self.old ≡ true) }
     {
-        let out = self.node.on_tick(now)?;
-        Ok(LinkStep { up: None, out })
+        let frames = self.node.on_tick(now)?;
+        put_over(port, frames, out)?;
+        Ok(())
     }
 
     /// Whether anything is due where it wakes at the moment `now`, in milliseconds. It takes no memory.
@@ -196,32 +242,33 @@ impl<A: Allocator + Copy> BusPort<A> {
     /// So many octets are heard on the bus at the moment `now`, in milliseconds, in a frame or not: the port is told of
     /// them before the frame that they end (9.5.2). No octets are no input. It takes no memory.
     #[tactic(auto, unfolding(mstp_table::specs::Table::step))]
-    pub fn on_octets(&mut self, count: usize, now: u64) -> LinkStep<A>
-        requires greatest { now ≤ MAX_MOMENT_MS }
-        requires order { moment_of self.old ≤ now }
-        ensures { Counts count now self.old result self.new }
+    pub(crate) fn count(&mut self, count: usize, now: u64)
+        ensures { Counts count now self.old carrying.nothing self.new }
     {
         self.node.on_octets(count, now);
-        self.nothing()
-    }
-
-    /// There is no manager to register at: nothing is said, and the moment alone is another.
-    pub fn register(&mut self, now: u64) -> LinkStep<A>
-        requires greatest { now ≤ MAX_MOMENT_MS }
-        requires order { moment_of self.old ≤ now }
-        ensures { Idles now self.old result self.new }
-    {
-        self.come_to(now);
-        self.nothing()
     }
 
     /// Restarts at the moment `now`, in milliseconds: what waited is gone, and the node is as one just made, its
     /// silence counting from then (9.5.6, Initialize). It takes no memory.
-    pub fn restart(&mut self, now: u64)
-        requires greatest { now ≤ MAX_MOMENT_MS }
-        requires order { moment_of self.old ≤ now }
+    pub(crate) fn begin_anew(&mut self, now: u64)
         ensures { self.new ≡ restarted now self.old }
     {
         self.node.restart(now);
     }
+}
+
+/// All of these go out over a port, in order.
+#[tactic(auto, using(crate::proofs::Doing::doing_rules))]
+fn put_over<A: Allocator>(
+    port: usize,
+    all: Items<Sent<A>, A>,
+    out: &mut Items<PortSent<A>, A>,
+) -> Result<(), AllocError>
+    ensures put { OnOk result (out.new ≡ out.old ++ over_port port all) }
+    ensures over { PutsOver port out.old out.new }
+{
+    for sent in all.into_vec() {
+        out.push(PortSent { port, sent })?;
+    }
+    Ok(())
 }

@@ -15,12 +15,13 @@ use Rattle.inside.proofs.Insides.{some_same}
 use Rattle.link.specs.Carrying.{AreKept, CarriesDown, CarriesOn, CarriesUp, HandsUpIf, PutAll, Puts, Restarts, nothing}
 use Rattle.link.specs.Limits.{max_npdu_at}
 use Rattle.link.specs.Step.{LinkStep}
+use Rattle.link.specs.declared.step.Change.TheVariants.{Nothing}
 use Rattle.link.specs.declared.step.Sent.{Sent}
 use Rattle.npdu.specs.declared.mac.Mac.{Mac}
 use Rattle.npdu.specs.declared.mac.Mac.TheVariants.{One, Six}
 use Rattle.npdu.specs.declared.parcel.Parcel.{Parcel}
 use Rattle.link_ip.specs.Hearing.{IsHeard, handed_up}
-use Rattle.link_ip.specs.Port.{IpPortState, at_moment, moment_of, station_of, waiting_in}
+use Rattle.link_ip.specs.Port.{IpPortState, at_moment, changed, moment_of, station_of, waiting_in}
 use Rattle.link_ip.specs.Saying.{is_taken, put_out_if, registration, sent, thing_of}
 use Rattle.link_ip.specs.Steps.{Counts, Downs, Hears, Idles, Registers, is_due}
 use Rattle.link_ip.specs.declared.port.Reach.{Reach}
@@ -151,3 +152,6 @@ module _ {A : Type 0} where
       (station_of (at_moment now old) ≡ station_of old) × (moment_of (at_moment now old) ≡ now) ×
       (waiting_in (at_moment now old) ≡ waiting_in old)
   stays now old = (refl, refl, refl)
+
+  pub stands : (now : ℕ) (old : IpPortState A) → changed now old Nothing ≡ old
+  stands now old = refl

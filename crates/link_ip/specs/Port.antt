@@ -3,6 +3,8 @@ use Rattle.std.specs.Prelude.{ℕ, Bool, true, false, List, [], map}
 use Rattle.bvll.specs.declared.address.Address.{Address}
 use Rattle.carry.specs.Datagrams.{mac_at}
 use Rattle.carry.specs.Ports as carry
+use Rattle.link.specs.declared.step.Change.{Change}
+use Rattle.link.specs.declared.step.Change.TheVariants.{Nothing, Moment, Whole}
 use Rattle.npdu.specs.declared.mac.Station.{Station}
 use Rattle.npdu.specs.declared.parcel.Parcel.{Parcel}
 use Rattle.link_ip.specs.declared.port.Reach.{Reach}
@@ -33,6 +35,12 @@ waiting_in port = []
 -- the same at a later moment
 abbrev pub at_moment : {A : Type 0} → ℕ → IpPortState A → IpPortState A
 at_moment now port = record port { moment = now }
+
+-- it as an event at a moment leaves it: no call changes more than its moment
+abbrev pub changed : {A : Type 0} → ℕ → IpPortState A → Change (IpPortState A) → IpPortState A
+changed now port Nothing = port
+changed now port Moment = at_moment now port
+changed now port (Whole other) = at_moment now port
 
 -- it is a foreign device's, which registers at a manager (J.5.2)
 abbrev pub is_foreign : {A : Type 0} → Reach A → Bool

@@ -1,6 +1,6 @@
 -- What a port puts out (J.2, J.4.5, J.5.2).
 use Rattle.std.specs.Prelude.{◌≡◌, ℕ, ◌&&◌, Bool, true, false, List, [], ◌∷◌, map, refl}
-use Rattle.bvll.specs.Datagram.{Datagram, canonical, register}
+use Rattle.bvll.specs.Datagram.{Datagram, broadcast, canonical, distribute, register, unicast}
 use Rattle.carry.specs.Datagrams.{mac_at}
 use Rattle.carry.specs.Ports.{down}
 use Rattle.carry.specs.Things.{SentDatagram, Thing}
@@ -9,6 +9,8 @@ use Rattle.link.specs.declared.step.Sent.{Sent}
 use Rattle.npdu.specs.Mac.{same_mac}
 use Rattle.npdu.specs.declared.mac.Mac.{Mac}
 use Rattle.npdu.specs.declared.mac.Station.{Station}
+use Rattle.npdu.specs.declared.mac.Target.{Target}
+use Rattle.npdu.specs.declared.mac.Target.TheVariants as target
 use Rattle.npdu.specs.declared.parcel.Parcel.{Parcel}
 use Rattle.link_ip.specs.Port.{IpPortState, port_of, station_of}
 use Rattle.link_ip.specs.declared.port.Reach.{Reach}
@@ -38,6 +40,21 @@ put_out port p = put_out_if (is_taken port p) port p
 -- a datagram to an address, said at a moment
 abbrev pub sent : {A : Type 0} → Mac → Datagram → ℕ → Sent A
 sent to d stamp = record { to = to; octets = canonical d; stamp = stamp }
+
+-- the datagrams of a parcel to a target, each with its stamp (J.2.10 to J.2.12)
+abbrev pub datagrams : {A : Type 0} → Reach A → Target → Parcel A → List (Sent A)
+datagrams reach (target.One to) p = sent to (unicast p.npdu) p.stamp ∷ []
+datagrams (Members others) target.All p = map (λ other. sent (mac_at other) (broadcast p.npdu) p.stamp) others
+datagrams (Foreign manager seconds_to_live) target.All p = sent (mac_at manager) (distribute p.npdu) p.stamp ∷ []
+
+-- those of a parcel that a port takes
+abbrev pub says_if : {A : Type 0} → (taken : Bool) → IpPortState A → Parcel A → List (Sent A)
+says_if true port p = datagrams port.reach p.to p
+says_if false port p = []
+
+-- those of a parcel that is handed down: as things on their way, `put_out`
+abbrev pub says : {A : Type 0} → IpPortState A → Parcel A → List (Sent A)
+says port p = says_if (is_taken port p) port p
 
 -- what a port says where it registers: a foreign device its seconds to live to its manager (J.5.2)
 abbrev pub registration : {A : Type 0} → Reach A → ℕ → List (Sent A)

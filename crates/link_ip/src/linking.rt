@@ -1,16 +1,17 @@
 //! The port as a link.
 
 use crate::port::IpPort;
-use link::{Link, LinkStep};
+use link::{Change, Link, PortSent, Up, max_npdu_at};
 use npdu::{Mac, Parcel, Station};
 use std::alloc::{AllocError, Allocator};
-use tags::Fault;
+use tags::{Fault, Items};
 
 impl<A: Allocator + Copy> Link<A> for IpPort<A> {
+    ghost use Rattle.std.specs.Prelude.{◌≡◌};
     ghost use Rattle.carry.specs.Datagrams.{IsDatagramOf};
     ghost use Rattle.link_ip.specs.CarryLaws as laws;
     ghost use Rattle.link_ip.specs.Hearing.{IsRefused};
-    ghost use Rattle.link_ip.specs.Port.{at_moment, moment_of, station_of, waiting_in};
+    ghost use Rattle.link_ip.specs.Port.{at_moment, changed, moment_of, station_of, waiting_in};
     ghost use Rattle.link_ip.specs.Steps as steps;
     ghost use Rattle.link_ip.specs.Steps.{Counts, Downs, Hears, Idles, Registers};
 
@@ -40,6 +41,8 @@ impl<A: Allocator + Copy> Link<A> for IpPort<A> {
 
     ghost at = { at_moment };
 
+    ghost changed = { changed };
+
     ghost one_parcel = { laws.one_parcel };
 
     ghost keeps_stamp = { laws.keeps_stamp };
@@ -58,6 +61,8 @@ impl<A: Allocator + Copy> Link<A> for IpPort<A> {
 
     ghost idles = { laws.idles };
 
+    ghost stands = { laws.stands };
+
     ghost stays = { laws.stays };
 
     fn station(&self) -> Station {
@@ -72,40 +77,91 @@ impl<A: Allocator + Copy> Link<A> for IpPort<A> {
         IpPort::copy(self)
     }
 
-    fn down(&mut self, parcel: &Parcel<A>, now: u64) -> Result<LinkStep<A>, Fault> {
-        let step = IpPort::down(self, parcel, now)?;
-        Ok(step)
-    }
-
-    fn heard(
-        &mut self,
-        from: Mac,
-        octets: &[u8],
-        stamp: u64,
+    /// Puts a parcel out: to one station an Original-Unicast-NPDU, to all stations an Original-Broadcast-NPDU for each
+    /// other member of the subnet, or, as a foreign device, one Distribute-Broadcast-To-Network to the manager (J.4.5,
+    /// J.5).
+    #[tactic(auto, using(crate::proofs::Sending::link_rules))]
+    fn down(
+        &self,
+        change: &mut Change<Self>,
+        parcel: &Parcel<A>,
+        port: usize,
         now: u64,
-    ) -> Result<LinkStep<A>, Fault> {
-        let step = IpPort::heard(self, from, octets, stamp, now)?;
-        Ok(step)
+        out: &mut Items<PortSent<A>, A>,
+    ) -> Result<(), Fault> {
+        if parcel.npdu.len() > usize::from(max_npdu_at(self.station().mac)) {
+            return Err(Fault::TooLong);
+        }
+        self.put_out(parcel, port, out)?;
+        *change = Change::Moment;
+        Ok(())
     }
 
-    fn on_tick(&mut self, now: u64) -> Result<LinkStep<A>, Fault> {
-        Ok(IpPort::on_tick(self, now))
+    /// Hears a datagram. An Original-Unicast-NPDU, an Original-Broadcast-NPDU and a Forwarded-NPDU hand up what they
+    /// carry, whatever is in it, and no other datagram does (J.2). It takes no memory.
+    #[tactic(auto, using(crate::proofs::Sending::link_rules))]
+    fn heard<'o>(
+        &self,
+        change: &mut Change<Self>,
+        from: Mac,
+        octets: &'o [u8],
+        stamp: u64,
+        port: usize,
+        now: u64,
+        out: &mut Items<PortSent<A>, A>,
+    ) -> Result<Option<Up<'o>>, Fault> {
+        let up = self.heard_from(from, octets, stamp)?;
+        *change = Change::Moment;
+        Ok(up)
+    }
+
+    /// Nothing waits in it, so nothing comes of a wake.
+    #[tactic(auto, using(crate::proofs::Sending::link_rules))]
+    fn on_tick(
+        &self,
+        change: &mut Change<Self>,
+        port: usize,
+        now: u64,
+        out: &mut Items<PortSent<A>, A>,
+    ) -> Result<(), Fault> {
+        *change = Change::Moment;
+        Ok(())
     }
 
     fn is_due(&self, now: u64) -> bool {
         false
     }
 
-    fn on_octets(&mut self, count: usize, now: u64) -> Result<LinkStep<A>, Fault> {
-        Ok(IpPort::on_tick(self, now))
+    #[tactic(auto, using(crate::proofs::Sending::link_rules))]
+    fn on_octets(&self, change: &mut Change<Self>, count: usize, now: u64) -> Result<(), Fault> {
+        *change = Change::Moment;
+        Ok(())
     }
 
-    fn register(&mut self, now: u64) -> Result<LinkStep<A>, Fault> {
-        let step = IpPort::register(self, now)?;
-        Ok(step)
+    /// Says a Register-Foreign-Device to the broadcast manager that it is a foreign device of (J.5.2).
+    #[tactic(auto, using(crate::proofs::Sending::link_rules))]
+    fn register(
+        &self,
+        change: &mut Change<Self>,
+        port: usize,
+        now: u64,
+        out: &mut Items<PortSent<A>, A>,
+    ) -> Result<(), Fault> {
+        self.put_registration(port, now, out)?;
+        *change = Change::Moment;
+        Ok(())
+    }
+
+    fn settle(&mut self, change: Change<Self>, now: u64)
+        ensures { self.new ≡ changed now self.old change }
+    {
+        match change {
+            Change::Nothing => {}
+            Change::Moment | Change::Whole(_) => self.later(now),
+        }
     }
 
     fn restart(&mut self, now: u64) {
-        IpPort::restart(self, now)
+        self.later(now);
     }
 }

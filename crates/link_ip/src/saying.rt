@@ -1,12 +1,14 @@
 //! The datagrams that a port puts out.
 
-ghost use Rattle.std.specs.Prelude.{◌≡◌, ◌<◌, ◌^◌, IfOk, IfErr};
-ghost use Rattle.bvll.specs.Datagram.{datagram_of, whole_length};
+ghost use Rattle.std.specs.Prelude.{◌≡◌, ◌<◌, ◌^◌, ◌++◌, ◌∷◌, [], IfOk, IfErr, OnOk, OnErr, map};
+ghost use Rattle.bvll.specs.Datagram.{broadcast, datagram_of, whole_length};
+ghost use Rattle.carry.specs.Datagrams.{mac_at};
+ghost use Rattle.link.specs.Step.{PutsOver, over_port};
 ghost use Rattle.link_ip.specs.Saying.{sent};
 
 use crate::port::{IpPort, Reach};
 use bvll::{Address, Bvll};
-use link::{Sent, is_target};
+use link::{PortSent, Sent, is_target};
 use npdu::{Mac, Parcel, Target};
 use std::alloc::Allocator;
 use tags::{Fault, Items, Octets};
@@ -32,26 +34,95 @@ fn sent<A: Allocator + Copy>(
     })
 }
 
-impl<A: Allocator + Copy> IpPort<A> {
-    ghost use Rattle.std.specs.Prelude.{◌≡◌, ◌≤◌, ◌<◌, ◌^◌, ◌++◌, ◌∷◌, [], true, OnOk, IfOk, IfErr, length, map};
-    ghost use Rattle.bvll.specs.Datagram.{broadcast, datagram_of, whole_length};
-    ghost use Rattle.carry.specs.Datagrams.{mac_at};
-    ghost use Rattle.carry.specs.Ports.{datagram_to, down};
-    ghost use Rattle.link.specs.Limits.{max_npdu_at};
-    ghost use Rattle.link_ip.specs.Port.{port_of, station_of};
-    ghost use Rattle.link_ip.specs.Saying as spec;
-    ghost use Rattle.link_ip.specs.Saying.{things_of};
+/// Puts a datagram to an address behind others, over the port of this number.
+#[tactic(auto, using(crate::proofs::Sending::put_rules))]
+fn put<A: Allocator + Copy>(
+    alloc: A,
+    to: Mac,
+    what: &Bvll<'_>,
+    stamp: u64,
+    port: usize,
+    out: &mut Items<PortSent<A>, A>,
+) -> Result<(), Fault>
+    requires fits { whole_length (datagram_of what.now) < 2 ^ 16 }
+    ensures put { OnOk result (out.new ≡ out.old ++ over_port port (sent to (datagram_of what.now) stamp ∷ [])) }
+    ensures unchanged { OnErr result (out.new ≡ out.old) }
+    ensures over { PutsOver port out.old out.new }
+    ensures memory { IfErr result (λ fault. fault ≡ Fault.Memory) }
+{
+    let sent = sent(alloc, to, what, stamp)?;
+    out.push(PortSent { port, sent })?;
+    Ok(())
+}
 
-    /// The datagrams of a parcel, where it is from here and for an address of BACnet/IP, or for all.
-    pub(crate) fn put_out(&self, parcel: &Parcel<A>) -> Result<Items<Sent<A>, A>, Fault>
+/// Puts a datagram to a station of BACnet/IP behind others, over the port of this number.
+fn put_at<A: Allocator + Copy>(
+    alloc: A,
+    to: Address,
+    what: &Bvll<'_>,
+    stamp: u64,
+    port: usize,
+    out: &mut Items<PortSent<A>, A>,
+) -> Result<(), Fault>
+    requires fits { whole_length (datagram_of what.now) < 2 ^ 16 }
+    ensures put { OnOk result (out.new ≡ out.old
+        ++ over_port port (sent (mac_at to) (datagram_of what.now) stamp ∷ [])) }
+    ensures unchanged { OnErr result (out.new ≡ out.old) }
+    ensures over { PutsOver port out.old out.new }
+    ensures memory { IfErr result (λ fault. fault ≡ Fault.Memory) }
+{
+    put(alloc, Mac::Six(to.to_octets()), what, stamp, port, out)
+}
+
+/// Puts an Original-Broadcast-NPDU to each of these behind others, in order (J.4.5).
+#[tactic(auto, using(crate::proofs::Sending::put_rules))]
+fn put_each<A: Allocator + Copy>(
+    alloc: A,
+    others: &[Address],
+    npdu: &[u8],
+    stamp: u64,
+    port: usize,
+    out: &mut Items<PortSent<A>, A>,
+) -> Result<(), Fault>
+    requires fits { whole_length (broadcast npdu.now) < 2 ^ 16 }
+    ensures put { OnOk result (out.new ≡ out.old
+        ++ over_port port (map (λ other. sent (mac_at other) (broadcast npdu.now) stamp) others.now)) }
+    ensures over { PutsOver port out.old out.new }
+    ensures memory { IfErr result (λ fault. fault ≡ Fault.Memory) }
+{
+    let what = Bvll::OriginalBroadcastNpdu(npdu);
+    let mut left = others;
+    while let [other, rest @ ..] = left {
+        put_at(alloc, *other, &what, stamp, port, out)?;
+        left = rest;
+    }
+    Ok(())
+}
+
+impl<A: Allocator + Copy> IpPort<A> {
+    ghost use Rattle.std.specs.Prelude.{◌≡◌, ◌≤◌, ◌++◌, OnOk, OnErr, IfErr, length};
+    ghost use Rattle.link.specs.Limits.{max_npdu_at};
+    ghost use Rattle.link.specs.Step.{PutsOver, over_port};
+    ghost use Rattle.link_ip.specs.Port.{station_of};
+    ghost use Rattle.link_ip.specs.Saying as spec;
+
+    /// Puts the datagrams of a parcel behind others, where it is from here and for an address of BACnet/IP, or for all.
+    #[tactic(auto, using(crate::proofs::Sending::put_rules))]
+    pub(crate) fn put_out(
+        &self,
+        parcel: &Parcel<A>,
+        port: usize,
+        out: &mut Items<PortSent<A>, A>,
+    ) -> Result<(), Fault>
         requires fits { length parcel.now.npdu ≤ max_npdu_at (station_of self.now).mac }
-        ensures out { IfOk result (λ out. things_of (station_of self.now) out ≡ spec.put_out self.now parcel.now) }
+        ensures put { OnOk result (out.new ≡ out.old ++ over_port port (spec.says self.now parcel.now)) }
+        ensures over { PutsOver port out.old out.new }
         ensures memory { IfErr result (λ fault. fault ≡ Fault.Memory) }
     {
         if !self.is_taken(parcel) {
-            return Ok(Items::new(self.alloc));
+            return Ok(());
         }
-        self.datagrams(parcel)
+        self.put_datagrams(parcel, port, out)
     }
 
     /// Whether a parcel is from here and for an address of BACnet/IP, or for all.
@@ -62,87 +133,64 @@ impl<A: Allocator + Copy> IpPort<A> {
         parcel.from == own && is_target(own, parcel.to)
     }
 
-    /// The datagrams of a parcel from here.
-    fn datagrams(&self, parcel: &Parcel<A>) -> Result<Items<Sent<A>, A>, Fault>
+    /// Puts the datagrams of a parcel behind others.
+    fn put_datagrams(
+        &self,
+        parcel: &Parcel<A>,
+        port: usize,
+        out: &mut Items<PortSent<A>, A>,
+    ) -> Result<(), Fault>
         requires fits { length parcel.now.npdu ≤ max_npdu_at (station_of self.now).mac }
-        requires taken { spec.is_taken self.now parcel.now ≡ true }
-        ensures out { IfOk result (λ out. things_of (station_of self.now) out ≡
-            down self.now.net (port_of self.now.reach) parcel.now) }
+        ensures put { OnOk result (out.new ≡ out.old
+            ++ over_port port (spec.datagrams self.now.reach parcel.now.to parcel.now)) }
+        ensures over { PutsOver port out.old out.new }
         ensures memory { IfErr result (λ fault. fault ≡ Fault.Memory) }
     {
         let npdu = parcel.npdu.as_slice();
+        let stamp = parcel.stamp;
         match (parcel.to, &self.reach) {
-            (Target::One(to), _) => self.one(parcel, to, &Bvll::OriginalUnicastNpdu(npdu)),
-            (Target::All, Reach::Members(others)) => self.to_each(parcel, others.as_slice()),
+            (Target::One(to), _) => {
+                put(
+                    self.alloc,
+                    to,
+                    &Bvll::OriginalUnicastNpdu(npdu),
+                    stamp,
+                    port,
+                    out,
+                )
+            }
+            (Target::All, Reach::Members(others)) => {
+                put_each(self.alloc, others.as_slice(), npdu, stamp, port, out)
+            }
             (Target::All, Reach::Foreign { manager, .. }) => {
-                let to = Mac::Six(manager.to_octets());
-                self.one(parcel, to, &Bvll::DistributeBroadcastToNetwork(npdu))
+                let what = Bvll::DistributeBroadcastToNetwork(npdu);
+                put_at(self.alloc, *manager, &what, stamp, port, out)
             }
         }
     }
 
-    /// An Original-Broadcast-NPDU to each of these, in order (J.4.5).
-    fn to_each(&self, parcel: &Parcel<A>, others: &[Address]) -> Result<Items<Sent<A>, A>, Fault>
-        requires fits { length parcel.now.npdu ≤ max_npdu_at (station_of self.now).mac }
-        requires taken { spec.is_taken self.now parcel.now ≡ true }
-        ensures out { IfOk result (λ out. things_of (station_of self.now) out ≡
-            map (λ to. datagram_to self.now.net parcel.now to (broadcast parcel.now.npdu)) (map mac_at others.now)) }
-        ensures memory { IfErr result (λ fault. fault ≡ Fault.Memory) }
-    {
-        let what = Bvll::OriginalBroadcastNpdu(parcel.npdu.as_slice());
-        let mut out = Items::new(self.alloc);
-        for other in others {
-            self.put(parcel, Mac::Six(other.to_octets()), &what, &mut out)?;
-        }
-        Ok(out)
-    }
-
-    /// One datagram with the NPDU of a parcel from here.
-    fn one(&self, parcel: &Parcel<A>, to: Mac, what: &Bvll<'_>) -> Result<Items<Sent<A>, A>, Fault>
-        requires fits { whole_length (datagram_of what.now) < 2 ^ 16 }
-        requires taken { spec.is_taken self.now parcel.now ≡ true }
-        ensures out { IfOk result (λ out. things_of (station_of self.now) out ≡
-            datagram_to self.now.net parcel.now to (datagram_of what.now) ∷ []) }
-        ensures memory { IfErr result (λ fault. fault ≡ Fault.Memory) }
-    {
-        let mut out = Items::new(self.alloc);
-        self.put(parcel, to, what, &mut out)?;
-        Ok(out)
-    }
-
-    /// Puts a datagram with the NPDU of a parcel from here behind others.
-    #[tactic(auto, using(crate::proofs::Sending::sending_rules))]
-    fn put(
+    /// Puts the registration of a foreign device behind others (J.5.2).
+    pub(crate) fn put_registration(
         &self,
-        parcel: &Parcel<A>,
-        to: Mac,
-        what: &Bvll<'_>,
-        out: &mut Items<Sent<A>, A>,
+        port: usize,
+        now: u64,
+        out: &mut Items<PortSent<A>, A>,
     ) -> Result<(), Fault>
-        requires fits { whole_length (datagram_of what.now) < 2 ^ 16 }
-        requires taken { spec.is_taken self.now parcel.now ≡ true }
-        ensures put { OnOk result (things_of (station_of self.now) out.new ≡ things_of (station_of self.now) out.old
-            ++ datagram_to self.now.net parcel.now to (datagram_of what.now) ∷ []) }
+        ensures put { OnOk result (out.new ≡ out.old ++ over_port port (spec.registration self.now.reach now)) }
+        ensures unchanged { OnErr result (out.new ≡ out.old) }
         ensures memory { IfErr result (λ fault. fault ≡ Fault.Memory) }
     {
-        out.push(sent(self.alloc, to, what, parcel.stamp)?)?;
-        Ok(())
-    }
-
-    /// The registration of a foreign device (J.5.2).
-    pub(crate) fn registration(&self, now: u64) -> Result<Items<Sent<A>, A>, Fault>
-        ensures says { IfOk result (λ out. out ≡ spec.registration self.now.reach now) }
-        ensures memory { IfErr result (λ fault. fault ≡ Fault.Memory) }
-    {
-        let mut out = Items::new(self.alloc);
-        if let Reach::Foreign {
-            manager,
-            seconds_to_live,
-        } = self.reach
-        {
-            let what = Bvll::RegisterForeignDevice { seconds_to_live };
-            out.push(sent(self.alloc, Mac::Six(manager.to_octets()), &what, now)?)?;
+        match &self.reach {
+            Reach::Members(_) => Ok(()),
+            Reach::Foreign {
+                manager,
+                seconds_to_live,
+            } => {
+                let what = Bvll::RegisterForeignDevice {
+                    seconds_to_live: *seconds_to_live,
+                };
+                put_at(self.alloc, *manager, &what, now, port, out)
+            }
         }
-        Ok(out)
     }
 }

@@ -5,6 +5,7 @@ use Rattle.carry.proofs.Passed.{none_some}
 use Rattle.carry.specs.Datagrams.{IsDatagramOf, mac_at}
 use Rattle.link.specs.Carrying.{CarriesDown, CarriesOn, CarriesUp, HandsUpIf, PutAll, Restarts, nothing}
 use Rattle.link.specs.Step.{LinkStep}
+use Rattle.link.specs.declared.step.Change.TheVariants.{Nothing}
 use Rattle.link.specs.declared.step.Sent.{Sent}
 use Rattle.link_bus.specs.CarryLaws as bus_laws
 use Rattle.link_bus.specs.Port as bus_port
@@ -19,7 +20,7 @@ use Rattle.link_ip.specs.Steps as ip
 use Rattle.npdu.specs.declared.mac.Mac.{Mac}
 use Rattle.npdu.specs.declared.mac.Mac.TheVariants.{One, Six}
 use Rattle.npdu.specs.declared.parcel.Parcel.{Parcel}
-use Rattle.link_site.specs.Port.{at_moment, moment_of, restarted, station_of, waiting_in}
+use Rattle.link_site.specs.Port.{at_moment, changed, moment_of, restarted, station_of, waiting_in}
 use Rattle.link_site.specs.Steps.{Counts, Downs, Hears, Registers, Wakes, is_due}
 use Rattle.link_site.specs.Things.{Carries}
 use Rattle.link_site.specs.declared.port.SitePort.{SitePort}
@@ -182,3 +183,7 @@ module _ {A : Type 0} where
       × (moment_of (at_moment now old) ≡ now) × (waiting_in (at_moment now old) ≡ waiting_in old)
   stays now (Ip old) = (refl, refl, refl)
   stays now (Bus old) = (refl, refl, refl)
+
+  pub stands : (now : ℕ) (old : SitePort A) → changed now old Nothing ≡ old
+  stands now (Ip old) = refl
+  stands now (Bus old) = refl

@@ -1,16 +1,22 @@
 //! A port of either kind as a link.
 
+ghost use Rattle.std.specs.Prelude.{◌≡◌};
+ghost use Rattle.link_site.specs.Port as spec;
+ghost use Rattle.link_site.specs.Port.{AsIp};
+
 use crate::port::SitePort;
-use link::{Link, LinkStep};
+use link::{Change, Link, PortSent, Up};
 use link_bus::BusPort;
 use link_ip::IpPort;
 use npdu::{Mac, Parcel, Station};
 use std::alloc::{AllocError, Allocator};
-use tags::Fault;
+use std::mem;
+use tags::{Fault, Items};
 
 impl<A: Allocator + Copy> Link<A> for SitePort<A> {
+    ghost use Rattle.std.specs.Prelude.{◌≡◌};
     ghost use Rattle.link_site.specs.CarryLaws as laws;
-    ghost use Rattle.link_site.specs.Port.{at_moment, moment_of, restarted, station_of, waiting_in};
+    ghost use Rattle.link_site.specs.Port.{at_moment, changed, moment_of, restarted, station_of, waiting_in};
     ghost use Rattle.link_site.specs.Steps as steps;
     ghost use Rattle.link_site.specs.Steps.{Counts, Downs, Hears, IsRefused, Registers, Wakes};
     ghost use Rattle.link_site.specs.Things.{Carries};
@@ -41,6 +47,8 @@ impl<A: Allocator + Copy> Link<A> for SitePort<A> {
 
     ghost at = { at_moment };
 
+    ghost changed = { changed };
+
     ghost one_parcel = { laws.one_parcel };
 
     ghost keeps_stamp = { laws.keeps_stamp };
@@ -58,6 +66,8 @@ impl<A: Allocator + Copy> Link<A> for SitePort<A> {
     ghost forgets = { laws.forgets };
 
     ghost idles = { laws.idles };
+
+    ghost stands = { laws.stands };
 
     ghost stays = { laws.stays };
 
@@ -82,44 +92,78 @@ impl<A: Allocator + Copy> Link<A> for SitePort<A> {
         }
     }
 
-    fn down(&mut self, parcel: &Parcel<A>, now: u64) -> Result<LinkStep<A>, Fault> {
-        match self {
-            SitePort::Ip(port) => {
-                let step = IpPort::down(port, parcel, now)?;
-                Ok(step)
-            }
-            SitePort::Bus(port) => {
-                let step = BusPort::down(port, parcel, now)?;
-                Ok(step)
-            }
-        }
-    }
-
-    fn heard(
-        &mut self,
-        from: Mac,
-        octets: &[u8],
-        stamp: u64,
+    #[tactic(auto, using(crate::proofs::Changes::change_rules))]
+    fn down(
+        &self,
+        change: &mut Change<Self>,
+        parcel: &Parcel<A>,
+        port: usize,
         now: u64,
-    ) -> Result<LinkStep<A>, Fault> {
+        out: &mut Items<PortSent<A>, A>,
+    ) -> Result<(), Fault> {
         match self {
-            SitePort::Ip(port) => {
-                let step = IpPort::heard(port, from, octets, stamp, now)?;
-                Ok(step)
+            SitePort::Ip(own) => {
+                let mut part = ip_part(change);
+                let done = own.down(&mut part, parcel, port, now, out);
+                *change = of_ip(part);
+                done
             }
-            SitePort::Bus(port) => {
-                let step = BusPort::heard(port, from, octets, stamp, now)?;
-                Ok(step)
+            SitePort::Bus(own) => {
+                let mut part = bus_part(change);
+                let done = own.down(&mut part, parcel, port, now, out);
+                *change = of_bus(part);
+                done
             }
         }
     }
 
-    fn on_tick(&mut self, now: u64) -> Result<LinkStep<A>, Fault> {
+    #[tactic(auto, using(crate::proofs::Changes::change_rules))]
+    fn heard<'o>(
+        &self,
+        change: &mut Change<Self>,
+        from: Mac,
+        octets: &'o [u8],
+        stamp: u64,
+        port: usize,
+        now: u64,
+        out: &mut Items<PortSent<A>, A>,
+    ) -> Result<Option<Up<'o>>, Fault> {
         match self {
-            SitePort::Ip(port) => Ok(IpPort::on_tick(port, now)),
-            SitePort::Bus(port) => {
-                let step = BusPort::on_tick(port, now)?;
-                Ok(step)
+            SitePort::Ip(own) => {
+                let mut part = ip_part(change);
+                let done = own.heard(&mut part, from, octets, stamp, port, now, out);
+                *change = of_ip(part);
+                done
+            }
+            SitePort::Bus(own) => {
+                let mut part = bus_part(change);
+                let done = own.heard(&mut part, from, octets, stamp, port, now, out);
+                *change = of_bus(part);
+                done
+            }
+        }
+    }
+
+    #[tactic(auto, using(crate::proofs::Changes::change_rules))]
+    fn on_tick(
+        &self,
+        change: &mut Change<Self>,
+        port: usize,
+        now: u64,
+        out: &mut Items<PortSent<A>, A>,
+    ) -> Result<(), Fault> {
+        match self {
+            SitePort::Ip(own) => {
+                let mut part = ip_part(change);
+                let done = own.on_tick(&mut part, port, now, out);
+                *change = of_ip(part);
+                done
+            }
+            SitePort::Bus(own) => {
+                let mut part = bus_part(change);
+                let done = own.on_tick(&mut part, port, now, out);
+                *change = of_bus(part);
+                done
             }
         }
     }
@@ -131,27 +175,104 @@ impl<A: Allocator + Copy> Link<A> for SitePort<A> {
         }
     }
 
-    fn on_octets(&mut self, count: usize, now: u64) -> Result<LinkStep<A>, Fault> {
+    #[tactic(auto, using(crate::proofs::Changes::change_rules))]
+    fn on_octets(&self, change: &mut Change<Self>, count: usize, now: u64) -> Result<(), Fault> {
         match self {
-            SitePort::Ip(port) => Ok(IpPort::on_tick(port, now)),
-            SitePort::Bus(port) => Ok(BusPort::on_octets(port, count, now)),
+            SitePort::Ip(own) => {
+                let mut part = ip_part(change);
+                let done = own.on_octets(&mut part, count, now);
+                *change = of_ip(part);
+                done
+            }
+            SitePort::Bus(own) => {
+                let mut part = bus_part(change);
+                let done = own.on_octets(&mut part, count, now);
+                *change = of_bus(part);
+                done
+            }
         }
     }
 
-    fn register(&mut self, now: u64) -> Result<LinkStep<A>, Fault> {
+    #[tactic(auto, using(crate::proofs::Changes::change_rules))]
+    fn register(
+        &self,
+        change: &mut Change<Self>,
+        port: usize,
+        now: u64,
+        out: &mut Items<PortSent<A>, A>,
+    ) -> Result<(), Fault> {
         match self {
-            SitePort::Ip(port) => {
-                let step = IpPort::register(port, now)?;
-                Ok(step)
+            SitePort::Ip(own) => {
+                let mut part = ip_part(change);
+                let done = own.register(&mut part, port, now, out);
+                *change = of_ip(part);
+                done
             }
-            SitePort::Bus(port) => Ok(BusPort::register(port, now)),
+            SitePort::Bus(own) => {
+                let mut part = bus_part(change);
+                let done = own.register(&mut part, port, now, out);
+                *change = of_bus(part);
+                done
+            }
+        }
+    }
+
+    fn settle(&mut self, change: Change<Self>, now: u64)
+        ensures { self.new ≡ changed now self.old change }
+    {
+        let mut change = change;
+        match self {
+            SitePort::Ip(port) => port.settle(ip_part(&mut change), now),
+            SitePort::Bus(port) => port.settle(bus_part(&mut change), now),
         }
     }
 
     fn restart(&mut self, now: u64) {
         match self {
-            SitePort::Ip(port) => IpPort::restart(port, now),
-            SitePort::Bus(port) => BusPort::restart(port, now),
+            SitePort::Ip(port) => port.restart(now),
+            SitePort::Bus(port) => port.restart(now),
         }
+    }
+}
+
+/// What an event so far changes of a port of BACnet/IP.
+fn ip_part<A: Allocator>(change: &mut Change<SitePort<A>>) -> Change<IpPort<A>>
+    ensures { result ≡ spec.ip_part change.old }
+{
+    match mem::replace(change, Change::Nothing) {
+        Change::Nothing => Change::Nothing,
+        Change::Moment | Change::Whole(_) => Change::Moment,
+    }
+}
+
+/// .. of one on a bus.
+fn bus_part<A: Allocator>(change: &mut Change<SitePort<A>>) -> Change<BusPort<A>>
+    ensures { result ≡ spec.bus_part change.old }
+{
+    match mem::replace(change, Change::Nothing) {
+        Change::Nothing => Change::Nothing,
+        Change::Whole(SitePort::Bus(port)) => Change::Whole(port),
+        Change::Moment | Change::Whole(SitePort::Ip(_)) => Change::Moment,
+    }
+}
+
+/// What an event changes of a port, where that is one of BACnet/IP.
+fn of_ip<A: Allocator + Copy>(part: Change<IpPort<A>>) -> Change<SitePort<A>>
+    ensures { AsIp part (spec.ip_part result) }
+{
+    match part {
+        Change::Nothing => Change::Nothing,
+        Change::Moment | Change::Whole(_) => Change::Moment,
+    }
+}
+
+/// .. where that is one on a bus.
+fn of_bus<A: Allocator + Copy>(part: Change<BusPort<A>>) -> Change<SitePort<A>>
+    ensures { spec.bus_part result ≡ part }
+{
+    match part {
+        Change::Nothing => Change::Nothing,
+        Change::Moment => Change::Moment,
+        Change::Whole(port) => Change::Whole(SitePort::Bus(port)),
     }
 }

@@ -3,6 +3,7 @@
 use crate::told::push_told;
 use crate::watched::Hearer;
 use bvll::{Address, Bvll};
+use link::{Change, Link, PortSent};
 use link_ip::{IpPort, Reach};
 use npdu::{Mac, Parcel, Target};
 use sheets::{Stop, differs};
@@ -51,7 +52,10 @@ impl HeardPort {
         let members = Items::from_slice(alloc, &MEMBERS)?;
         let mut port = IpPort::new(alloc, 1, OWN, Reach::Members(members));
         if port.moment() <= WOKEN {
-            port.on_tick(WOKEN);
+            let mut change = Change::Nothing;
+            let mut out = Items::new(alloc);
+            port.on_tick(&mut change, 0, WOKEN, &mut out)?;
+            port.settle(change, WOKEN);
         }
         Ok(HeardPort { port })
     }
@@ -70,11 +74,17 @@ impl Hearer for HeardPort {
         if before > NOW {
             return Err(differs(alloc, "a port at another moment"));
         }
-        let fault = match self.port.heard(FROM, octets, NOW, NOW) {
+        let mut change = Change::Nothing;
+        let mut out = Items::new(alloc);
+        let heard = self
+            .port
+            .heard(&mut change, FROM, octets, NOW, 0, NOW, &mut out);
+        let fault = match heard {
             Ok(_) => None,
             Err(Fault::Memory) => return Err(Stop::Memory),
             Err(fault) => Some(fault),
         };
+        self.port.settle(change, NOW);
         let moment = match fault {
             None => NOW,
             Some(_) => before,
@@ -96,9 +106,11 @@ impl Hearer for HeardPort {
             npdu: Items::from_slice(alloc, &[1, 0, 0x10, 8])?,
             stamp: WOKEN,
         };
-        let step = self.port.down(&parcel, NOW)?;
+        let mut change = Change::Nothing;
+        let mut out = Items::new(alloc);
+        self.port.down(&mut change, &parcel, 0, NOW, &mut out)?;
         let mut told = Vec::new(alloc);
-        for sent in step.out.as_slice() {
+        for PortSent { sent, .. } in out.as_slice() {
             push_told(sent.to.as_octets(), &mut told)?;
             push_told(sent.octets.as_slice(), &mut told)?;
         }

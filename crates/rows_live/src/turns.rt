@@ -8,7 +8,7 @@
 //! is as it was once it is taken again.
 
 ghost use Rattle.std.specs.Prelude.{IfSome, Some};
-ghost use Rattle.runner.specs.internetwork.Step.{IsSoundIfAny};
+ghost use Rattle.runner.specs.world.Step.{IsSoundIfAny};
 
 use refusing::Refusing;
 use rows_wire::{

@@ -6,8 +6,8 @@
 //! The calls are made to a copy, with each allocation refused in turn.
 
 use crate::addresses::mac;
-use crate::ports::{At, Call, Question, answer, at_of, make, question_of};
-use link::LinkStep;
+use crate::ports::{At, Call, Came, Question, answer, at_of, make, question_of};
+use link::Link;
 use link_bus::BusPort;
 use sheets::{Counts, Given, Part, Stop, Trial, octets, push_mark, small, try_row, two_words};
 use std::alloc::{Allocator, Global};
@@ -87,9 +87,9 @@ fn told<A: Allocator + Copy>(
 }
 
 /// How many frames are put out.
-fn count_of<A: Allocator>(came: Result<LinkStep<A>, Fault>) -> Result<usize, Stop> {
+fn count_of<A: Allocator>(came: Result<Came<A>, Fault>) -> Result<usize, Stop> {
     match came {
-        Ok(step) => Ok(step.out.len()),
+        Ok(came) => Ok(came.out.len()),
         Err(Fault::Memory) => Err(Stop::Memory),
         Err(_) => Err(Stop::Unread(Part::Asked)),
     }

@@ -13,7 +13,7 @@
 
 use crate::addresses::{from_and_to, mac, push_mac, push_target};
 use bvll::Address;
-use link::{Link, LinkStep};
+use link::{Change, Link, PortSent, Up};
 use link_ip::{IpPort, Reach};
 use npdu::{Mac, Parcel, Target};
 use profile::MAX_MOMENT_MS;
@@ -208,7 +208,7 @@ fn foreign<A: Allocator>(words: &str) -> Result<Reach<A>, Stop> {
 ///
 /// # Errors
 /// `Memory` where the call says so.
-pub(crate) fn answer<A: Allocator + Copy, L: Link<A>>(
+pub(crate) fn answer<A: Allocator + Copy, L: Link<A> + Drop>(
     alloc: Global,
     other: A,
     link: &mut L,
@@ -220,28 +220,37 @@ pub(crate) fn answer<A: Allocator + Copy, L: Link<A>>(
     let came = make(other, link, call, octets, at)?;
     let moment = link.moment();
     match came {
-        Ok(step) if moment == at.now => told(alloc, &step),
+        Ok(came) if moment == at.now => told(alloc, &came),
         Err(Fault::Memory) => Err(Stop::Memory),
         Err(fault) if moment == before => refusal(alloc, fault),
         _ => Err(differs(alloc, "a link at another moment")),
     }
 }
 
-/// Makes a call of a link.
+/// What comes of a call: what is handed up, if anything is, and what is put out, in order.
+#[derive(Drop)]
+pub(crate) struct Came<A: Allocator> {
+    pub(crate) up: Option<Parcel<A>>,
+    pub(crate) out: Items<PortSent<A>, A>,
+}
+
+/// Makes a call of a link, which settles where the call isn't refused.
 ///
 /// # Errors
 /// `Unread` where its moments are none that a call may have.
-pub(crate) fn make<A: Allocator + Copy, L: Link<A>>(
+pub(crate) fn make<A: Allocator + Copy, L: Link<A> + Drop>(
     other: A,
     link: &mut L,
     call: Call,
     octets: &[u8],
     At { now, stamp }: At,
-) -> Result<Result<LinkStep<A>, Fault>, Stop> {
+) -> Result<Result<Came<A>, Fault>, Stop> {
     if now > MAX_MOMENT_MS || now < link.moment() || now < stamp {
         return Err(Stop::Unread(Part::Number));
     }
-    Ok(match call {
+    let mut change = Change::Nothing;
+    let mut out = Items::new(other);
+    let came = match call {
         Call::Down { from, to } => {
             let npdu = Octets::from_slice(other, octets)?;
             let parcel = Parcel {
@@ -250,29 +259,59 @@ pub(crate) fn make<A: Allocator + Copy, L: Link<A>>(
                 npdu,
                 stamp,
             };
-            link.down(&parcel, now)
+            silent(link.down(&mut change, &parcel, 0, now, &mut out))
         }
-        Call::Heard { from } => link.heard(from, octets, stamp, now),
-        Call::Tick => link.on_tick(now),
-        Call::Octets(count) => link.on_octets(count, now),
-        Call::Register => link.register(now),
+        Call::Heard { from } => {
+            let heard = link.heard(&mut change, from, octets, stamp, 0, now, &mut out);
+            kept(other, heard)?
+        }
+        Call::Tick => silent(link.on_tick(&mut change, 0, now, &mut out)),
+        Call::Octets(count) => silent(link.on_octets(&mut change, count, now)),
+        Call::Register => silent(link.register(&mut change, 0, now, &mut out)),
         Call::Restart => {
             link.restart(now);
-            Ok(LinkStep {
-                up: None,
-                out: Items::new(other),
-            })
+            Ok(None)
         }
-    })
+    };
+    match came {
+        Ok(up) => {
+            link.settle(change, now);
+            Ok(Ok(Came { up, out }))
+        }
+        Err(fault) => Ok(Err(fault)),
+    }
+}
+
+/// Nothing is handed up.
+fn silent<A: Allocator>(called: Result<(), Fault>) -> Result<Option<Parcel<A>>, Fault> {
+    match called {
+        Ok(()) => Ok(None),
+        Err(fault) => Err(fault),
+    }
+}
+
+/// What is handed up, in memory of its own.
+///
+/// # Errors
+/// Want of memory.
+fn kept<A: Allocator>(
+    other: A,
+    called: Result<Option<Up<'_>>, Fault>,
+) -> Result<Result<Option<Parcel<A>>, Fault>, AllocError> {
+    match called {
+        Ok(Some(up)) => Ok(Ok(Some(up.to_parcel(other)?))),
+        Ok(None) => Ok(Ok(None)),
+        Err(fault) => Ok(Err(fault)),
+    }
 }
 
 /// What comes of a call, in words.
-fn told<A: Allocator>(alloc: Global, step: &LinkStep<A>) -> Result<String, Stop> {
+fn told<A: Allocator>(alloc: Global, came: &Came<A>) -> Result<String, Stop> {
     let mut out = String::new(alloc);
-    if let Some(parcel) = &step.up {
+    if let Some(parcel) = &came.up {
         push_parcel(parcel, &mut out)?;
     }
-    for sent in step.out.as_slice() {
+    for PortSent { sent, .. } in came.out.as_slice() {
         push_mark(", ", &mut out)?;
         push_mac(sent.to, &mut out)?;
         write!(out, " @{} ", sent.stamp)?;

@@ -10,8 +10,8 @@
 //! Each row is run with each allocation refused in turn.
 
 use crate::addresses::{from_and_to, push_mac};
-use crate::ports::{At, Call, make, push_parcel};
-use link::LinkStep;
+use crate::ports::{At, Call, Came, make, push_parcel};
+use link::{Link, PortSent};
 use link_bus::BusPort;
 use npdu::Mac;
 use sheets::{
@@ -208,20 +208,20 @@ impl<A: Allocator + Copy> Ring<A> {
         };
         let mac = port.station().mac;
         match make(self.other, port, call, octets, at)? {
-            Ok(step) => self.tell(place, mac, &step),
+            Ok(came) => self.tell(place, mac, &came),
             Err(Fault::Memory) => Err(Stop::Memory),
             Err(_) => Err(Stop::Unread(Part::Asked)),
         }
     }
 
     /// What a node puts out is on its way, and it and what is handed up are told.
-    fn tell(&mut self, place: usize, mac: Mac, step: &LinkStep<A>) -> Result<(), Stop> {
-        if let Some(parcel) = &step.up {
+    fn tell(&mut self, place: usize, mac: Mac, came: &Came<A>) -> Result<(), Stop> {
+        if let Some(parcel) = &came.up {
             push_mark(", ", &mut self.told)?;
             write!(self.told, "{} up ", self.now)?;
             push_parcel(parcel, &mut self.told)?;
         }
-        for sent in step.out.as_slice() {
+        for PortSent { sent, .. } in came.out.as_slice() {
             push_mark(", ", &mut self.told)?;
             write!(self.told, "{} ", self.now)?;
             push_mac(mac, &mut self.told)?;

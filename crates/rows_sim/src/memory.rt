@@ -7,7 +7,7 @@
 //! want of memory, and leaves all as it was; then the event happens there as in the first world, and so does all that
 //! comes behind it.
 
-ghost use Rattle.simulator.specs.internetwork.Step.{IsSoundEvent};
+ghost use Rattle.simulator.specs.world.Step.{IsSoundEvent};
 
 use crate::worlds::{Asked, asked_of, history_from, is_same_run, is_sound, opened, tables};
 use refusing::Refusing;

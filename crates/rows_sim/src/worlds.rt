@@ -1,7 +1,7 @@
 //! Worlds of a site: how they open, what a step asks of them, and whether two of them are told apart.
 
 ghost use Rattle.std.specs.Prelude.{IsTrue};
-ghost use Rattle.simulator.specs.internetwork.Step.{IsSoundEvent};
+ghost use Rattle.simulator.specs.world.Step.{IsSoundEvent};
 
 use history::{End, Entry};
 use script::Step;

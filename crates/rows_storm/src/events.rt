@@ -1,7 +1,7 @@
 //! Events: those of a script, whether one may happen, and one as a line of a script.
 
 ghost use Rattle.std.specs.Prelude.{IsTrue};
-ghost use Rattle.simulator.specs.internetwork.Step.{IsSoundEvent};
+ghost use Rattle.simulator.specs.world.Step.{IsSoundEvent};
 
 use script::Step;
 use simulator::Event;

@@ -1,6 +1,6 @@
 //! One event and what it breaks, and the end of a storm.
 
-ghost use Rattle.simulator.specs.internetwork.Step.{IsSoundEvent};
+ghost use Rattle.simulator.specs.world.Step.{IsSoundEvent};
 
 use crate::counts::Counts;
 use crate::ears::Ears;

@@ -1,7 +1,7 @@
 -- What keeps a world led, and what is so of one that is.
 use Rattle.std.proofs.Common.{◌≡◌, ap, Bool, true, false}
 use Rattle.simulator.specs.carry_world.Laws.{IsLegal}
-use Rattle.simulator.specs.chronicle.Growing.{WorldHistory}
+use Rattle.simulator.specs.world_log.Growing.{WorldHistory}
 use Rattle.simulator.specs.Judged.{instances_of, judged_of}
 use Rattle.runner.proofs.NotWire.{event_not_wire}
 use Rattle.runner.specs.Runner.{RunnerState}
@@ -9,10 +9,10 @@ use Rattle.runner.specs.Turns.{HasMade}
 use Rattle.simulator.proofs.HeardLaws.{has_brought}
 use Rattle.simulator.proofs.LedLaws.{led_on, legal_as}
 use Rattle.simulator.specs.Laws.{IsLed}
-use Rattle.simulator.specs.internetwork.Laws.{Stands}
-use Rattle.simulator.specs.internetwork.Step.{Steps}
-use Rattle.simulator.specs.internetwork.World.{WorldState}
-use Rattle.simulator.specs.internetwork.declared.event.Event.{Event}
+use Rattle.simulator.specs.world.Laws.{Stands}
+use Rattle.simulator.specs.world.Step.{Steps}
+use Rattle.simulator.specs.world.World.{WorldState}
+use Rattle.simulator.specs.world.declared.event.Event.{Event}
 
 -- the history of one that events led to is legal
 pub led_is_legal : {A : Type 0} (r : RunnerState A) (h : WorldHistory A) → h ≡ r.world.history →

@@ -11,31 +11,26 @@ use Rattle.bus_traffic.specs.declared.hearing.HeardFrame.{HeardFrame}
 use Rattle.client.specs.Issuing as client
 use Rattle.client_tsm.specs.Client.{ClientTsmState}
 use Rattle.client_tsm.specs.Issuing as tsm
-use Rattle.simulator.specs.hosts.Stations.{WorldStation}
-use Rattle.simulator.specs.internetwork.Hearing.{RefusesAs, RefusesOctets, RefusesOne}
-use Rattle.simulator.specs.internetwork.Refusals.{IsRefused, RefusesNamed}
-use Rattle.simulator.specs.internetwork.Straying.{StrayIsRefused}
-use Rattle.simulator.specs.internetwork.World.{WorldState}
-use Rattle.simulator.specs.internetwork.declared.event.Event.{Event}
-use Rattle.simulator.specs.internetwork.declared.event.Event.TheVariants as event
-use Rattle.simulator.specs.internetwork.declared.listener.Listener.{Listener}
-use Rattle.simulator.specs.internetwork.declared.listener.Whom.{Whom}
-use Rattle.simulator.specs.internetwork.declared.listener.Whom.TheVariants as whom
+use Rattle.simulator.specs.world.Hearing.{RefusesOctets, RefusesOne}
+use Rattle.simulator.specs.world.Refusals.{HappeningIsRefused, IsRefused, RefusesAt, RefusesNamed}
+use Rattle.simulator.specs.world.Straying.{StrayIsRefused}
+use Rattle.simulator.specs.world.World.{WorldState}
+use Rattle.simulator.specs.world.declared.event.Event.{Event}
+use Rattle.simulator.specs.world.declared.event.Event.TheVariants as event
+use Rattle.simulator.specs.world.declared.event.Happening.{Happening}
+use Rattle.simulator.specs.world.declared.event.Happening.TheVariants as happening
+use Rattle.simulator.specs.world.declared.listener.Listener.{Listener}
 use Rattle.link_ip.specs.Hearing as ip
-use Rattle.link_site.specs.Port as port
 use Rattle.link_site.specs.Steps as site
+use Rattle.link_site.specs.declared.port.SitePort.{SitePort}
 use Rattle.npdu.specs.declared.mac.Mac.{Mac}
 use Rattle.npdu.specs.declared.mac.Mac.TheVariants.{One, Six}
-use Rattle.npdu.specs.declared.mac.Station.{Station}
-use Rattle.simulator.specs.plans.Plans.{places_of}
 use Rattle.primitives.specs.declared.plain_data.Request.{Request}
-use Rattle.relays.specs.Laws.{SiteRelay}
-use Rattle.relays.specs.Refusals as relay
-use Rattle.relays.specs.declared.relay.Relay.TheVariants.{Router, Manager}
-use Rattle.site_station.specs.Entity.{issue_refusal}
-use Rattle.site_station.specs.Station.{HearingIsRefused, IssueIsRefused}
-use Rattle.site_station.specs.declared.entity.Entity.{Entity}
-use Rattle.site_station.specs.declared.entity.Entity.TheVariants.{Device, Client}
+use Rattle.simulator.specs.site_node.Node.{NodeState}
+use Rattle.simulator.specs.site_node.Part.{issue_refusal}
+use Rattle.simulator.specs.site_node.Refusals.{HearingIsRefused, IssueIsRefused, RefusesAs, RefusesOn}
+use Rattle.simulator.specs.site_node.declared.part.Part.{Part}
+use Rattle.simulator.specs.site_node.declared.part.Part.TheVariants.{Device, Client, Router, Manager}
 use Rattle.tags.specs.declared.fault.Fault.{Fault}
 use Rattle.tags.specs.declared.fault.Fault.TheVariants.{Expired, Wire}
 use Rattle.traffic.specs.declared.item.Item.{Item}
@@ -65,16 +60,17 @@ by_binding : {A : Type 0} (b : Option Binding) (now : ℕ) (q : Request A) (m : 
 by_binding None now q m x = x
 by_binding (Some b) now q m x = by_route b.refused now q b.bound m x
 
-by_entity : {A : Type 0} (now instance : ℕ) (q : Request A) (e : Entity A) →
-    AnswersWire (issue_refusal now instance q e) → ⊥
-by_entity now instance q (Client c) x = by_binding (binding_of instance c.bindings) now q c.machine x
-by_entity now instance q (Device d) x = x
+by_part : {A : Type 0} (now instance : ℕ) (q : Request A) (p : Part A) →
+    AnswersWire (issue_refusal now instance q p) → ⊥
+by_part now instance q (Client c) x = by_binding (binding_of instance c.bindings) now q c.machine x
+by_part now instance q (Device d) x = x
+by_part now instance q (Router r) x = x
+by_part now instance q (Manager net m) x = x
 
 -- an issue
-issuing : {A : Type 0} (places : List Station) (now instance : ℕ) (q : Request A) (e : Entity A) →
-    IssueIsRefused places now instance q e Wire → ⊥
-issuing places now instance q e (inl is) = by_entity now instance q e (subst AnswersWire (sym is) tt)
-issuing places now instance q e (inr long) = subst IsWire (long.0) tt
+issuing : {A : Type 0} (now instance : ℕ) (q : Request A) (n : NodeState A) → IssueIsRefused now instance q n Wire → ⊥
+issuing now instance q n (inl is) = by_part now instance q n.part (subst AnswersWire (sym is) tt)
+issuing now instance q n (inr long) = subst IsWire (long.0) tt
 
 -- octets that spell no datagram; a bus refuses none
 reading_ip : (from : Mac) (octets : List ℕ) → ip.IsRefused Wire from octets → ⊥
@@ -85,39 +81,28 @@ reading : (from : Mac) (octets : List ℕ) → site.IsRefused Wire from octets �
 reading from octets (inl why) = reading_ip from octets why
 reading from octets (inr why) = why
 
--- octets that a device or a client hears
-hearing : {A : Type 0} (now at : ℕ) (from : Mac) (octets : List ℕ) (stamp : ℕ) (s : WorldStation A) →
-    HearingIsRefused site.Hears site.IsRefused port.station_of now at from octets stamp s Wire → ⊥
-hearing now at from octets stamp s (inl why) = reading from octets why
-hearing now at from octets stamp s (inr up) =
+-- octets that a node hears on a port
+on_port : {A : Type 0} (now at : ℕ) (from : Mac) (octets : List ℕ) (stamp : ℕ) (ports : List (SitePort A)) (p : Part A) →
+    RefusesOn now at from octets stamp ports p Wire → ⊥
+on_port now at from octets stamp ports p (inl why) = reading from octets why
+on_port now at from octets stamp ports p (inr up) =
     elim up.refused [ inl full ↦ subst IsWire (full.0) tt | inr long ↦ subst IsWire (long.0) tt ]
 
--- .. or a relay
-passing : {A : Type 0} (now at : ℕ) (from : Mac) (octets : List ℕ) (stamp : ℕ) (r : SiteRelay A) →
-    relay.HearingIsRefused site.Hears site.IsRefused port.station_of now at from octets stamp r Wire → ⊥
-passing now at from octets stamp (Router s) (inl why) = reading from octets why
-passing now at from octets stamp (Router s) (inr up) =
-    elim up.refused [ inl full ↦ subst IsWire (full.0) tt | inr long ↦ subst IsWire (long.0) tt ]
-passing now at from octets stamp (Manager s) why = subst IsWire (why.0) tt
+hearing_as : {A : Type 0} (p : Part A) (now at : ℕ) (from : Mac) (octets : List ℕ) (stamp : ℕ) (n : NodeState A) →
+    RefusesAs p now at from octets stamp n Wire → ⊥
+hearing_as (Device d) now at from octets stamp n why = on_port now at from octets stamp n.ports n.part why
+hearing_as (Client c) now at from octets stamp n why = on_port now at from octets stamp n.ports n.part why
+hearing_as (Router r) now at from octets stamp n why = on_port now at from octets stamp n.ports n.part why
+hearing_as (Manager net m) now at from octets stamp n why = subst IsWire (why.0) tt
 
-waking : {A : Type 0} (now : ℕ) (r : SiteRelay A) → relay.WakeIsRefused A port.station_of now r Wire → ⊥
-waking now (Router s) why = subst IsWire (why.0) tt
-waking now (Manager s) why = why
-
--- a frame that a device or a client hears, or a router
-relaying : {A : Type 0} (l : Listener) (f : HeardFrame A) (now : ℕ) (r : SiteRelay A) →
-    relay.FrameIsRefused site.Counts site.Hears site.IsRefused port.station_of now l.port f.used (One l.mac) f.octets
-    f.stamp r Wire → ⊥
-relaying l f now (Router s) why = passing now l.port (One l.mac) f.octets f.stamp (Router _) why.refused
-relaying l f now (Manager s) why = subst IsWire (why.0) tt
-
-frame_of : {A : Type 0} (x : Whom) (l : Listener) (f : HeardFrame A) (w : WorldState A) → RefusesAs x l Wire f w → ⊥
-frame_of whom.Host l f w why = hearing w.moment l.port (One l.mac) f.octets f.stamp _ why.refuses.refused
-frame_of whom.Relay l f w why = relaying l f w.moment why.r why.refuses
+hearing : {A : Type 0} (now at : ℕ) (from : Mac) (octets : List ℕ) (stamp : ℕ) (n : NodeState A) →
+    HearingIsRefused now at from octets stamp n Wire → ⊥
+hearing now at from octets stamp n why = hearing_as n.part now at from octets stamp n why
 
 frames_of : {A : Type 0} (l : Listener) (fs : List (HeardFrame A)) (w : WorldState A) → RefusesOne l Wire fs w → ⊥
 frames_of l [] w why = why
-frames_of l (f ∷ fs) w (inl why) = frame_of l.whom l f w why
+frames_of l (f ∷ fs) w (inl why) = on_port w.moment l.port (One l.mac) f.octets f.stamp why.refuses.counted.ports
+    why.n.part why.refuses.refused
 frames_of l (f ∷ fs) w (inr why) = frames_of l fs why.middle why.rest
 
 -- .. one that nobody put out, or that is too old
@@ -147,50 +132,57 @@ ending A judge never _ _ _ _ (accepts kept octets after f fs end ends ok more) x
     ending A judge never after (drop f.used octets) fs end more x
 
 -- octets on a bus
-octets_of : {A : Type 0} (network : ℕ) (name octets : List ℕ) (w : WorldState A) →
-    RefusesOctets network name octets w Wire → ⊥
-octets_of {A} network name octets w of = elim of.why [
+octets_of : {A : Type 0} (network place : ℕ) (octets : List ℕ) (w : WorldState A) →
+    RefusesOctets network place octets w Wire → ⊥
+octets_of {A} network place octets w of = elim of.why [
   | inl frame ↦ frames_of of.listener of.at.hearing.frames w frame
   | inr end ↦ ending A (λ whole. judged_by w.moment (known_of whole of.heard.bus.known))
       (λ whole. judging w.moment (known_of whole of.heard.bus.known)) _ octets of.at.hearing.frames
       of.at.hearing.ending of.heard.hears (subst IsWireEnd (sym (end.0)) tt)
 ]
 
--- the station of a name
-naming : {A : Type 0} (name : List ℕ) (w : WorldState A) (Says : WorldStation A → Type 0) →
-    ((s : WorldStation A) → Says s → ⊥) → RefusesNamed name w Wire Says → ⊥
-naming name w Says never (inl why) = subst IsWire (why.0) tt
-naming name w Says never (inr of) = never of.s of.is
+-- the node at a place
+at_place : {A : Type 0} (place : ℕ) (w : WorldState A) (Says : NodeState A → Type 0) →
+    ((n : NodeState A) → Says n → ⊥) → RefusesAt place w Wire Says → ⊥
+at_place place w Says never (inl why) = subst IsWire (why.0) tt
+at_place place w Says never (inr of) = never of.n of.is
+
+happening_of : {A : Type 0} (h : Happening A) (w : WorldState A) → HappeningIsRefused h w Wire → ⊥
+happening_of h w (inl memory) = subst IsWire (memory.0) tt
+happening_of (happening.Issue client instance q) w (inr why) =
+    at_place client w _ (λ n. issuing w.moment instance q n) why
+happening_of (happening.WhoIs client limits) w (inr why) =
+    at_place client w _ (λ n x. elim x [ inl a ↦ subst IsWire (a.0) tt | inr b ↦ subst IsWire (b.0) tt ]) why
+happening_of (happening.Tick n) w (inr why) = subst IsWire (why.0) tt
+happening_of (happening.Wake node) w (inr why) = at_place node w _ (λ n x. subst IsWire (x.0) tt) why
+happening_of (happening.Deliver number) w (inr (inl why)) = subst IsWire (why.0) tt
+happening_of (happening.Deliver number) w (inr (inr (inl old))) = subst IsWire (old.0) tt
+happening_of (happening.Deliver number) w (inr (inr (inr there))) = hearing w.moment there.goes.port there.goes.item.from
+    there.goes.item.octets there.goes.item.stamp there.goes.n there.refuses
+happening_of (happening.Restart node) w (inr why) = at_place node w _ (λ n x. subst IsWire (x.0) tt) why
+happening_of (happening.Hear network node octets) w (inr (inl why)) = subst IsWire (why.0) tt
+happening_of (happening.Hear network node octets) w (inr (inr of)) = octets_of network node octets w of
+happening_of (happening.Register node) w (inr why) = at_place node w _ (λ n x. subst IsWire (x.0) tt) why
+
+-- the node of a name
+naming : {A : Type 0} (name : List ℕ) (at : ℕ → Happening A) (w : WorldState A) → RefusesNamed name at w Wire → ⊥
+naming name at w (inl why) = subst IsWire (why.0) tt
+naming name at w (inr of) = happening_of (at of.place) w of.holds
 
 refusing : {A : Type 0} (e : Event A) (w : WorldState A) → IsRefused e w Wire → ⊥
-refusing e w (inl memory) = subst IsWire (memory.0) tt
-refusing (event.Issue client instance q) w (inr why) =
-    naming client w _ (λ s. issuing (places_of s) w.moment instance q s.entity) why
-refusing (event.WhoIs client limits) w (inr why) =
-    naming client w _ (λ s x. elim x [ inl a ↦ subst IsWire (a.0) tt | inr b ↦ subst IsWire (b.0) tt ]) why
-refusing (event.Tick n) w (inr why) = subst IsWire (why.0) tt
-refusing (event.Wake station) w (inr (inl why)) = subst IsWire (why.0) tt
-refusing (event.Wake station) w (inr (inr (inl of))) = subst IsWire (of.is.0) tt
-refusing (event.Wake station) w (inr (inr (inr of))) = waking w.moment of.r of.refuses
-refusing (event.Deliver number) w (inr (inl (inl why))) = subst IsWire (why.0) tt
-refusing (event.Deliver number) w (inr (inl (inr old))) = subst IsWire (old.0) tt
-refusing (event.Deliver number) w (inr (inr (inl there))) =
-    hearing w.moment there.goes.port there.goes.item.from there.goes.item.octets there.goes.item.stamp there.goes.s
-    there.refuses
-refusing (event.Deliver number) w (inr (inr (inr (inl old)))) = subst IsWire (old.0) tt
-refusing (event.Deliver number) w (inr (inr (inr (inr there)))) =
-    passing w.moment there.goes.port there.goes.item.from there.goes.item.octets there.goes.item.stamp there.goes.r
-    there.refuses
-refusing (event.Restart station) w (inr why) = naming station w _ (λ s x. subst IsWire (x.0) tt) why
-refusing (event.Hear network station octets) w (inr (inl why)) = subst IsWire (why.0) tt
-refusing (event.Hear network station octets) w (inr (inr of)) = octets_of network station octets w of
-refusing (event.Register station) w (inr why) = naming station w _ (λ s x. subst IsWire (x.0) tt) why
+refusing (event.Issue client instance q) w why = naming client (λ place. happening.Issue place instance q) w why
+refusing (event.WhoIs client limits) w why = naming client (λ place. happening.WhoIs place limits) w why
+refusing (event.Tick n) w why = happening_of (happening.Tick n) w why
+refusing (event.Wake station) w why = naming station (λ place. happening.Wake place) w why
+refusing (event.Deliver number) w why = happening_of (happening.Deliver number) w why
+refusing (event.Restart station) w why = naming station (λ place. happening.Restart place) w why
+refusing (event.Hear network station octets) w why = naming station (λ place. happening.Hear network place octets) w why
+refusing (event.Register station) w why = naming station (λ place. happening.Register place) w why
 
 straying : {A : Type 0} (i : Item A) (w : WorldState A) → StrayIsRefused i w Wire → ⊥
 straying i w (inl memory) = subst IsWire memory tt
 straying i w (inr (inl why)) = subst IsWire (why.0) tt
-straying i w (inr (inr (inl why))) = hearing w.moment why.at i.from i.octets i.stamp why.s why.refuses
-straying i w (inr (inr (inr why))) = passing w.moment why.at i.from i.octets i.stamp why.r why.refuses
+straying i w (inr (inr why)) = hearing w.moment why.at i.from i.octets i.stamp why.n why.refuses
 
 -- no refusal of an event is the wire's
 pub event_not_wire : {A : Type 0} (e : Event A) (w : WorldState A) (fault : Fault) → IsRefused e w fault → fault ≢ Wire

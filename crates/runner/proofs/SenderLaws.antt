@@ -1,22 +1,25 @@
 -- Who sent the items of a world stays known as it goes on: items come behind those that are there.
-use Rattle.std.proofs.Common.{◌≡◌, ◌∙◌, inl, inr, refl, sym, ap, subst, ℕ, zero, suc, List, [], ◌∷◌, ◌++◌, map, Some, arith}
+use Rattle.std.proofs.Common.{◌≡◌, ◌∙◌, inl, inr, refl, sym, ap, subst, ℕ, zero, suc, true, List, [], ◌∷◌, ◌++◌, map, Some, arith}
 use Rattle.std.proofs.lemmas.List.{append_assoc, append-nil, map-append}
 use Rattle.std.proofs.lemmas.Option.{none-some, same_Some}
-use Rattle.std.specs.Prelude.{slice_get}
+use Rattle.std.specs.Prelude.{slice_get, slice_set}
 use Rattle.bus_traffic.specs.declared.hearing.HeardFrame.{HeardFrame}
 use Rattle.npdu.specs.declared.mac.Mac.{Mac}
 use Rattle.runner.specs.Strays.{TakesStray}
 use Rattle.senders.proofs.SendersLaws.{known_on}
 use Rattle.senders.specs.Senders.{AreKnown, Grows, SendersState, senders_of}
-use Rattle.simulator.specs.internetwork.Hearing.{Hears, IsTold, IsToldAs, TakesAs, TakesEach}
-use Rattle.simulator.specs.internetwork.Step.{Steps, delivered}
-use Rattle.simulator.specs.internetwork.Straying.{Strays}
-use Rattle.simulator.specs.internetwork.World.{WorldState}
-use Rattle.simulator.specs.internetwork.declared.event.Event.{Event}
-use Rattle.simulator.specs.internetwork.declared.event.Event.TheVariants as event
-use Rattle.simulator.specs.internetwork.declared.listener.Listener.{Listener}
-use Rattle.simulator.specs.internetwork.declared.listener.Whom.{Whom}
-use Rattle.simulator.specs.internetwork.declared.listener.Whom.TheVariants.{Host, Relay}
+use Rattle.simulator.specs.world.Acting.{Acts}
+use Rattle.simulator.specs.world.Hearing.{Hears, IsTold, TakesEach}
+use Rattle.simulator.specs.world.Step.{Happens, Steps}
+use Rattle.simulator.specs.world.Straying.{Strays}
+use Rattle.simulator.specs.world.World.{WorldState}
+use Rattle.simulator.specs.world.declared.event.Event.{Event}
+use Rattle.simulator.specs.world.declared.event.Event.TheVariants as event
+use Rattle.simulator.specs.world.declared.event.Happening.{Happening}
+use Rattle.simulator.specs.world.declared.event.Happening.TheVariants as happening
+use Rattle.simulator.specs.world.declared.listener.Listener.{Listener}
+use Rattle.simulator.specs.site_node.Node.{NodeState}
+use Rattle.simulator.specs.site_node.Steps.{NodeTold}
 use Rattle.traffic.specs.declared.item.Item.{Item}
 use Rattle.wire.specs.Datagrams.{Datagram}
 
@@ -35,7 +38,7 @@ grows_then xs ys zs first then = record {
 module _ {A : Type 0} where
   -- the mark that an item was delivered changes no sender
   marked : (items : List (Item A)) (n : ℕ) (i : Item A) → slice_get items n ≡ Some i →
-      senders_of (delivered n i items) ≡ senders_of items
+      senders_of (slice_set items n (record i { is_delivered = true })) ≡ senders_of items
   marked [] n i there = absurd (none-some i there)
   marked (x ∷ xs) zero i there = ap (λ (y : Item A). y.from ∷ senders_of xs) (sym (same_Some x i there))
   marked (x ∷ xs) (suc n) i there = ap (λ (l : List Mac). x.from ∷ l) (marked xs n i there)
@@ -55,53 +58,58 @@ module _ {A : Type 0} where
   same_items : (w v : WorldState A) → v ≡ w → GrowsTo w v
   same_items w v is = grows_to (senders_of w.items) (senders_of v.items) (ap (λ (x : WorldState A). senders_of x.items) is)
 
-  heard_by : (x : Whom) (l : Listener) (f : HeardFrame A) (w v : WorldState A) → TakesAs x l f w v → GrowsTo w v
-  heard_by Host l f w v h = behind w v w.items _ refl h.acts.items_are
-  heard_by Relay l f w v h = behind w v w.items _ refl (ap (λ (x : WorldState A). x.items) h.acts.is)
+  -- what a node puts out
+  acts_grow : (w v : WorldState A) (place : ℕ) (n next : NodeState A) (t : NodeTold A) → Acts w v place n next t →
+      GrowsTo w v
+  acts_grow w v place n next t acts = behind w v w.items _ refl (ap (λ (x : WorldState A). x.items) acts.is)
 
   heard_each : (l : Listener) (fs : List (HeardFrame A)) (w v : WorldState A) → TakesEach l fs w v → GrowsTo w v
   heard_each l [] w v h = same_items w v h
   heard_each l (f ∷ fs) w v h = grows_then (senders_of w.items) (senders_of h.middle.items) (senders_of v.items)
-      (heard_by l.whom l f w h.middle h.first) (heard_each l fs h.middle v h.rest)
+      (acts_grow w h.middle l.place h.first.n h.first.next h.first.told h.first.acts) (heard_each l fs h.middle v h.rest)
 
-  told_by : (x : Whom) (l : Listener) (count : ℕ) (w v : WorldState A) → IsToldAs x l count w v → GrowsTo w v
-  told_by Host l count w v h = behind w v w.items _ refl h.acts.items_are
-  told_by Relay l count w v h = behind w v w.items _ refl (ap (λ (x : WorldState A). x.items) h.acts.is)
+  told_any : (l : Listener) (count : ℕ) (w v : WorldState A) → IsTold l count w v → GrowsTo w v
+  told_any l zero w v h = same_items w v h
+  told_any l (suc n) w v h = acts_grow w v l.place h.n h.next h.told h.acts
 
-  told : (l : Listener) (count : ℕ) (w v : WorldState A) → IsTold l count w v → GrowsTo w v
-  told l zero w v h = same_items w v h
-  told l (suc n) w v h = told_by l.whom l (suc n) w v h
-
-  hears : (network : ℕ) (name octets : List ℕ) (w v : WorldState A) → Hears network name octets w v → GrowsTo w v
-  hears network name octets w v h =
-      let does = h.settles.does in
-      let all = does.first in
-      grows_then (senders_of w.items) (senders_of does.middle.items) (senders_of v.items)
-      (grows_then (senders_of w.items) (senders_of all.middle.items) (senders_of does.middle.items)
+  hears : (network place : ℕ) (octets : List ℕ) (w v : WorldState A) → Hears network place octets w v → GrowsTo w v
+  hears network place octets w v h =
+      let all = h.settles.does.first in
+      let kept = h.settles.does.middle in
+      grows_then (senders_of w.items) (senders_of kept.items) (senders_of v.items)
+      (grows_then (senders_of w.items) (senders_of all.middle.items) (senders_of kept.items)
       (heard_each h.listener h.at.hearing.frames w all.middle all.first)
-      (told h.listener h.settles.rest all.middle does.middle all.rest))
-      (grows_to (senders_of does.middle.items) (senders_of v.items)
-      (ap (λ (x : WorldState A). senders_of x.items) does.rest.is))
+      (told_any h.listener h.settles.rest all.middle kept all.rest))
+      (grows_to (senders_of kept.items) (senders_of v.items)
+      (ap (λ (x : WorldState A). senders_of x.items) h.settles.does.rest.is))
+
+  happens_grow : (h : Happening A) (w v : WorldState A) → Happens h w v → GrowsTo w v
+  happens_grow (happening.Issue client instance q) w v h =
+      behind w v w.items _ refl (ap (λ (x : WorldState A). x.items) h.acts.is)
+  happens_grow (happening.WhoIs client limits) w v h = acts_grow w v client h.n h.next h.told h.acts
+  happens_grow (happening.Tick n) w v h = grows_to (senders_of w.items) (senders_of v.items)
+      (ap (λ (x : WorldState A). senders_of x.items) h.is)
+  happens_grow (happening.Wake node) w v h = acts_grow w v node h.n h.next h.told h.acts
+  happens_grow (happening.Deliver number) w v h =
+      behind w v (slice_set w.items number (record (h.item) { is_delivered = true })) _
+      (marked w.items number h.item h.there) (ap (λ (x : WorldState A). x.items) h.acts.is)
+  happens_grow (happening.Restart node) w v h =
+      behind w v w.items _ refl (ap (λ (x : WorldState A). x.items) h.acts.is)
+  happens_grow (happening.Hear network node octets) w v h = hears network node octets w v h
+  happens_grow (happening.Register node) w v h = acts_grow w v node h.n h.next h.told h.acts
 
   steps_grow : (e : Event A) (w v : WorldState A) → Steps e w v → GrowsTo w v
-  steps_grow (event.Issue client instance q) w v h = behind w v w.items _ refl h.acts.items_are
-  steps_grow (event.WhoIs client limits) w v h = behind w v w.items _ refl h.acts.items_are
-  steps_grow (event.Tick n) w v h = grows_to (senders_of w.items) (senders_of v.items)
-      (ap (λ (x : WorldState A). senders_of x.items) h.is)
-  steps_grow (event.Wake station) w v (inl h) = behind w v w.items _ refl h.acts.items_are
-  steps_grow (event.Wake station) w v (inr h) = behind w v w.items _ refl (ap (λ (x : WorldState A). x.items) h.acts.is)
-  steps_grow (event.Deliver number) w v (inl h) =
-      behind w v (delivered number h.item w.items) _ (marked w.items number h.item h.there) h.acts.items_are
-  steps_grow (event.Deliver number) w v (inr h) =
-      behind w v (delivered number h.item w.items) _ (marked w.items number h.item h.there)
-      (ap (λ (x : WorldState A). x.items) h.acts.is)
-  steps_grow (event.Restart station) w v h = behind w v w.items _ refl h.acts.items_are
-  steps_grow (event.Hear network station octets) w v h = hears network station octets w v h
-  steps_grow (event.Register station) w v h = behind w v w.items _ refl h.acts.items_are
+  steps_grow (event.Issue client instance q) w v h = happens_grow (happening.Issue h.place instance q) w v h.holds
+  steps_grow (event.WhoIs client limits) w v h = happens_grow (happening.WhoIs h.place limits) w v h.holds
+  steps_grow (event.Tick n) w v h = happens_grow (happening.Tick n) w v h
+  steps_grow (event.Wake station) w v h = happens_grow (happening.Wake h.place) w v h.holds
+  steps_grow (event.Deliver number) w v h = happens_grow (happening.Deliver number) w v h
+  steps_grow (event.Restart station) w v h = happens_grow (happening.Restart h.place) w v h.holds
+  steps_grow (event.Hear network station octets) w v h = happens_grow (happening.Hear network h.place octets) w v h.holds
+  steps_grow (event.Register station) w v h = happens_grow (happening.Register h.place) w v h.holds
 
   strays_grow : (i : Item A) (w v : WorldState A) → Strays i w v → GrowsTo w v
-  strays_grow i w v (inl h) = behind w v w.items _ refl h.acts.items_are
-  strays_grow i w v (inr h) = behind w v w.items _ refl (ap (λ (x : WorldState A). x.items) h.acts.is)
+  strays_grow i w v h = acts_grow w v h.place h.n h.next h.told h.acts
 
   -- an event
   pub known_after : (s : SendersState) (e : Event A) (w v : WorldState A) → AreKnown s (senders_of w.items) →

@@ -3,8 +3,8 @@ use Rattle.std.proofs.Common.{◌≡◌, ◌≢◌, inl, inr, refl, sym, subst, 
 use Rattle.std.proofs.lemmas.Option.{none-some, same_Some}
 use Rattle.std.specs.List.{AllByRecursion}
 use Rattle.std.specs.Prelude.{slice_get}
-use Rattle.simulator.specs.internetwork.Straying.{StrayIsRefused, Strays}
-use Rattle.simulator.specs.internetwork.World.{WorldState}
+use Rattle.simulator.specs.world.Straying.{StrayIsRefused, Strays}
+use Rattle.simulator.specs.world.World.{WorldState}
 use Rattle.runner.specs.Strays.{AreWithout, IsRefusedStray, IsWithout, RefusesAt, TakesStray, stray_on}
 use Rattle.site_parts.specs.declared.parts.Network.{Network}
 use Rattle.tags.specs.declared.fault.Fault.{Fault}

@@ -6,9 +6,9 @@ use Rattle.bus_traffic.specs.declared.bus.Bus.{Bus}
 use Rattle.bus_traffic.specs.declared.ear.Ear.{Ear}
 use Rattle.bus_traffic.specs.declared.sending.Recent.{Recent}
 use Rattle.bus_traffic.specs.declared.telling.Telling.{Telling}
-use Rattle.simulator.specs.internetwork.World.{WorldState}
-use Rattle.simulator.specs.internetwork.declared.event.Event.{Event}
-use Rattle.simulator.specs.internetwork.declared.event.Event.TheVariants.{Hear}
+use Rattle.simulator.specs.world.World.{WorldState}
+use Rattle.simulator.specs.world.declared.event.Event.{Event}
+use Rattle.simulator.specs.world.declared.event.Event.TheVariants.{Hear}
 use Rattle.npdu.specs.declared.mac.Mac.TheVariants.{One}
 use Rattle.runner.specs.declared.hearing.Heard.{Heard}
 use Rattle.simulator.specs.Flows.{left_to_tell}

@@ -2,9 +2,9 @@
 use Rattle.std.specs.Prelude.{◌≡◌, true, List, [], ◌∷◌, Option, Result}
 use Rattle.std.specs.List.{AllByRecursion}
 use Rattle.simulator.specs.Runs.{Runs}
-use Rattle.simulator.specs.internetwork.Step.{IsSoundEvent, IsSoundIfAny}
-use Rattle.simulator.specs.internetwork.World.{WorldState}
-use Rattle.simulator.specs.internetwork.declared.event.Event.{Event}
+use Rattle.simulator.specs.world.Step.{IsSoundEvent, IsSoundIfAny}
+use Rattle.simulator.specs.world.World.{WorldState}
+use Rattle.simulator.specs.world.declared.event.Event.{Event}
 use Rattle.tags.specs.declared.fault.Fault.{Fault}
 use Rattle.wire.specs.Datagrams.{Datagram}
 use Rattle.runner.specs.Runner.{RunnerState}

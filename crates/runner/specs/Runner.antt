@@ -1,6 +1,6 @@
 -- A runner as it is kept.
 use Rattle.std.specs.Prelude.{◌-◌, ℕ, Bool, length}
-use Rattle.simulator.specs.internetwork.World.{WorldState}
+use Rattle.simulator.specs.world.World.{WorldState}
 
 -- world: what it runs. is_open: datagrams that nobody of the site sent are heard. strayed: the latest turn had one that
 -- was. is_led: no turn had one so far

@@ -1,8 +1,8 @@
 -- A datagram that nobody of the site sent, at an address of one of the site's networks.
 use Rattle.std.specs.Prelude.{◌≡◌, ◌≢◌, ◌⊎◌, ℕ, List, Some, slice_get}
 use Rattle.std.specs.List.{AllByRecursion}
-use Rattle.simulator.specs.internetwork.Straying.{StrayIsRefused, Strays, stray_item}
-use Rattle.simulator.specs.internetwork.World.{WorldState}
+use Rattle.simulator.specs.world.Straying.{StrayIsRefused, Strays, stray_item}
+use Rattle.simulator.specs.world.World.{WorldState}
 use Rattle.site_parts.specs.declared.parts.Network.{Network}
 use Rattle.tags.specs.declared.fault.Fault.{Fault}
 use Rattle.tags.specs.declared.fault.Fault.TheVariants.{NoSuch}

@@ -1,10 +1,10 @@
 -- What a turn of a runner leaves.
 use Rattle.std.specs.Prelude.{◌≡◌, ◌⊎◌, ℕ, true, false, Option, Some, None, Result, Ok, Err}
 use Rattle.simulator.specs.Heard.{HasBrought}
-use Rattle.simulator.specs.internetwork.Refusals.{IsRefused}
-use Rattle.simulator.specs.internetwork.Step.{Steps}
-use Rattle.simulator.specs.internetwork.declared.event.Event.{Event}
-use Rattle.simulator.specs.internetwork.declared.event.Event.TheVariants.{Deliver}
+use Rattle.simulator.specs.world.Refusals.{IsRefused}
+use Rattle.simulator.specs.world.Step.{Steps}
+use Rattle.simulator.specs.world.declared.event.Event.{Event}
+use Rattle.simulator.specs.world.declared.event.Event.TheVariants.{Deliver}
 use Rattle.tags.specs.declared.fault.Fault.{Fault}
 use Rattle.tags.specs.declared.fault.Fault.TheVariants.{Wire}
 use Rattle.wire.specs.Counts.{raised}

@@ -1,7 +1,7 @@
 //! Which station of a bus hears a frame next.
 
 ghost use Rattle.std.specs.Prelude.{◌≡◌, ◌<◌, ◌^◌, Some, IfOk, slice_get};
-ghost use Rattle.simulator.specs.internetwork.Step.{IsSoundIfAny};
+ghost use Rattle.simulator.specs.world.Step.{IsSoundIfAny};
 ghost use Rattle.runner.specs.Hearing.{HearsThemIfAny, IsNextHear, begun, turn_after};
 
 use bus_traffic::{NextTold, Telling};

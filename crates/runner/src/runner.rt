@@ -41,8 +41,8 @@ impl<A: Allocator + Copy> Runner<A> {
     ghost use Rattle.std.specs.Prelude.{◌≡◌, ◌≢◌, true, false, Some, None, IfErr, IfNone, IfOk, IfSome, OnErr, OnOk};
     ghost use Rattle.simulator.specs.carry_world.Laws.{IsLegal};
     ghost use Rattle.simulator.specs.Judged.{instances_of, judged_of};
-    ghost use Rattle.simulator.specs.internetwork.Refusals.{IsRefused};
-    ghost use Rattle.simulator.specs.internetwork.Step.{IsSoundEvent, IsSoundIfAny};
+    ghost use Rattle.simulator.specs.world.Refusals.{IsRefused};
+    ghost use Rattle.simulator.specs.world.Step.{IsSoundEvent, IsSoundIfAny};
     ghost use Rattle.runner.specs.Runner.{put_out};
     ghost use Rattle.runner.specs.Seeking.{IsLastMatch, IsStray};
     ghost use Rattle.runner.specs.Strays.{IsRefusedStray, TakesStray};

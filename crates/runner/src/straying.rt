@@ -1,7 +1,7 @@
 //! What is done with a datagram that nobody of the site sent.
 
 ghost use Rattle.std.specs.Prelude.{◌≡◌, ◌<◌, IfErr, OnErr, OnOk, Some, length, slice_get};
-ghost use Rattle.simulator.specs.internetwork.Straying.{StrayIsRefused};
+ghost use Rattle.simulator.specs.world.Straying.{StrayIsRefused};
 ghost use Rattle.runner.specs.Strays.{IsRefusedStray, RefusesAt, TakesStray, stray_on};
 ghost use Rattle.wire.specs.Datagrams.{datagram_of};
 

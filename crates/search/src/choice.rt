@@ -1,7 +1,7 @@
 //! What may happen next, as an event.
 
 ghost use Rattle.std.specs.Prelude.{IfOk};
-ghost use Rattle.simulator.specs.internetwork.Step.{IsSoundIfAny};
+ghost use Rattle.simulator.specs.world.Step.{IsSoundIfAny};
 
 use bus_traffic::{Recent, RecentBox};
 use npdu::{Mac, Station};

@@ -1,17 +1,17 @@
 -- The devices of a world that came about from a fresh one are those of its site, in order.
 use Rattle.std.proofs.Common.{◌≡◌, ◌∙◌, refl, sym, ap, ℕ, List, [], ◌∷◌, map}
 use Rattle.std.specs.List.{AllByRecursion}
-use Rattle.internetwork.specs.carry_world.carry_said.headline_site.Fair.{IsNewDevice}
-use Rattle.internetwork.specs.carry_world.Laws.{AreThemselves, Judged, instances_at, judged_at}
-use Rattle.internetwork.specs.device.Device.{DeviceState, new_device}
-use Rattle.internetwork.specs.headline_bacnet.Refined.{ObjectSite}
-use Rattle.internetwork.specs.hosts.Laws.{OpenAs}
-use Rattle.internetwork.specs.hosts.headline_device.Devices.{station_of}
+use Rattle.world.specs.carry_world.carry_said.headline_site.Fair.{IsNewDevice}
+use Rattle.world.specs.carry_world.Laws.{AreThemselves, Judged, instances_at, judged_at}
+use Rattle.world.specs.device.Device.{DeviceState, new_device}
 use Rattle.npdu.specs.declared.mac.Station.{Station}
-use Rattle.internetwork.specs.hosts.object_model.Objects.{PlainTable}
-use Rattle.internetwork.specs.hosts.object_model.Site.{opening_table}
-use Rattle.internetwork.specs.hosts.object_model.declared.site.SiteObjects.{SiteObjects}
+use Rattle.object_model.specs.Objects.{PlainTable}
+use Rattle.object_model.specs.Site.{opening_table}
+use Rattle.object_model.specs.declared.site.SiteObjects.{SiteObjects}
 use Rattle.simulator.specs.Judged.{judged}
+use Rattle.world.specs.headline_bacnet.Refined.{ObjectSite}
+use Rattle.world.specs.world_sites.Laws.{OpenAs}
+use Rattle.world.specs.world_sites.headline_device.Devices.{station_of}
 
 module _ {A : Type 0} (s : ObjectSite A) where
   -- the objects of a new device open as its station's do

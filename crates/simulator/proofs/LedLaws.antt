@@ -1,73 +1,114 @@
 -- What came about from a fresh world by its events: what the promise says of it.
-use Rattle.std.proofs.Common.{◌≡◌, ◌∙◌, inl, inr, refl, sym, ap, subst, ℕ, zero, suc, List, [], ◌∷◌, ◌++◌, Result, Ok, Err, IfErr, OnErr, OnOk}
+use Rattle.std.proofs.Common.{◌≡◌, ◌∙◌, inl, inr, refl, sym, ap, subst, arith, ℕ, zero, suc, ◌+◌, List, [], ◌∷◌, ◌++◌, Result, Ok, Err, IfErr, OnErr, OnOk}
+use Rattle.bus_traffic.specs.declared.hearing.HeardFrame.{HeardFrame}
 use Rattle.carry.specs.Things.{AreCarried}
-use Rattle.internetwork.proofs.carry_world.Executed.{whole_is_executed}
-use Rattle.internetwork.proofs.carry_world.Legal.{is_legal}
-use Rattle.internetwork.proofs.carry_world.Promised.{all_said, steps_lead_on, whole_is_issued}
-use Rattle.internetwork.proofs.carry_world.Staying.{devices_stay}
-use Rattle.internetwork.specs.carry_world.Answers.{WholeIsExecuted}
-use Rattle.internetwork.specs.carry_world.Laws.{IsFresh, IsLegal, Judged, WholeIsIssued, instances_at}
-use Rattle.internetwork.specs.carry_world.PlainSteps.{StepsTo}
+use Rattle.world.proofs.carry_world.Executed.{whole_is_executed}
+use Rattle.world.proofs.carry_world.Legal.{is_legal}
+use Rattle.world.proofs.carry_world.Promised.{all_said, steps_lead_on, whole_is_issued}
+use Rattle.world.proofs.carry_world.Staying.{devices_stay}
+use Rattle.world.specs.carry_world.Answers.{WholeIsExecuted}
+use Rattle.world.specs.carry_world.Laws.{IsFresh, IsLegal, Judged, WholeIsIssued, instances_at}
+use Rattle.world.specs.carry_world.PlainSteps.{StepsTo}
 use Rattle.headline.specs.Protocol.{IsSite}
-use Rattle.internetwork.specs.headline_bacnet.Protocol.{bacnet}
-use Rattle.internetwork.specs.chronicle.Growing.{WorldHistory}
-use Rattle.site_parts.specs.declared.parts.Parts.{Parts}
-use Rattle.simulator.proofs.LeadLaws.{steps_lead}
-use Rattle.internetwork.specs.Laws.{Stands}
 use Rattle.simulator.proofs.JudgedLaws.{instances_are, judged_are}
+use Rattle.simulator.proofs.LeadLaws.{by_place, steps_lead}
 use Rattle.simulator.specs.Judged.{instances_of, judged_of}
 use Rattle.simulator.specs.Laws.{IsLed}
 use Rattle.simulator.specs.Runs.{Happens, Runs}
-use Rattle.internetwork.specs.hosts.Laws.{OpenAs}
-use Rattle.internetwork.specs.hosts.Opening.{devices_in, object_site}
-use Rattle.bus_traffic.specs.declared.hearing.HeardFrame.{HeardFrame}
-use Rattle.internetwork.specs.Hearing.{IsTold, IsToldAs, TakesAs, TakesEach}
-use Rattle.internetwork.specs.declared.listener.Listener.{Listener}
-use Rattle.internetwork.specs.declared.listener.Whom.{Whom}
-use Rattle.internetwork.specs.declared.listener.Whom.TheVariants.{Host, Relay}
-use Rattle.internetwork.specs.Refusals as internetwork
-use Rattle.internetwork.specs.Refusals.{Comes, IsRefused}
-use Rattle.internetwork.specs.Step.{IsSoundEvent, Steps}
-use Rattle.internetwork.specs.hosts.Stations.{devices_of}
+use Rattle.world.specs.site_node.Node.{NodeState}
+use Rattle.world.specs.site_node.Steps.{NodeTold}
+use Rattle.site_parts.specs.declared.parts.Parts.{Parts}
 use Rattle.tags.specs.declared.fault.Fault.{Fault}
-use Rattle.internetwork.specs.World.{WorldState, plain}
-use Rattle.internetwork.specs.declared.event.Event.{Event}
-use Rattle.internetwork.specs.declared.event.Event.TheVariants as event
+use Rattle.world.specs.Acting.{Acts}
+use Rattle.world.specs.Hearing.{IsTold, TakesEach}
+use Rattle.world.specs.Laws.{Stands}
+use Rattle.world.specs.Refusals as world
+use Rattle.world.specs.Refusals.{Comes, IsRefused}
+use Rattle.world.specs.Step as step
+use Rattle.world.specs.Step.{IsSoundEvent, Steps}
+use Rattle.world.specs.World.{WorldState, plain}
+use Rattle.world.specs.declared.event.Event.{Event}
+use Rattle.world.specs.declared.event.Happening.{Happening}
+use Rattle.world.specs.declared.event.Happening.TheVariants as happening
+use Rattle.world.specs.declared.listener.Listener.{Listener}
+use Rattle.world.specs.headline_bacnet.Protocol.{bacnet}
+use Rattle.world.specs.world_log.Growing.{WorldHistory}
+use Rattle.world.specs.world_sites.Laws.{OpenAs}
+use Rattle.world.specs.world_sites.Nodes.{devices_of}
+use Rattle.world.specs.world_sites.Opening.{devices_in, object_site}
 
--- nothing that is heard changes the site
-taken_site : {A : Type 0} (whom : Whom) (l : Listener) (f : HeardFrame A) (w v : WorldState A) → TakesAs whom l f w v →
-    v.site ≡ w.site
-taken_site Host l f w v t = t.acts.site
-taken_site Relay l f w v t = ap (λ (u : WorldState _). u.site) t.acts.is
+-- the site of a world is the same still, and this much time has passed
+pub record HasPassed {A : Type 0} (n : ℕ) (w v : WorldState A) : Type 0 where
+  pub site : v.site ≡ w.site
+  pub moment : v.moment ≡ w.moment + n
 
-told_site : {A : Type 0} (whom : Whom) (l : Listener) (count : ℕ) (w v : WorldState A) → IsToldAs whom l count w v →
-    v.site ≡ w.site
-told_site Host l count w v t = t.acts.site
-told_site Relay l count w v t = ap (λ (u : WorldState _). u.site) t.acts.is
+-- whatever a node does, no time passes
+module _ {A : Type 0} where
+  acted : (u v : WorldState A) (place : ℕ) (n next : NodeState A) (t : NodeTold A) → Acts u v place n next t →
+      HasPassed 0 u v
+  acted u v place n next t acts = record {
+    site = ap (λ (z : WorldState A). z.site) acts.is;
+    moment = let same : v.moment ≡ u.moment = ap (λ (z : WorldState A). z.moment) acts.is in omega (arith, same);
+  }
 
-each_site : {A : Type 0} (l : Listener) (fs : List (HeardFrame A)) (w v : WorldState A) → TakesEach l fs w v →
-    v.site ≡ w.site
-each_site l [] w v same = ap (λ (u : WorldState _). u.site) same
-each_site l (f ∷ fs) w v t = each_site l fs t.middle v t.rest ∙ taken_site l.whom l f w t.middle t.first
+  at_once : (u w v : WorldState A) → HasPassed 0 w u → HasPassed 0 u v → HasPassed 0 w v
+  at_once u w v first then = record {
+    site = then.site ∙ first.site;
+    moment = let a = first.moment in let b = then.moment in omega (arith, a, b);
+  }
 
-any_site : {A : Type 0} (l : Listener) (count : ℕ) (w v : WorldState A) → IsTold l count w v → v.site ≡ w.site
-any_site l zero w v same = ap (λ (u : WorldState _). u.site) same
-any_site l (suc n) w v t = told_site l.whom l (suc n) w v t
+  nothing : (w v : WorldState A) → v ≡ w → HasPassed 0 w v
+  nothing w v same = subst (λ (u : WorldState A). HasPassed 0 w u) (sym same)
+      (record { site = refl; moment = omega arith })
+
+  each_at_once : (l : Listener) (fs : List (HeardFrame A)) (w v : WorldState A) → TakesEach l fs w v → HasPassed 0 w v
+  each_at_once l [] w v same = nothing w v same
+  each_at_once l (f ∷ fs) w v t = at_once t.middle w v
+      (acted w t.middle l.place t.first.n t.first.next t.first.told t.first.acts) (each_at_once l fs t.middle v t.rest)
+
+  told_at_once : (l : Listener) (count : ℕ) (w v : WorldState A) → IsTold l count w v → HasPassed 0 w v
+  told_at_once l zero w v same = nothing w v same
+  told_at_once l (suc n) w v t = acted w v l.place t.n t.next t.told t.acts
+
+  -- for how many milliseconds something that happens asks
+  abbrev pub ticks_at : Happening A → ℕ
+  ticks_at (happening.Tick n) = n
+  ticks_at h = 0
+
+  -- nothing that happens changes the site, and nothing but a tick the moment
+  pub happens_so : (h : Happening A) (w v : WorldState A) → step.Happens h w v → HasPassed (ticks_at h) w v
+  happens_so (happening.Issue client instance request) w v d = record {
+    site = ap (λ (z : WorldState A). z.site) d.acts.is;
+    moment = let same : v.moment ≡ w.moment = ap (λ (z : WorldState A). z.moment) d.acts.is in omega (arith, same);
+  }
+  happens_so (happening.WhoIs client limits) w v d = acted w v client d.n d.next d.told d.acts
+  happens_so (happening.Tick n) w v d = record {
+    site = ap (λ (z : WorldState A). z.site) d.is;
+    moment = ap (λ (z : WorldState A). z.moment) d.is;
+  }
+  happens_so (happening.Wake place) w v d = acted w v place d.n d.next d.told d.acts
+  happens_so (happening.Deliver number) w v d = record {
+    site = ap (λ (z : WorldState A). z.site) d.acts.is;
+    moment = let same : v.moment ≡ w.moment = ap (λ (z : WorldState A). z.moment) d.acts.is in omega (arith, same);
+  }
+  happens_so (happening.Restart place) w v d = record {
+    site = ap (λ (z : WorldState A). z.site) d.acts.is;
+    moment = let same : v.moment ≡ w.moment = ap (λ (z : WorldState A). z.moment) d.acts.is in omega (arith, same);
+  }
+  happens_so (happening.Hear network place octets) w v d =
+      let all = d.settles.does in
+      at_once all.middle w v (at_once all.first.middle w all.middle
+      (each_at_once d.listener d.at.hearing.frames w all.first.middle all.first.first)
+      (told_at_once d.listener d.settles.rest all.first.middle all.middle all.first.rest))
+      (record {
+        site = ap (λ (z : WorldState A). z.site) all.rest.is;
+        moment = let same : v.moment ≡ all.middle.moment = ap (λ (z : WorldState A). z.moment) all.rest.is in omega (arith, same);
+      })
+  happens_so (happening.Register place) w v d = acted w v place d.n d.next d.told d.acts
 
 -- no event changes the site
 pub same_site : {A : Type 0} (e : Event A) (w v : WorldState A) → Steps e w v → v.site ≡ w.site
-same_site (event.Issue client instance request) w v d = d.acts.site
-same_site (event.WhoIs client limits) w v d = d.acts.site
-same_site (event.Tick n) w v d = ap (λ (u : WorldState _). u.site) d.is
-same_site (event.Wake station) w v (inl d) = d.acts.site
-same_site (event.Wake station) w v (inr d) = ap (λ (u : WorldState _). u.site) d.acts.is
-same_site (event.Deliver number) w v (inl d) = d.acts.site
-same_site (event.Deliver number) w v (inr d) = ap (λ (u : WorldState _). u.site) d.acts.is
-same_site (event.Restart station) w v d = d.acts.site
-same_site (event.Hear network station octets) w v d = ap (λ (u : WorldState _). u.site) d.settles.does.rest.is
-    ∙ any_site d.listener d.settles.rest d.settles.does.first.middle d.settles.does.middle d.settles.does.first.rest
-    ∙ each_site d.listener d.at.hearing.frames w d.settles.does.first.middle d.settles.does.first.first
-same_site (event.Register station) w v d = d.acts.site
+same_site e w v steps = by_place (v.site ≡ w.site) w v e (λ h so happens. (happens_so h w v happens).site) steps
 
 -- what an event leaves came about so
 pub led_on : {A : Type 0} (e : Event A) (w v : WorldState A) → Stands w → IsSoundEvent e → Steps e w v → IsLed w →
@@ -94,9 +135,9 @@ module _ {A : Type 0} (w : WorldState A) (led : IsLed w) where
       let s = object_site w.site in
       let stay = devices_stay s led.fresh (plain w) led.leads in
       subst (λ (ns : List ℕ). IsLegal ns w.history (judged_of w))
-      (instances_are s (devices_in w.site.stations) led.fresh.devices (devices_of w.stations) led.devices stay)
-      (subst (λ (js : List (Judged A)). IsLegal (instances_at (devices_of w.stations)) w.history js)
-      (judged_are s (devices_in w.site.stations) led.fresh.devices (devices_of w.stations) led.devices led.begun.devices stay)
+      (instances_are s (devices_in w.site.stations) led.fresh.devices (devices_of w.nodes) led.devices stay)
+      (subst (λ (js : List (Judged A)). IsLegal (instances_at (devices_of w.nodes)) w.history js)
+      (judged_are s (devices_in w.site.stations) led.fresh.devices (devices_of w.nodes) led.devices led.begun.devices stay)
       (is_legal s led.fresh (plain w) led.is_site led.begun led.leads))
 
   pub legal_as : (h : WorldHistory A) → h ≡ w.history → IsLegal (instances_of w.site) h (judged_of w)
@@ -125,8 +166,8 @@ runs_more (f ∷ es) e w u v runs one = record {
   rest = runs_more es e runs.middle u v runs.rest one;
 }
 
--- what events leave of a world they leave of any internetwork
-pub runs_are : {A : Type 0} (es : List (Event A)) (w v : WorldState A) → Runs es w v → internetwork.Runs es w v
+-- what events leave of a world they leave of any world
+pub runs_are : {A : Type 0} (es : List (Event A)) (w v : WorldState A) → Runs es w v → world.Runs es w v
 runs_are [] w v same = same
 runs_are (e ∷ es) w v runs = record {
   middle = runs.middle;

@@ -1,7 +1,6 @@
 pub mod Parts
 pub mod Growing
 pub mod ActLaws
-pub mod PassLeads
 pub mod HearLeads
 pub mod BusLeads
 pub mod LeadLaws

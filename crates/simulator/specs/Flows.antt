@@ -1,11 +1,11 @@
 -- Which events a flow gives, and how far it has gone: each ends.
 use Rattle.std.specs.Prelude.{◌≡◌, ℕ, ◌+◌, ◌-◌, ◌*◌, ◌^◌, ◌<◌, List, [], ◌∷◌, Option, Some, None}
 use Rattle.bus_traffic.specs.declared.telling.Telling.{Telling}
-use Rattle.internetwork.specs.declared.event.Event.{Event}
-use Rattle.internetwork.specs.declared.event.Event.TheVariants as event
 use Rattle.simulator.specs.declared.flow.Flow.{Flow}
 use Rattle.simulator.specs.declared.flow.Part.{Part}
 use Rattle.simulator.specs.declared.flow.Part.TheVariants.{Ticks, Delivers, Wakes}
+use Rattle.world.specs.declared.event.Event.{Event}
+use Rattle.world.specs.declared.event.Event.TheVariants as event
 
 -- an event of a flow: a millisecond passes, what was put out is delivered or heard, or a station wakes
 abbrev pub IsOfFlow : {A : Type 0} → Event A → Type 0

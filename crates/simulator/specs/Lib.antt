@@ -5,8 +5,8 @@ pub mod Runs
 pub mod Flows
 pub mod Quiet
 -- What the layers above cite of those below.
-pub use Rattle.internetwork.specs as internetwork
-pub use Rattle.internetwork.specs.chronicle as chronicle
-pub use Rattle.internetwork.specs.carry_world as carry_world
-pub use Rattle.internetwork.specs.plans as plans
-pub use Rattle.internetwork.specs.hosts as hosts
+pub use Rattle.world.specs as world
+pub use Rattle.world.specs.world_log as world_log
+pub use Rattle.world.specs.world_sites as world_sites
+pub use Rattle.world.specs.carry_world as carry_world
+pub use Rattle.world.specs.site_node as site_node

@@ -1,10 +1,10 @@
 -- What events leave of a world, one after another.
 use Rattle.std.specs.Prelude.{◌≡◌, List, [], ◌∷◌}
-use Rattle.internetwork.specs.Hearing.{Then}
-use Rattle.internetwork.specs.Refusals.{Comes}
-use Rattle.internetwork.specs.World.{WorldState}
-use Rattle.internetwork.specs.declared.event.Event.{Event}
 use Rattle.simulator.specs.Heard.{HasBrought}
+use Rattle.world.specs.site_ports.Ports.{Then}
+use Rattle.world.specs.Refusals.{Comes}
+use Rattle.world.specs.World.{WorldState}
+use Rattle.world.specs.declared.event.Event.{Event}
 
 -- an event leaves what it leaves, or is refused; and what is heard by it was said, what is executed was issued, what is
 -- told is of its issue, and what comes whole is the whole of one

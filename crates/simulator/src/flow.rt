@@ -7,16 +7,15 @@ ghost use Rattle.bus_traffic.specs.declared.telling.Telling.{Telling};
 ghost use Rattle.profile.specs.Times as times;
 ghost use Rattle.simulator.specs.Flows.{Gives, IsLess, TakesNoTime, left_in, left_of};
 ghost use Rattle.simulator.specs.declared.flow.Part.TheVariants.{Delivers};
-ghost use Rattle.internetwork.specs.Step.{IsSoundIfAny};
+ghost use Rattle.world.specs.Step.{IsSoundIfAny};
 
 use bus_traffic::{NextTold, Sending, Telling};
-use internetwork::{Event, Internetwork};
 use npdu::{Mac, Station};
 use profile::MAX_TICK_MS;
-use site_views::at_address;
 use std::alloc::{AllocError, Allocator};
 use tags::{Fault, Octets};
 use traffic::next_waiting;
+use world::{Event, Internetwork, at_address};
 
 /// What comes next in a millisecond.
 #[derive(Clone, Copy, Debug, PartialEq, Eq)]

@@ -4,16 +4,16 @@
 //! issue is executed twice, each answer is the reply of an earlier execution of that very issue at the device that it
 //! names, and the objects of each device are what its executions leave.
 //!
-//! - `world`: the world, and its runs.
+//! - `simulation`: the world, and its runs.
 //! - `flow`: the events of a site that nothing disturbs.
 //! - `laws`: what holds of each event, for the proofs of the layers above.
 #![tactic(auto)]
 
 mod flow;
 mod laws;
-mod world;
+mod simulation;
 
 pub use flow::Flow;
-pub use internetwork::{Event, Internetwork, SaidMessage, WorldEntry};
 pub use laws::{events_lead, quiet_hears};
-pub use world::World;
+pub use simulation::World;
+pub use world::{Event, Internetwork, SaidMessage, WorldEntry};

@@ -1,6 +1,6 @@
 //! What happens in a run, row after row: what is received, the entries of the history, refusals, and what is sent.
 
-ghost use Rattle.site_steps.specs.site_run.simulator.internetwork.Step.{IsSoundEvent};
+ghost use Rattle.site_steps.specs.site_run.simulator.world.Step.{IsSoundEvent};
 
 use crate::hearing::{Heard, heard_by};
 use crate::part::Part;

@@ -3,9 +3,9 @@
 ghost use Rattle.std.specs.Prelude.{◌≡◌};
 ghost use Rattle.site_history.specs.Counting as spec;
 
-use chronicle::WorldEntry;
 use history::Entry;
 use std::alloc::Allocator;
+use world_log::WorldEntry;
 
 /// The kinds of entries that are counted.
 #[derive(Clone, Copy, Debug, PartialEq, Eq)]

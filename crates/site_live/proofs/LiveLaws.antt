@@ -5,9 +5,9 @@ use Rattle.std.proofs.lemmas.List.{append-nil}
 use Rattle.std.specs.List.{AllByRecursion}
 use Rattle.std.specs.Io.KnownBytes.{Appends}
 use Rattle.profile.specs.Times.{MAX_TICK_MS}
-use Rattle.runner.specs.internetwork.Step.{IsSoundIfAny}
-use Rattle.runner.specs.internetwork.World.{WorldState}
-use Rattle.runner.specs.internetwork.declared.event.Event.{Event}
+use Rattle.runner.specs.world.Step.{IsSoundIfAny}
+use Rattle.runner.specs.world.World.{WorldState}
+use Rattle.runner.specs.world.declared.event.Event.{Event}
 use Rattle.runner.proofs.TurnLaws.{turns_lead}
 use Rattle.runner.specs.Laws.{Turn, Turns}
 use Rattle.runner.specs.Runner.{RunnerState}

@@ -1,7 +1,7 @@
 -- The lines of a turn, one behind another.
 use Rattle.std.proofs.Common.{◌≡◌, sym, subst, ℕ, Bool, List, ◌++◌, Option, None, Some, Result, Ok, Err, OnOk, drop}
 use Rattle.std.specs.Io.KnownBytes.{Appends, Keeps}
-use Rattle.runner.specs.chronicle.Growing.{WorldHistory}
+use Rattle.runner.specs.world_log.Growing.{WorldHistory}
 use Rattle.runner.specs.Runner.{RunnerState}
 use Rattle.runner.specs.declared.turned.Turned.{Turned}
 use Rattle.site_parts.specs.declared.parts.Station.{Station}

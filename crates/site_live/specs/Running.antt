@@ -1,9 +1,9 @@
 -- What is printed of the turns of a live run, one after another.
 use Rattle.std.specs.Prelude.{◌≡◌, ◌++◌, ℕ, true, List, [], ◌∷◌, Option, Some, None, Result, Ok, Err, length}
 use Rattle.std.specs.Io.KnownBytes.{Appends}
-use Rattle.runner.specs.internetwork.Step.{IsSoundIfAny}
-use Rattle.runner.specs.internetwork.World.{WorldState}
-use Rattle.runner.specs.internetwork.declared.event.Event.{Event}
+use Rattle.runner.specs.world.Step.{IsSoundIfAny}
+use Rattle.runner.specs.world.World.{WorldState}
+use Rattle.runner.specs.world.declared.event.Event.{Event}
 use Rattle.runner.specs.Hearing.{MeetsNobody}
 use Rattle.runner.specs.Laws.{AreEvents, Turn}
 use Rattle.runner.specs.Runner.{RunnerState}

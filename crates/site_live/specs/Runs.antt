@@ -3,7 +3,7 @@ use Rattle.std.specs.Prelude.{◌≡◌, ℕ, Bool, true, false, List}
 use Rattle.std.specs.Io.KnownBytes.{Appends}
 use Rattle.runner.specs.carry_world.Laws.{IsLegal}
 use Rattle.runner.specs.simulator.Judged.{instances_of, judged_of}
-use Rattle.runner.specs.internetwork.World.{WorldState, fresh_world}
+use Rattle.runner.specs.world.World.{WorldState, fresh_world}
 use Rattle.runner.specs.Runner.{RunnerState}
 use Rattle.site.specs.Sound.{IsSound}
 use Rattle.site_parts.specs.declared.parts.Parts.{Parts}

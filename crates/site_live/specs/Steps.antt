@@ -2,9 +2,9 @@
 use Rattle.std.specs.Prelude.{◌≡◌, ◌⊎◌, ◌<◌, ℕ, List, [], ◌∷◌, ◌++◌, Option, None, Some, ◌||◌, nat_lt}
 use Rattle.std.specs.Prelude.{if◌then◌else◌}
 use Rattle.profile.specs.Times.{MAX_TICK_MS}
-use Rattle.runner.specs.internetwork.Step.{IsSoundEvent}
-use Rattle.runner.specs.internetwork.declared.event.Event.{Event}
-use Rattle.runner.specs.internetwork.declared.event.Event.TheVariants as event
+use Rattle.runner.specs.world.Step.{IsSoundEvent}
+use Rattle.runner.specs.world.declared.event.Event.{Event}
+use Rattle.runner.specs.world.declared.event.Event.TheVariants as event
 use Rattle.script.specs.Lines.{SaysSteps}
 use Rattle.script.specs.declared.step.Step.{Step}
 use Rattle.script.specs.declared.step.Step.TheVariants as step

@@ -1,7 +1,7 @@
 //! A live run, round by round.
 
 ghost use Rattle.std.specs.Prelude.{◌≡◌, OnOk};
-ghost use Rattle.runner.specs.internetwork.Step.{IsSoundIfAny};
+ghost use Rattle.runner.specs.world.Step.{IsSoundIfAny};
 
 use crate::observer::Observer;
 use crate::step::LiveStep;
@@ -76,7 +76,7 @@ fn stray_of<'w, W: Wire, A: Allocator + Copy>(runner: &Runner<A>, wire: &'w W) -
 
 impl<W: Wire + Drop, T: Timer + Drop, S: Observer<A> + Drop, A: Allocator + Copy> Live<W, T, S, A> {
     ghost use Rattle.std.specs.Prelude.{◌≡◌, ◌<◌, [], true, false, IfOk, OnOk};
-    ghost use Rattle.runner.specs.internetwork.Step.{IsSoundEvent};
+    ghost use Rattle.runner.specs.world.Step.{IsSoundEvent};
     ghost use Rattle.runner.specs.Hearing.{left_to_hear};
     ghost use Rattle.runner.specs.Runner.{RunnerState};
     ghost use Rattle.site_history.specs.Asked.{refused_time_text};

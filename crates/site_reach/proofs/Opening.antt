@@ -1,20 +1,16 @@
 -- A site opens with managers that have their tables.
-use Rattle.std.proofs.Common.{◌≡◌, ◌∙◌, inl, inr, refl, sym, ap, subst, arith, List, [], ◌∷◌, Option, Some, None}
+use Rattle.std.proofs.Common.{◌≡◌, ◌∙◌, inl, inr, refl, sym, ap, subst, arith, List, [], ◌∷◌, ℕ, Option, Some, None}
 use Rattle.std.specs.Prelude.{option_map, option_to_list}
-use Rattle.std.specs.List.{AllByRecursion, flat_map}
+use Rattle.std.specs.List.{AllByRecursion}
 use Rattle.bvll.specs.Address.{IsAddress}
-use Rattle.device.specs.Device.{new_device}
-use Rattle.headline_client.proofs.Places.{all_has, all_join}
-use Rattle.history.proofs.Lists.{has_next}
+use Rattle.history.proofs.HasLaws.{all_has, has_all}
 use Rattle.history.specs.Lists.{Has}
-use Rattle.internetwork.specs.hosts.Opening.{client_at, foreign_port, host_at, manager_at, opens, place_port, port_at, relay_opens}
-use Rattle.internetwork.specs.hosts.Stations.{WorldStation}
-use Rattle.internetwork.specs.Refusals.{Comes, Runs}
-use Rattle.internetwork.specs.World.{WorldState, fresh_world}
-use Rattle.internetwork.specs.declared.event.Event.{Event}
 use Rattle.link_site.specs.declared.port.SitePort.{SitePort}
 use Rattle.npdu.specs.declared.mac.Station as npdu
 use Rattle.site.specs.Sound.{IsSound}
+use Rattle.site_node.specs.declared.part.Part.{Part}
+use Rattle.site_node.specs.declared.part.Part.TheVariants.{Device}
+use Rattle.site_node.specs.device.Device.{new_device}
 use Rattle.site_parts.specs.Roles.{beyond}
 use Rattle.site_parts.specs.declared.parts.Parts.{Parts}
 use Rattle.site_parts.specs.declared.parts.Station.{Station}
@@ -28,39 +24,35 @@ use Rattle.site_parts.specs.declared.role.Role.TheVariants as role
 use Rattle.site_reach.proofs.Site.{host_is, is_foreign, is_manager}
 use Rattle.site_reach.proofs.Stays.{tables_stay}
 use Rattle.site_reach.specs.Laws.{TablesStand}
-use Rattle.site_reach.specs.Tables.{HasAddress, HasItsTableIfAny, HasItsTables, HaveAddresses, IsPlaced}
-use Rattle.site_station.specs.declared.entity.Entity.{Entity}
-use Rattle.site_station.specs.declared.entity.Entity.TheVariants.{Device}
+use Rattle.site_reach.specs.Tables.{HasAddress, HasItsTableIfAny, HasItsTables, HaveAddresses, IsInOrder, IsPlaced}
 use Rattle.site_views.specs.Views.{host, managed_at}
-
--- what comes of each of these
-all_flat : {X Y : Type 0} (P : Y → Type 0) (f : X → List Y) (xs : List X) → ((x : X) → Has xs x → AllByRecursion P (f x)) →
-    AllByRecursion P (flat_map f xs)
-all_flat P f [] each = tt
-all_flat P f (x ∷ xs) each = all_join P (f x) (flat_map f xs) (each x (record { place = 0; at_place = refl }))
-    (all_flat P f xs (λ y h. each y (has_next x xs h)))
+use Rattle.world.specs.Refusals.{Comes, Runs}
+use Rattle.world.specs.World.{WorldState, fresh_world}
+use Rattle.world.specs.declared.event.Event.{Event}
+use Rattle.world_sites.proofs.ListLaws.{all_flat}
+use Rattle.world_sites.specs.Opening.{client_at, foreign_port, manager_at, node_at, opens, place_port, port_at, ports_at}
 
 module _ {A : Type 0} (ss : List (Station A)) where
   manager_opens : (s : Station A) (l : Link) → Has ss s → s.role ≡ role.Manager l →
-      AllByRecursion (HasItsTableIfAny ss) (manager_at ss l)
+      AllByRecursion (IsInOrder ss) (manager_at ss s.name l)
   manager_opens s (link.Ip net subnet own) there e = (
     record {
-      subnet = subnet;
-      manages = is_manager ss net subnet own s there (ap (λ (r : Role A). managed_at r) e);
-      knows = refl;
-      peers = refl;
-      just = tt;
-      once = λ a. omega arith;
+      table = (
+        record {
+          subnet = subnet;
+          manages = is_manager ss net subnet own s there (ap (λ (r : Role A). managed_at r) e);
+          knows = refl;
+          peers = refl;
+          just = tt;
+          once = λ a. omega arith;
+        },
+        refl,
+      );
+      ports = tt;
     },
     tt,
   )
   manager_opens s (link.Bus net mac) there e = tt
-
-  relay_of : (s : Station A) (r : Role A) → Has ss s → s.role ≡ r → AllByRecursion (HasItsTableIfAny ss) (relay_opens ss r)
-  relay_of s (role.Manager l) there e = manager_opens s l there e
-  relay_of s (role.Router ls) there e = (tt, tt)
-  relay_of s (role.Device p o) there e = tt
-  relay_of s (role.Client p segmented) there e = tt
 
   abbrev IsPlacedIf : Option (SitePort A) → Type 0
   IsPlacedIf None = Unit {0}
@@ -69,6 +61,10 @@ module _ {A : Type 0} (ss : List (Station A)) where
   link_placed : (l : Link) → IsPlaced ss (port_at ss l)
   link_placed (link.Ip net subnet own) = tt
   link_placed (link.Bus net mac) = tt
+
+  links_placed : (ls : List Link) → AllByRecursion (IsPlaced ss) (ports_at ss ls)
+  links_placed [] = tt
+  links_placed (l ∷ ls) = (link_placed l, links_placed ls)
 
   foreign_placed : (s : Station A) (f : Foreign A) (at : Option Link) → Has ss s → beyond s.role ≡ Some f → IsAddress f.address →
       host f.manager ss ≡ at → IsPlacedIf (foreign_port f at)
@@ -88,31 +84,30 @@ module _ {A : Type 0} (ss : List (Station A)) where
   place_placed s (place.Beyond f) there sound is = foreign_placed s f (host f.manager ss) there (is f refl)
       (subst (λ (o : Option (Foreign A)). HasAddress o) (is f refl) sound) refl
 
-  opened : (entity : npdu.Station → Entity A) (port : Option (SitePort A)) → IsPlacedIf port →
-      AllByRecursion (λ (s : WorldStation A). AllByRecursion (IsPlaced ss) s.ports)
-      (option_to_list (option_map (host_at entity) port))
-  opened entity None placed = tt
-  opened entity (Some l) placed = ((placed, tt), tt)
+  opened : (name : List ℕ) (part : npdu.Station → Part A) (port : Option (SitePort A)) →
+      ((x : npdu.Station) (ports : List (SitePort A)) → HasItsTableIfAny ss (part x) ports) → IsPlacedIf port →
+      AllByRecursion (IsInOrder ss) (option_to_list (option_map (node_at name part) port))
+  opened name part None other placed = tt
+  opened name part (Some l) other placed = (record { table = other _ (l ∷ []); ports = (placed, tt) }, tt)
 
-  host_of : (s : Station A) (r : Role A) → Has ss s → HasAddress (beyond s.role) → s.role ≡ r →
-      AllByRecursion (λ (t : WorldStation A). AllByRecursion (IsPlaced ss) t.ports) (opens ss r)
-  host_of s (role.Manager l) there sound e = tt
-  host_of s (role.Router ls) there sound e = tt
-  host_of s (role.Device p o) there sound e = opened (λ x. Device (new_device o x)) (place_port ss p) (place_placed s p there sound
+  role_opens : (s : Station A) (r : Role A) → Has ss s → HasAddress (beyond s.role) → s.role ≡ r →
+      AllByRecursion (IsInOrder ss) (opens ss s.name r)
+  role_opens s (role.Manager l) there sound e = manager_opens s l there e
+  role_opens s (role.Router ls) there sound e = (record { table = tt; ports = links_placed ls }, tt)
+  role_opens s (role.Device p o) there sound e = opened s.name (λ x. Device (new_device o x)) (place_port ss p)
+      (λ x ports. tt) (place_placed s p there sound
       (λ f q. ap (λ (r : Role A). beyond r) e ∙ ap (λ (x : Place A). beyond (role.Device x o)) q))
-  host_of s (role.Client p segmented) there sound e =
-      opened (client_at p segmented) (place_port ss p) (place_placed s p there sound
+  role_opens s (role.Client p segmented) there sound e = opened s.name (client_at p segmented) (place_port ss p)
+      (λ x ports. tt) (place_placed s p there sound
       (λ f q. ap (λ (r : Role A). beyond r) e ∙ ap (λ (x : Place A). beyond (role.Client x segmented)) q))
 
 fresh_has : {A : Type 0} (p : Parts A) → IsSound p → HaveAddresses p.stations → HasItsTables (fresh_world p)
 fresh_has {A} p sound addresses = record {
   sound = sound;
-  relays = all_flat (HasItsTableIfAny p.stations) (λ (s : Station A). relay_opens p.stations s.role) p.stations
-      (λ s h. relay_of p.stations s s.role h refl);
-  ports = all_flat (λ (t : WorldStation A). AllByRecursion (IsPlaced p.stations) t.ports)
-      (λ (s : Station A). opens p.stations s.role) p.stations
-      (λ s h. host_of p.stations s s.role h
-      (all_has (λ (t : Station A). HasAddress (beyond t.role)) p.stations s addresses h) refl);
+  nodes = all_flat (λ (s : Station A). opens p.stations s.name s.role) (IsInOrder p.stations) p.stations
+      (has_all (λ (s : Station A). AllByRecursion (IsInOrder p.stations) (opens p.stations s.name s.role)) p.stations
+      (λ s there. role_opens p.stations s s.role there
+      (all_has (λ (t : Station A). HasAddress (beyond t.role)) p.stations s addresses there) refl));
   items = tt;
 }
 

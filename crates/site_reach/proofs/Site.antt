@@ -7,8 +7,7 @@ use Rattle.bbmd.specs.Reach.{times}
 use Rattle.bbmd_tables.specs.Tables.{is_among, same_address}
 use Rattle.bvll.specs.Address.{address_octets}
 use Rattle.bvll.specs.declared.address.Address.{Address}
-use Rattle.headline_client.proofs.Places.{all_has}
-use Rattle.history.proofs.HasLaws.{flat_has}
+use Rattle.history.proofs.HasLaws.{all_has, flat_has}
 use Rattle.history.proofs.Lists.{has_back, has_cons, has_front, has_next, none_has}
 use Rattle.history.specs.Lists.{Has}
 use Rattle.site.specs.Apart.{AreApart, IsOther}
@@ -30,9 +29,6 @@ use Rattle.site_views.proofs.ApartLaws.{within}
 use Rattle.site_views.proofs.PartLaws.{IsPart, map_flat, part_flat, part_skip}
 use Rattle.site_views.specs.Laws.{foreign_if, foreign_on, foreigns_on, manager_of, managers_on, subnet_of}
 use Rattle.site_views.specs.Views.{host, managed_at, member_at, on_subnet}
-
-pub some_same : {X : Type 0} (x y : X) → Some x ≡ Some y → x ≡ y
-some_same x y e = cc
 
 -- lists in which nothing stands twice
 apart_cross : {X : Type 0} (xs ys : List X) (x : X) → AreApart (xs ++ ys) → Has xs x → Has ys x → ⊥
@@ -207,17 +203,13 @@ among_if b a e = subst (λ (c : Bool). Has (if c then a ∷ [] else []) a) (sym 
 pub among_has : (a : Address) (xs : List Address) → Has xs a → is_among a xs ≡ true
 among_has a [] h = absurd (none_has h)
 among_has a (x ∷ xs) h = ⊎_elim
-    (λ (e : x ≡ a). or_first (same_address x a) (is_among a xs)
-    (subst (λ (y : Address). same_address y a ≡ true) (sym e) (itself_is a)))
-    (λ (k : Has xs a). or_second (same_address x a) (is_among a xs) (among_has a xs k)) (has_cons x xs h)
+    (λ (e : x ≡ a). subst (λ (y : Address). (same_address y a || is_among a xs) ≡ true) (sym e)
+    (ap (λ (b : Bool). b || is_among a xs) (itself_is a)))
+    (λ (k : Has xs a). or_true (same_address x a) (is_among a xs) (among_has a xs k)) (has_cons x xs h)
   where
-    or_first : (b c : Bool) → b ≡ true → (b || c) ≡ true
-    or_first true c e = refl
-    or_first false c e = absurd (true≢false (sym e))
-
-    or_second : (b c : Bool) → c ≡ true → (b || c) ≡ true
-    or_second true c e = refl
-    or_second false c e = e
+    or_true : (b c : Bool) → c ≡ true → (b || c) ≡ true
+    or_true true c e = refl
+    or_true false c e = e
 
 -- a foreign device of a manager on a subnet is one of those there
 pub is_foreign : {A : Type 0} (ss : List (Station A)) (net subnet : ℕ) (own : Address) (f : Foreign A) (s : Station A) →

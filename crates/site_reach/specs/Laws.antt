@@ -3,15 +3,15 @@ use Rattle.std.specs.Prelude.{◌≡◌, ◌≤◌, ℕ, true, List, length}
 use Rattle.bbmd.specs.Reach.{AreFull, IsReached, everyone, hearers, managers_of, stations}
 use Rattle.bbmd_tables.specs.Tables.{is_among}
 use Rattle.bvll.specs.declared.address.Address.{Address}
-use Rattle.internetwork.specs.Refusals.{Runs}
-use Rattle.internetwork.specs.Step.{Steps}
-use Rattle.internetwork.specs.World.{WorldState, fresh_world}
-use Rattle.internetwork.specs.declared.event.Event.{Event}
 use Rattle.profile.specs.LinkKind.{max_npdu}
 use Rattle.profile.specs.declared.link_kind.LinkKind.TheVariants.{BacnetIp}
 use Rattle.site.specs.Sound.{IsSound}
 use Rattle.site_parts.specs.declared.parts.Parts.{Parts}
 use Rattle.site_reach.specs.Tables.{AreServed, HasItsTables, HaveAddresses, subnets_in}
+use Rattle.world.specs.Refusals.{Runs}
+use Rattle.world.specs.Step.{Steps}
+use Rattle.world.specs.World.{WorldState, fresh_world}
+use Rattle.world.specs.declared.event.Event.{Event}
 
 -- an event leaves the tables such
 abbrev pub TablesStay : Type 0 → Type 0

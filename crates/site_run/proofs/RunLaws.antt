@@ -12,9 +12,9 @@ use Rattle.script.specs.declared.step.Step.{Step}
 use Rattle.simulator.proofs.FlowLaws.{steps_pass}
 use Rattle.simulator.specs.Flows.{Gives, IsOfFlow, left_of, ticks_in, ticks_of}
 use Rattle.simulator.specs.declared.flow.Flow.{Flow}
-use Rattle.simulator.specs.internetwork.World.{WorldState}
-use Rattle.simulator.specs.internetwork.declared.event.Event.{Event}
-use Rattle.simulator.specs.internetwork.declared.event.Event.TheVariants as event
+use Rattle.simulator.specs.world.World.{WorldState}
+use Rattle.simulator.specs.world.declared.event.Event.{Event}
+use Rattle.simulator.specs.world.declared.event.Event.TheVariants as event
 use Rattle.site_parts.specs.declared.parts.Station.{Station}
 use Rattle.site_history.specs.Asked.{refused_time_text}
 use Rattle.site_history.specs.Printed.{entries_text, line}

@@ -6,11 +6,11 @@ use Rattle.profile.specs.Times.{MAX_MOMENT_MS, MAX_TICK_MS}
 use Rattle.script.specs.declared.step.Step.{Step}
 use Rattle.script.specs.declared.step.Step.TheVariants as step
 use Rattle.simulator.specs.Flows.{IsOfFlow, ticks_in}
-use Rattle.simulator.specs.internetwork.Refusals.{IsRefused}
-use Rattle.simulator.specs.internetwork.Step.{Steps}
-use Rattle.simulator.specs.internetwork.World.{WorldState}
-use Rattle.simulator.specs.internetwork.declared.event.Event.{Event}
-use Rattle.simulator.specs.internetwork.declared.event.Event.TheVariants as event
+use Rattle.simulator.specs.world.Refusals.{IsRefused}
+use Rattle.simulator.specs.world.Step.{Steps}
+use Rattle.simulator.specs.world.World.{WorldState}
+use Rattle.simulator.specs.world.declared.event.Event.{Event}
+use Rattle.simulator.specs.world.declared.event.Event.TheVariants as event
 pub use Rattle.site_history.specs.Printed.{Known}
 use Rattle.site_history.specs.Asked.{refused_asked_text, refused_time_text, told_of}
 use Rattle.site_history.specs.Printed.{entries_text, line}

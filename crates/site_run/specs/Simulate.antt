@@ -8,7 +8,7 @@ use Rattle.script.specs.Numbers.{line_numbers}
 use Rattle.script.specs.Steps.{IsSoundStep}
 use Rattle.script.specs.declared.step.Step.{Step}
 use Rattle.simulator.specs.Judged.{instances_of, judged_of}
-use Rattle.simulator.specs.internetwork.World.{WorldState, fresh_world}
+use Rattle.simulator.specs.world.World.{WorldState, fresh_world}
 use Rattle.site.specs.Sound.{IsSound}
 use Rattle.site_parts.specs.declared.parts.Parts.{Parts}
 use Rattle.site_text.specs.Document.{IsDocument}

@@ -1,7 +1,7 @@
 -- An entry has words with the standard's numbers, or with its names.
 use Rattle.std.proofs.Common.{inl, inr, ℕ, List}
 use Rattle.history.specs.declared.Entry.{Entry}
-use Rattle.site_storm.specs.site_run.simulator.chronicle.Growing.{WorldHistory}
+use Rattle.site_storm.specs.site_run.simulator.world_log.Growing.{WorldHistory}
 use Rattle.npdu.specs.declared.mac.Station as npdu
 use Rattle.primitives.specs.declared.plain_data.Reply.{Reply}
 use Rattle.primitives.specs.declared.plain_data.Request.{Request}

@@ -1,11 +1,11 @@
 -- Which entry of a history is searched for.
 use Rattle.std.specs.Prelude.{◌≡◌, ◌⊎◌, ◌≤◌, ℕ, ◌==◌, List, [], ◌∷◌, ◌++◌, Some, if◌then◌else◌, slice_get}
-use Rattle.site_storm.specs.site_run.simulator.chronicle.Growing.{WorldHistory}
+use Rattle.site_storm.specs.site_run.simulator.world_log.Growing.{WorldHistory}
 use Rattle.history.specs.declared.Entry.{Entry}
 use Rattle.npdu.specs.declared.mac.Station as npdu
 use Rattle.primitives.specs.declared.plain_data.Reply.{Reply}
 use Rattle.primitives.specs.declared.plain_data.Request.{Request}
-use Rattle.site_storm.specs.site_run.simulator.internetwork.World.{WorldState}
+use Rattle.site_storm.specs.site_run.simulator.world.World.{WorldState}
 use Rattle.site_parts.specs.declared.parts.Station.{Station}
 use Rattle.site_storm.specs.site_run.site_history.Printed.{entry_text}
 use Rattle.site_storm.specs.words.printing.declared.spelling.Spelling.TheVariants.{Numbers, Names}

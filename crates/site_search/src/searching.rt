@@ -4,7 +4,7 @@ ghost use Rattle.std.specs.Prelude.{◌≡◌, true, IfOk, OnOk};
 ghost use Rattle.std.specs.Io.KnownBytes.{Appends};
 ghost use Rattle.std.specs.List.{AllByRecursion};
 ghost use Rattle.site_storm.specs.site_run.script.Steps.{IsSoundStep};
-ghost use Rattle.site_storm.specs.site_run.simulator.internetwork.Step.{IsSoundEvent};
+ghost use Rattle.site_storm.specs.site_run.simulator.world.Step.{IsSoundEvent};
 ghost use Rattle.site_search.specs.Searching.{Begins, Continues, Happen, IsWritten, Leads, Searches};
 ghost use Rattle.site_search.specs.Searching.{WritesFound, WritesNothingIfNone};
 ghost use Rattle.site_storm.specs.Lines.{event_text, events_text, line};

@@ -3,7 +3,7 @@
 ghost use Rattle.std.specs.Prelude.{IfOk};
 ghost use Rattle.std.specs.List.{AllByRecursion};
 ghost use Rattle.site_run.specs.script.Steps.{IsSoundStep};
-ghost use Rattle.site_run.specs.simulator.internetwork.Step.{IsSoundEvent};
+ghost use Rattle.site_run.specs.simulator.world.Step.{IsSoundEvent};
 
 use site_run::{Event, Flow, Opened, Step, Stop, World, open};
 use std::alloc::{Allocator, Global};

@@ -2,9 +2,9 @@
 use Rattle.std.proofs.Common.{◌≡◌, ℕ, ◌+◌, List, [], ◌∷◌, length, refl, sym, arith}
 use Rattle.std.specs.Io.KnownBytes.{Appends}
 use Rattle.std.specs.List.{AllByRecursion}
-use Rattle.site_run.specs.simulator.internetwork.Step.{IsSoundEvent}
-use Rattle.site_run.specs.simulator.internetwork.World.{WorldState}
-use Rattle.site_run.specs.simulator.internetwork.declared.event.Event.{Event}
+use Rattle.site_run.specs.simulator.world.Step.{IsSoundEvent}
+use Rattle.site_run.specs.simulator.world.World.{WorldState}
+use Rattle.site_run.specs.simulator.world.declared.event.Event.{Event}
 use Rattle.site_run.specs.Running.{Known, PrintsEvents, entries_in}
 use Rattle.site_run.proofs.RunLaws.{event_before}
 use Rattle.site_trace.proofs.TraceLaws.{appends_more, appends_nothing}

@@ -6,13 +6,13 @@ use Rattle.apdu.specs.PduType.{type_number}
 use Rattle.apdu.specs.declared.pdu_type.PduType.{PduType}
 use Rattle.apdu.specs.declared.pdu_type.PduType.TheVariants.{ConfirmedRequest, UnconfirmedRequest, SimpleAck}
 use Rattle.apdu.specs.declared.pdu_type.PduType.TheVariants.{ComplexAck, SegmentAck, Error, Reject, Abort}
-use Rattle.storm.specs.chronicle.Growing.{WorldHistory}
-use Rattle.storm.specs.chronicle.Kept.{all_said}
-use Rattle.storm.specs.chronicle.declared.saying.SaidMessage.{SaidMessage}
+use Rattle.storm.specs.world_log.Growing.{WorldHistory}
+use Rattle.storm.specs.world_log.Kept.{all_said}
+use Rattle.storm.specs.world_log.declared.saying.SaidMessage.{SaidMessage}
 use Rattle.history.specs.declared.End.{End}
 use Rattle.history.specs.declared.End.TheVariants as why
 use Rattle.history.specs.declared.Entry.TheVariants as entry
-use Rattle.site_run.specs.simulator.internetwork.World.{WorldState}
+use Rattle.site_run.specs.simulator.world.World.{WorldState}
 use Rattle.site_storm.specs.Lines.{spaced}
 use Rattle.site_storm.specs.Waits.{WorldEntry, greatest_wait}
 use Rattle.site_storm.specs.declared.counts.Counts.{Counts}

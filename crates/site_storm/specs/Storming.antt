@@ -5,7 +5,7 @@ use Rattle.site_run.specs.simulator.carry_world.Laws.{IsLegal}
 use Rattle.script.specs.Numbers.{line_numbers}
 use Rattle.script.specs.declared.step.Step.{Step}
 use Rattle.site_run.specs.simulator.Judged.{instances_of, judged_of}
-use Rattle.site_run.specs.simulator.internetwork.World.{WorldState}
+use Rattle.site_run.specs.simulator.world.World.{WorldState}
 use Rattle.site_run.specs.site_history.Counting.{counts_of}
 use Rattle.site_run.specs.site_history.Printed.{end_text}
 use Rattle.site_run.specs.Running.{PrintsSteps, entries_in}

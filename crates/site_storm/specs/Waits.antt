@@ -5,7 +5,7 @@ use Rattle.history.specs.declared.Entry.TheVariants as entry
 use Rattle.npdu.specs.declared.mac.Station.{Station}
 use Rattle.primitives.specs.declared.plain_data.Reply.{Reply}
 use Rattle.primitives.specs.declared.plain_data.Request.{Request}
-use Rattle.storm.specs.chronicle.Growing.{WorldHistory}
+use Rattle.storm.specs.world_log.Growing.{WorldHistory}
 
 -- an entry of the history of a site
 abbrev pub WorldEntry : Type 0 → Type 0

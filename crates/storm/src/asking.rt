@@ -1,7 +1,7 @@
 //! What begins: issues, Who-Is, registrations and restarts.
 
 ghost use Rattle.std.specs.Prelude.{IfOk};
-ghost use Rattle.simulator.specs.internetwork.Step.{IsSoundEvent, IsSoundIfAny};
+ghost use Rattle.simulator.specs.world.Step.{IsSoundEvent, IsSoundIfAny};
 
 use crate::dice::Dice;
 use crate::requests::request;

@@ -1,7 +1,7 @@
 //! Which frame is heard next, at which station of its bus.
 
 ghost use Rattle.std.specs.Prelude.{IfOk};
-ghost use Rattle.simulator.specs.internetwork.Step.{IsSoundIfAny};
+ghost use Rattle.simulator.specs.world.Step.{IsSoundIfAny};
 
 use crate::dice::Dice;
 use crate::storm::Storm;

@@ -1,7 +1,7 @@
 //! A storm, and its next event.
 
 ghost use Rattle.std.specs.Prelude.{IfOk};
-ghost use Rattle.simulator.specs.internetwork.Step.{IsSoundEvent, IsSoundIfAny};
+ghost use Rattle.simulator.specs.world.Step.{IsSoundEvent, IsSoundIfAny};
 
 use crate::asking::begun;
 use crate::chances::Chances;

@@ -1,7 +1,7 @@
 //! Which station wakes next.
 
 ghost use Rattle.std.specs.Prelude.{IfOk};
-ghost use Rattle.simulator.specs.internetwork.Step.{IsSoundEvent, IsSoundIfAny};
+ghost use Rattle.simulator.specs.world.Step.{IsSoundEvent, IsSoundIfAny};
 
 use crate::dice::Dice;
 use crate::storm::{Part, Storm};

@@ -5,12 +5,9 @@ use Rattle.console.proofs.RespondLaws.{answers, stays}
 use Rattle.console.proofs.builtin.respond.Goals as goal
 
 pub invariant_of-device : goal.invariant_of-device
-invariant_of-device g c = (c.device.invariant.0, c.device.invariant.1, c.in_err-parcel.ensures.same)
-
-pub invariant_of-device-2 : goal.invariant_of-device-2
-invariant_of-device-2 g c =
+invariant_of-device g c =
     let there = stays _ _ _ _ _ _ c.in_ok-said.ensures.says c.in_ok-next.ensures c.device.invariant.0 c.device.invariant.1 in
-    (there.0, there.1, c.in_ok-said.ensures.same)
+    (there.0, there.1, c.device.invariant.2)
 
 pub returns-clause-responds : goal.returns-clause-responds
 returns-clause-responds g c =

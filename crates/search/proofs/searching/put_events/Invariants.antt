@@ -1,5 +1,5 @@
 use Rattle.std.specs.List.{AllByRecursion}
-use Rattle.simulator.specs.internetwork.Step.{IsSoundEvent}
+use Rattle.simulator.specs.world.Step.{IsSoundEvent}
 use Rattle.search.proofs.searching.put_events.Given as goal
 
 abbrev pub invariant-loop-choice : goal.invariant-loop-choice

@@ -1,5 +1,5 @@
 use Rattle.std.proofs.Common.{◌+◌, ◌-◌, ◌*◌, ◌^◌}
-use Rattle.internetwork.proofs.EventLaws.{if_ok_map}
+use Rattle.world.proofs.EventLaws.{if_ok_map}
 use Rattle.simulator.proofs.FlowLaws.{less_more}
 use Rattle.simulator.proofs.flow.next_delivery.Goals as goal
 use Rattle.simulator.specs.Flows.{left_to_tell}

@@ -1,5 +1,5 @@
 use Rattle.std.proofs.Common.{◌+◌, ◌-◌, ◌*◌, ◌^◌, arith}
-use Rattle.internetwork.proofs.EventLaws.{before_end, if_ok_map}
+use Rattle.world.proofs.EventLaws.{before_end, if_ok_map}
 use Rattle.simulator.proofs.FlowLaws.{less_more}
 use Rattle.simulator.proofs.flow.next_frame.Goals as goal
 use Rattle.simulator.specs.Flows.{left_to_tell}

@@ -1,7 +1,7 @@
 use Rattle.std.proofs.Common.{rules, ◌∙◌, ap, subst, List, length, ℕ}
 use Rattle.site_storm.specs.site_run.simulator.carry_world.Laws.{IsLegal}
 use Rattle.site_storm.specs.site_run.simulator.Judged.{instances_of, judged_of}
-use Rattle.site_storm.specs.site_run.simulator.chronicle.Growing.{WorldHistory}
+use Rattle.site_storm.specs.site_run.simulator.world_log.Growing.{WorldHistory}
 use Rattle.site_parts.specs.declared.parts.Parts.{Parts}
 use Rattle.site_parts.specs.declared.parts.Station.{Station}
 use Rattle.site_search.specs.Words.{HasEntry}

@@ -1,7 +1,7 @@
 use Rattle.std.proofs.Common.{length}
 use Rattle.std.specs.List.{AllByRecursion}
-use Rattle.site_storm.specs.site_run.simulator.internetwork.Step.{IsSoundEvent}
-use Rattle.site_storm.specs.site_run.simulator.internetwork.World.{WorldState}
+use Rattle.site_storm.specs.site_run.simulator.world.Step.{IsSoundEvent}
+use Rattle.site_storm.specs.site_run.simulator.world.World.{WorldState}
 use Rattle.site_search.specs.Searching.{Happen}
 use Rattle.site_search.proofs.searching.make_all.Given as goal
 

@@ -1,5 +1,5 @@
 use Rattle.std.proofs.Common.{◌≡◌, ◌∙◌, ap, subst, IfOk, List, true}
-use Rattle.site_storm.specs.site_run.simulator.chronicle.Growing.{WorldHistory}
+use Rattle.site_storm.specs.site_run.simulator.world_log.Growing.{WorldHistory}
 use Rattle.site_parts.specs.declared.parts.Parts.{Parts}
 use Rattle.site_parts.specs.declared.parts.Station.{Station}
 use Rattle.site_search.specs.Words.{HasEntry}

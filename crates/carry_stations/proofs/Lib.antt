@@ -1,4 +1,0 @@
-pub mod Addresses
-pub mod RouterPasses
-pub mod Routers
-pub mod IpManagers

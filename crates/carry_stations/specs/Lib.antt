@@ -1,4 +1,0 @@
-pub mod Out
-pub mod Within
-pub mod Laws
-pub mod Managers

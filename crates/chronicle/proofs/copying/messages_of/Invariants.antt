@@ -1,6 +1,0 @@
-use Rattle.std.proofs.Common.{◌≡◌, take}
-use Rattle.chronicle.proofs.copying.messages_of.Given as goal
-
--- so far
-abbrev pub invariant-loop-message : goal.invariant-loop-message
-invariant-loop-message g l = l.copies.items ≡ take l.message-index l.messages

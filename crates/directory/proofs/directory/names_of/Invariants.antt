@@ -1,9 +1,0 @@
-use Rattle.std.proofs.Common.{◌≡◌, ◌++◌, length, map}
-use Rattle.directory.proofs.directory.names_of.Given as goal
-
--- those behind are still to come
-abbrev pub invariant-loop-left : goal.invariant-loop-left
-invariant-loop-left g l = map (λ p. p.name) l.parts ≡ map (λ n. n.items) l.all.items ++ map (λ p. p.name) l.left
-
-abbrev pub decreases-loop-left : goal.decreases-loop-left
-decreases-loop-left g l = length l.left

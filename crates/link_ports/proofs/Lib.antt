@@ -1,2 +1,0 @@
-pub mod PortSteps
-pub mod Keeping

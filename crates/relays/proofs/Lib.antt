@@ -1,2 +1,0 @@
-pub mod RelayLaws
-pub mod FindLaws

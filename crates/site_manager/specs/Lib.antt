@@ -1,2 +1,0 @@
-pub mod Stamping
-pub mod Station

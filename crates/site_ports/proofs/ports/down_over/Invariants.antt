@@ -1,0 +1,16 @@
+use Rattle.std.proofs.Common.{◌≡◌, drop}
+use Rattle.history.specs.Lists.{Has}
+use Rattle.router.specs.declared.plan.PortParcel.{PortParcel}
+use Rattle.site_ports.specs.Drafts.{PortsState, drafted}
+use Rattle.site_ports.specs.Ports.{AreBefore, DownsEach, over, places_of}
+use Rattle.site_ports.proofs.ports.down_over.Given as goal
+
+-- what the rest leads to, all lead to; and the rest is some of all
+abbrev pub invariant-loop-parcel : goal.invariant-loop-parcel
+invariant-loop-parcel g l =
+    AreBefore l.now (drafted l.now l.ports l.draft).ports
+    × (places_of (drafted l.now l.ports l.draft).ports ≡ places_of (drafted l.now l.ports l.fn.draft).ports)
+    × ((o : PortParcel _) → Has (over l.port (drop l.parcel-index l.said)) o → Has (over l.port l.said) o)
+    × ((s : PortsState _) →
+    DownsEach l.now (over l.port (drop l.parcel-index l.said)) (drafted l.now l.ports l.draft) s →
+    DownsEach l.now (over l.port l.said) (drafted l.now l.ports l.fn.draft) s)

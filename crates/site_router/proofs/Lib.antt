@@ -1,3 +1,0 @@
-pub mod DownLaws
-pub mod Planning
-pub mod RouterKeeping

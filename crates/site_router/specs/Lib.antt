@@ -1,3 +1,0 @@
-pub mod Downs
-pub mod Station
-pub mod Refusals

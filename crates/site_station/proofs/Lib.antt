@@ -1,3 +1,0 @@
-mod Quiet
-pub mod StationKeeping
-pub mod Planning

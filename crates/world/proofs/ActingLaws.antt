@@ -1,0 +1,236 @@
+-- What a node did is what it planned, and all grew by what came of it.
+use Rattle.std.proofs.Common.{◌≡◌, ◌∙◌, refl, sym, ap, subst, arith, ℕ, zero, suc, ◌<◌, List, [], ◌∷◌, ◌++◌, length, Option, Some, None, Result, Ok, Err, OnOk, OnErr}
+use Rattle.world_log.proofs.LogLaws.{goes_on_further, goes_on_same}
+use Rattle.std.proofs.lemmas.List.{map-append}
+use Rattle.std.specs.List.{AllByRecursion}
+use Rattle.std.specs.Prelude.{slice_get, slice_set}
+use Rattle.buses.specs.Puts.{BusesState, put_on}
+use Rattle.world_log.specs.carry_said.Said.{HasInsides, IsSaying, IsSayingEach}
+use Rattle.history.specs.declared.Entry.{Entry}
+use Rattle.inside.specs.Inside.{AreInside, Said}
+use Rattle.link.specs.Step.{PortSent}
+use Rattle.world_log.specs.node_laws.Stands.{Stands, Stays}
+use Rattle.npdu.specs.declared.mac.Station.{Station}
+use Rattle.npdu.specs.declared.parcel.Parcel.{Parcel}
+use Rattle.world_log.specs.site_node.Node.{NodeState, home_of, node_places}
+use Rattle.world_log.specs.site_node.Part.{told_by}
+use Rattle.world_log.specs.site_node.Plan.{left_by}
+use Rattle.world_log.specs.site_node.Steps.{NodeTold}
+use Rattle.world_log.specs.site_node.declared.plan.PartPlan.{PartPlan}
+use Rattle.world_log.specs.site_node.declared.told.PartTold.{PartTold}
+use Rattle.site_parts.specs.declared.parts.Parts.{Parts}
+use Rattle.world_log.specs.site_ports.declared.draft.Draft.{Draft}
+use Rattle.traffic.specs.declared.frame.FramePut.{FramePut}
+use Rattle.traffic.specs.declared.item.Item.{Item}
+use Rattle.world.proofs.Standing.{set_same, some_same, steady_set}
+use Rattle.world.specs.Acting.{Acts, IsSaidBy}
+use Rattle.world.specs.Doing.{IsDone, Logs, MayBeDone, caused_in, told_of}
+use Rattle.world.specs.Laws.{AreSteady, IsSteady}
+use Rattle.world.specs.Refusals.{Of}
+use Rattle.world.specs.World.{WorldState}
+use Rattle.world_log.specs.Growing.{WorldHistory, frames_at, items_at, told_in}
+use Rattle.world_log.specs.Kept.{all_keys, all_said, key_of, said_of}
+use Rattle.world_log.specs.Log.{GoesOn, HasGrown, LogState, Says, caused, cut_to, mark_of, told_to}
+use Rattle.world_log.specs.declared.key.Key as kept
+use Rattle.world_log.specs.declared.log.Cause.{Cause}
+use Rattle.world_log.specs.declared.log.Cause.TheVariants as cause
+use Rattle.world_log.specs.declared.log.Mark.{Mark}
+use Rattle.world_log.specs.declared.saying.SaidMessage.{SaidMessage}
+
+-- all was written down, and told
+pub logs_so : {A : Type 0} (now : ℕ) (n : NodeState A) (plan : PartPlan A) (out : List (PortSent A)) (x : Station)
+    (told : PartTold A) (l0 l1 l2 l3 : LogState A) → x ≡ home_of n.part → l1 ≡ l0 →
+    HasGrown now (node_places n) out x.net (told_by plan).said l1 l2 → told ≡ told_by plan → l3 ≡ told_to x now told l2 →
+    Logs now n (record { told = told_by plan; out = out }) l0 l3
+logs_so {A} now n plan out x told l0 l1 l2 l3 at begun grown is tells =
+    let base = subst (λ (l : LogState A). HasGrown now (node_places n) out x.net (told_by plan).said l l2) begun grown in
+    let net : x.net ≡ (home_of n.part).net = ap (λ (y : Station). y.net) at in
+    let grows = subst (λ (m : ℕ). HasGrown now (node_places n) out m (told_by plan).said l0 l2) net base in record {
+      items = ap (λ (l : LogState A). l.items) tells ∙ grows.items;
+      says = subst (λ (ms : List (SaidMessage A)). Says (home_of n.part).net (told_by plan).said l0.said ms)
+          (sym (ap (λ (l : LogState A). l.said) tells)) grows.says;
+      keys = ap (λ (l : LogState A). l.keys) tells ∙ grows.keys;
+      history = ap (λ (l : LogState A). l.history) tells
+          ∙ ap (λ (y : Station). told_in y now (all_keys l2.keys) told l2.history) at
+          ∙ ap (λ (t : PartTold A). told_in (home_of n.part) now (all_keys l2.keys) t l2.history) is
+          ∙ ap (λ (ks : List kept.Key). told_in (home_of n.part) now (all_keys ks) (told_by plan) l2.history) grows.keys
+          ∙ ap (λ (h : WorldHistory A). told_in (home_of n.part) now (all_keys l0.keys) (told_by plan) h) grows.history;
+    }
+
+-- what was to go out on the buses went out, behind so many items
+pub puts_so : {A : Type 0} (now n m : ℕ) (fs gs : List (FramePut A)) (b0 b1 b2 : BusesState A) → b1 ≡ b0 → n ≡ m →
+    fs ≡ gs → b2 ≡ put_on now n fs b1 → b2 ≡ put_on now m gs b0
+puts_so {A} now n m fs gs b0 b1 b2 same count frames put =
+    put ∙ ap (λ (b : BusesState A). put_on now n fs b) same ∙ ap (λ (k : ℕ). put_on now k fs b0) count
+    ∙ ap (λ (hs : List (FramePut A)). put_on now m hs b0) frames
+
+pub ruleset doing_rules = (goes_on_further, goes_on_same, logs_so, puts_so)
+
+-- what a log goes on from is what is left where it is cut back
+pub undone : {A : Type 0} (m : Mark) (old mid new : LogState A) → m ≡ mark_of old → GoesOn old mid →
+    new ≡ cut_to m mid → new ≡ old
+undone m old mid new at on cut = cut ∙ ap (λ (k : Mark). cut_to k mid) at ∙ on
+
+pub ruleset undoing_rules = (undone)
+
+-- what is inside a node's own parcels was said by it
+said_by_it : {A : Type 0} (x : Station) (now : ℕ) (ps : List (Parcel A)) (ss : List Said) → AreInside x.net ps ss →
+    AllByRecursion (IsSaying x now) ps → AllByRecursion (IsSaidBy x now) ss
+said_by_it x now [] [] a own = tt
+said_by_it x now [] (s ∷ ss) a own = absurd a
+said_by_it x now (p ∷ ps) [] a own = absurd a
+said_by_it x now (p ∷ ps) (s ∷ ss) a own = (
+  record { source = own.0.source s.inside a.0.inside; stamp = a.0.stamp ∙ own.0.stamp },
+  said_by_it x now ps ss a.1 own.1,
+)
+
+-- a world as it is seen
+abbrev pub seen : {A : Type 0} → Parts A → ℕ → List (NodeState A) → LogState A → BusesState A → WorldState A
+seen site moment nodes l buses = record {
+  site = site;
+  moment = moment;
+  nodes = nodes;
+  items = l.items;
+  buses = buses;
+  keys = all_keys l.keys;
+  history = l.history;
+  said = all_said l.said;
+}
+
+-- what is written down leaves nodes, items, buses and what was said
+caused_seen : {A : Type 0} (c : Cause A) (site : Parts A) (moment : ℕ) (ns : List (NodeState A)) (l : LogState A)
+    (b : BusesState A) → seen site moment ns (caused c l) b ≡ caused_in c (seen site moment ns l b)
+caused_seen cause.Nothing site moment ns l b = refl
+caused_seen {A} (cause.Issue key entry) site moment ns l b =
+    ap (λ (ks : List _). record (seen site moment ns l b) { keys = ks; history = l.history ++ entry ∷ [] })
+    (map-append (λ k. key_of k) l.keys (key ∷ []))
+caused_seen (cause.Restart entry) site moment ns l b = refl
+
+caused_items : {A : Type 0} (c : Cause A) (l : LogState A) → (caused c l).items ≡ l.items
+caused_items cause.Nothing l = refl
+caused_items (cause.Issue key entry) l = refl
+caused_items (cause.Restart entry) l = refl
+
+module _ {A : Type 0} (site : Parts A) (moment : ℕ) (ns : List (NodeState A)) (l0 l1 : LogState A)
+    (b0 b1 : BusesState A) (place : ℕ) (n next : NodeState A) (plan : PartPlan A) (draft : Draft A) (c : Cause A)
+    (there : slice_get ns place ≡ Some n) where
+  abbrev after : List (NodeState A)
+  after = slice_set ns place (left_by moment plan draft.changes.items n)
+
+  abbrev items : List (Item A)
+  items = (caused c l0).items ++ items_at moment (node_places n) draft.out
+
+  abbrev buses : BusesState A
+  buses = put_on moment (length (caused c l0).items) (frames_at (node_places n) draft.out) b0
+
+  counts : put_on moment (length l0.items) (frames_at (node_places n) draft.out) b0 ≡ buses
+  counts = ap (λ (is : List (Item A)). put_on moment (length is) (frames_at (node_places n) draft.out) b0)
+      (sym (caused_items c l0))
+
+  -- the node at a place did so
+  pub done_so : MayBeDone moment plan draft n → next ≡ left_by moment plan draft.changes.items n →
+      Logs moment n (told_of plan draft) (caused c l0) l1 →
+      b1 ≡ put_on moment (length l0.items) (frames_at (node_places n) draft.out) b0 →
+      IsDone (seen site moment ns l0 b0) (seen site moment (slice_set ns place next) l1 b1) place plan draft c n
+  done_so may left logs puts =
+      subst (λ (w : WorldState A). Acts w (seen site moment (slice_set ns place next) l1 b1) place n
+      (left_by moment plan draft.changes.items n) (told_of plan draft)) (caused_seen c site moment ns l0 b0) (record {
+        there = there;
+        fresh = logs.says.fresh;
+        insides = logs.says.inside;
+        sayer = said_by_it (home_of n.part) moment (told_by plan).said logs.says.fresh logs.says.inside may.own.each;
+        is = ap (λ (x : NodeState A). seen site moment (slice_set ns place x) l1 b1) left
+            ∙ ap (λ (is : List (Item A)). record (seen site moment after l1 b1) { items = is }) logs.items
+            ∙ ap (λ (b : BusesState A). record (seen site moment after l1 b) { items = items }) (puts ∙ counts)
+            ∙ ap (λ (ks : List kept.Key).
+            record (seen site moment after l1 buses) { items = items; keys = all_keys ks }) logs.keys
+            ∙ ap (λ (h : WorldHistory A).
+            record (seen site moment after l1 buses) { items = items; keys = all_keys (caused c l0).keys; history = h })
+            logs.history
+            ∙ ap (λ (ss : List Said). record (seen site moment after l1 buses) {
+              items = items;
+              keys = all_keys (caused c l0).keys;
+              history = told_in (home_of n.part) moment (all_keys (caused c l0).keys) (told_by plan) (caused c l0).history;
+              said = ss;
+            }) logs.says.behind;
+      })
+
+-- what may be done of the node at a place may be done of this one
+pub may_here_of : {A : Type 0} (site : Parts A) (moment : ℕ) (ns : List (NodeState A)) (l : LogState A)
+    (b : BusesState A) (place : ℕ) (n : NodeState A) (plan : PartPlan A) (draft : Draft A) →
+    slice_get ns place ≡ Some n → (w : WorldState A) → seen site moment ns l b ≡ w →
+    Of place w (MayBeDone w.moment plan draft) → MayBeDone moment plan draft n
+may_here_of {A} site moment ns l b place n plan draft there w view of =
+    let at = subst (λ (z : WorldState A). Of place z (MayBeDone z.moment plan draft)) (sym view) of in
+    subst (λ (m : NodeState A). MayBeDone moment plan draft m) (some_same at.n n (sym at.there ∙ there)) at.is
+
+module _ {A R E : Type 0} (r : Result R E) (site : Parts A) (moment : ℕ) (ns : List (NodeState A)) (l0 l1 : LogState A)
+    (b0 b1 : BusesState A) (place : ℕ) (n x : NodeState A) (plan : PartPlan A) (draft : Draft A) (c : Cause A)
+    (there : slice_get ns place ≡ Some n) (w : WorldState A) (view : seen site moment ns l0 b0 ≡ w) where
+  -- the nodes are steady, whether it was done or refused
+  pub steady_act : MayBeDone moment plan draft n → OnOk r (x ≡ left_by moment plan draft.changes.items n) →
+      OnErr r (x ≡ n) → OnOk r (Logs moment n (told_of plan draft) (caused c l0) l1) → OnErr r (l1 ≡ l0) →
+      AreSteady site moment ns l0.items → AreSteady site moment (slice_set ns place x) l1.items
+  steady_act may left same logs kept steady = by_result r left same logs kept
+    where
+      by_result : (q : Result R E) → OnOk q (x ≡ left_by moment plan draft.changes.items n) → OnErr q (x ≡ n) →
+          OnOk q (Logs moment n (told_of plan draft) (caused c l0) l1) → OnErr q (l1 ≡ l0) →
+          AreSteady site moment (slice_set ns place x) l1.items
+      by_result (Ok u) left same logs kept = steady_set site moment ns l0.items l1.items place n x draft.out there steady
+          (subst (λ (y : NodeState A). Stays moment n y) (sym left) may.stays)
+          (logs.items ∙ ap (λ (is : List (Item A)). is ++ items_at moment (node_places n) draft.out) (caused_items c l0))
+      by_result (Err e) left same logs kept =
+          subst (λ (xs : List (NodeState A)). AreSteady site moment xs l1.items)
+          (sym (ap (λ (y : NodeState A). slice_set ns place y) same ∙ set_same ns place n there))
+          (subst (λ (is : List (Item A)). AreSteady site moment ns is) (sym (ap (λ (l : LogState A). l.items) kept)) steady)
+
+  -- no node has moved
+  pub moved_not : MayBeDone moment plan draft n → OnOk r (x ≡ left_by moment plan draft.changes.items n) →
+      OnErr r (x ≡ n) → (x.name ≡ n.name) × (node_places x ≡ node_places n)
+  moved_not may left same = by_result r left same
+    where
+      by_result : (q : Result R E) → OnOk q (x ≡ left_by moment plan draft.changes.items n) → OnErr q (x ≡ n) →
+          (x.name ≡ n.name) × (node_places x ≡ node_places n)
+      by_result (Ok u) left same = (
+        ap (λ (y : NodeState A). y.name) left ∙ may.stays.name,
+        ap (λ (y : NodeState A). node_places y) left ∙ may.stays.same,
+      )
+      by_result (Err e) left same =
+          (ap (λ (y : NodeState A). y.name) same, ap (λ (y : NodeState A). node_places y) same)
+
+  -- it was done, or nothing has changed
+  pub done_act : MayBeDone moment plan draft n → OnOk r (x ≡ left_by moment plan draft.changes.items n) →
+      OnOk r (Logs moment n (told_of plan draft) (caused c l0) l1) →
+      OnOk r (b1 ≡ put_on moment (length l0.items) (frames_at (node_places n) draft.out) b0) →
+      OnOk r (Of place w (IsDone w (seen site moment (slice_set ns place x) l1 b1) place plan draft c))
+  done_act may left logs puts = by_result r left logs puts
+    where
+      by_result : (q : Result R E) → OnOk q (x ≡ left_by moment plan draft.changes.items n) →
+          OnOk q (Logs moment n (told_of plan draft) (caused c l0) l1) →
+          OnOk q (b1 ≡ put_on moment (length l0.items) (frames_at (node_places n) draft.out) b0) →
+          OnOk q (Of place w (IsDone w (seen site moment (slice_set ns place x) l1 b1) place plan draft c))
+      by_result (Ok u) left logs puts = subst (λ (z : WorldState A). Of place z
+          (IsDone z (seen site moment (slice_set ns place x) l1 b1) place plan draft c)) view (record {
+            n = n;
+            there = there;
+            is = done_so site moment ns l0 l1 b0 b1 place n x plan draft c there may left logs puts;
+          })
+      by_result (Err e) left logs puts = tt
+
+  pub unchanged_act : OnErr r (x ≡ n) → OnErr r (l1 ≡ l0) → OnErr r (b1 ≡ b0) →
+      OnErr r (seen site moment (slice_set ns place x) l1 b1 ≡ w)
+  unchanged_act same kept quiet = by_result r same kept quiet
+    where
+      by_result : (q : Result R E) → OnErr q (x ≡ n) → OnErr q (l1 ≡ l0) → OnErr q (b1 ≡ b0) →
+          OnErr q (seen site moment (slice_set ns place x) l1 b1 ≡ w)
+      by_result (Ok u) same kept quiet = tt
+      by_result (Err e) same kept quiet =
+          ap (λ (y : NodeState A). seen site moment (slice_set ns place y) l1 b1) same
+          ∙ ap (λ (xs : List (NodeState A)). seen site moment xs l1 b1) (set_same ns place n there)
+          ∙ ap (λ (l : LogState A). seen site moment ns l b1) kept
+          ∙ ap (λ (b : BusesState A). seen site moment ns l0 b) quiet ∙ view
+
+-- what holds holds where it is refused
+pub on_err : {X E P : Type 0} (r : Result X E) → P → OnErr r P
+on_err (Ok x) p = tt
+on_err (Err e) p = p

@@ -1,0 +1,10 @@
+use Rattle.world.proofs.EventLaws.{may_register}
+use Rattle.world.proofs.internetwork.Internetwork.register.Goals as goal
+
+-- what it planned may be done
+pub carry_out-requires : goal.carry_out-requires
+carry_out-requires g c = record {
+  planned = may_register c.args.self.now c.args.place c.now-now.result c.now-now.ensures.moment c.in_ok-node.node.now
+      c.in_ok-node.ensures.there c.in_ok-plan.plan c.plan_registers.new.draft c.in_ok-node.ensures.steady.stands
+      c.in_ok-plan.ensures.planned c.in_ok-plan.ensures.registers;
+}

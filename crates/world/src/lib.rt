@@ -1,0 +1,34 @@
+//! The nodes of a site, what is on its way between them, and what each event does (ANSI/ASHRAE 135, clauses 5.4, 6, 9,
+//! 12, 16.10 and J).
+//!
+//! To the layer above it promises: an event is the step of the node that it is for, as that node's contract says it,
+//! and nothing else changes; each refusal has its cause, and then nothing has changed. It says so of every state,
+//! however that came about; what is true of whatever came about by events alone is the layer above's to say.
+//!
+//! - `event`: what can happen, by names and by places.
+//! - `internetwork`: the nodes of a site, what is on its way between them, and what happened.
+//! - `finding`: which node an event is for.
+//! - `acting`: it does so, and all grows by what comes of it.
+//! - `stepping`, `hearing`: what each event does; `happening`: all of them.
+//! - `straying`: what a datagram from outside does.
+//! - `macs`: that nodes are at link addresses, for the proofs.
+//! - `copying`: copies of it.
+#![tactic(auto)]
+
+mod acting;
+mod copying;
+mod event;
+mod finding;
+mod happening;
+mod hearing;
+mod internetwork;
+mod listener;
+mod macs;
+mod stepping;
+mod straying;
+
+pub use event::{Event, Happening};
+pub use internetwork::Internetwork;
+pub use listener::Listener;
+pub use world_log::{SaidMessage, WorldEntry};
+pub use world_sites::{NodeId, Site, at_address};

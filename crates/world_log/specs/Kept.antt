@@ -1,0 +1,20 @@
+-- What the code keeps of what was said and issued, in the words of the promise.
+use Rattle.std.specs.Prelude.{List, map}
+use Rattle.carry_world.specs.PlainWorld as plain
+use Rattle.inside.specs.Inside.{Said}
+use Rattle.world_log.specs.declared.key.Key.{Key}
+use Rattle.world_log.specs.declared.saying.SaidMessage.{SaidMessage}
+
+-- what is inside a message, and when it was said (6.2)
+abbrev pub said_of : {A : Type 0} → SaidMessage A → Said
+said_of m = record { inside = record { source = m.source; reach = m.reach; apdu = m.apdu }; stamp = m.stamp }
+
+abbrev pub all_said : {A : Type 0} → List (SaidMessage A) → List Said
+all_said ms = map (λ m. said_of m) ms
+
+-- who issued, and under which invoke ID (5.4.1)
+abbrev pub key_of : Key → plain.Key
+key_of k = record { client = k.client; invoke_id = k.invoke_id }
+
+abbrev pub all_keys : List Key → List plain.Key
+all_keys ks = map (λ k. key_of k) ks
