@@ -12,8 +12,9 @@ use Rattle.carry_runs.proofs.Parcels.{i_am_is_spelled, i_am_spells, on_its_way, 
 use Rattle.carry_runs.proofs.Parcels.{tells, tells_on, tells_on_short, tells_short, tells_who, tells_who_on, tells_who_on_short, tells_who_short, to_all}
 use Rattle.carry_runs.proofs.Parcels.{to_one, to_one_spells, told_spoken, who_is, who_is_on, who_is_on_short, who_is_short, who_is_spells}
 use Rattle.carry_runs.proofs.Puts.{bears_all, bears_one, none_put, one_put, passed, routes}
-use Rattle.carry_runs.specs.Crossing.{IsAnswered, answer_apdu, asker, begun, far, i_am_apdu, near, request_apdu, request_from, said_by, who_is_apdu}
-use Rattle.carry_world.specs.PlainSteps.{PlainStep, client_asks, client_hears, client_issues, device_hears, something_passes}
+use Rattle.carry_answered.specs.Answered.{Exchange}
+use Rattle.carry_runs.specs.Crossing.{HasExchange, IsAnswered, answer_apdu, asker, begun, far, i_am_apdu, near, request_apdu, request_from, said_by, who_is_apdu}
+use Rattle.carry_world.specs.PlainSteps.{ClientHearsIt, ClientIssues, DeviceHearsIt, PlainStep, client_asks, client_hears, client_issues, device_hears, something_passes}
 use Rattle.carry_world.specs.PlainWorld.{PlainWorld}
 use Rattle.client.specs.Client.{ClientState, new_client}
 use Rattle.client_tsm.specs.Client as client_tsm
@@ -45,6 +46,7 @@ use Rattle.tags.specs.Canonical as canonical
 use Rattle.tags.specs.Number as number
 use Rattle.unitdata.proofs.InsideLaws.{announced_is_inside, spoken_is_inside}
 use Rattle.unitdata.specs.Hearing.{says}
+use Rattle.unitdata.specs.Laws.{spoken_inside}
 use Rattle.unitdata.specs.Saying.{destination_to, everywhere}
 
 -- one parcel more is said, and a port puts it out
@@ -247,9 +249,9 @@ module _ (A : Type 0) where
   })
 
   -- it issues its request
-  issues : PlainStep (site A) w5 w6
+  issuing_it : ClientIssues w5 w6
   unfolding request_octets service_asked never_given canonical.shortest number.width
-  issues = client_issues (record {
+  issuing_it = record {
     place = 0;
     instance = 10;
     request = reads_name;
@@ -266,7 +268,10 @@ module _ (A : Type 0) where
     keys = refl;
     history = refl;
     puts = one_put w5 w6 2 (Member (near ∷ [])) (asks A) _ (spoken_is_inside 2 asker.mac (asked_spoken A) refl) (asks_short A) refl refl;
-  })
+  }
+
+  issues : PlainStep (site A) w5 w6
+  issues = client_issues issuing_it
 
   request_crosses : PlainStep (site A) w6 w7
   request_crosses = something_passes (routes w6 (datagram_to 2 (asks A) near (unicast (asks A).npdu)) (asks A) (request_from A 2) 1 (Member (device.mac ∷ []))
@@ -280,9 +285,9 @@ module _ (A : Type 0) where
       }) (request_short A 2))
 
   -- the device executes it
-  executes : PlainStep (site A) w7 w8
+  executing_it : DeviceHearsIt w7 w8
   unfolding request_octets service_asked never_given replied left_by answer_of server_said.said_octets canonical.shortest number.width
-  executes = device_hears (record {
+  executing_it = record {
     place = 0;
     d = server;
     left = done;
@@ -338,7 +343,10 @@ module _ (A : Type 0) where
     keys = refl;
     history = refl;
     puts = one_put w7 w8 1 (Member (far ∷ [])) (tells A) _ (spoken_is_inside 1 device.mac (told_spoken A) refl) (tells_short A) refl refl;
-  })
+  }
+
+  executes : PlainStep (site A) w7 w8
+  executes = device_hears executing_it
 
   answer_crosses : PlainStep (site A) w8 w9
   answer_crosses = something_passes (routes w8 (datagram_to 1 (tells A) far (unicast (tells A).npdu)) (tells A) (tells_on A) 2 (Member (asker.mac ∷ []))
@@ -352,9 +360,9 @@ module _ (A : Type 0) where
       }) (tells_on_short A))
 
   -- the client hears its answer
-  hears_answer : PlainStep (site A) w9 w10
+  hearing_it : ClientHearsIt w9 w10
   unfolding request_octets service_asked never_given replied left_by answer_of canonical.shortest number.width
-  hears_answer = client_hears (record {
+  hearing_it = record {
     place = 0;
     c = waiting;
     next = satisfied;
@@ -407,7 +415,10 @@ module _ (A : Type 0) where
     keys = refl;
     history = refl;
     puts = none_put w9 w10 2 refl refl;
-  })
+  }
+
+  hears_answer : PlainStep (site A) w9 w10
+  hears_answer = client_hears hearing_it
 
 pub is_answered : {A : Type 0} → IsAnswered A
 is_answered {A} = record {
@@ -430,4 +441,63 @@ is_answered {A} = record {
   said = refl;
   crossed = has 5 refl;
   history = refl;
+}
+
+-- what follows the client's binding is an exchange in which nothing is lost
+pub exchange : {A : Type 0} → Exchange (w5 A) (w10 A)
+unfolding issuing_it executing_it hearing_it request_octets service_asked never_given replied answer_of canonical.shortest number.width
+exchange {A} = record {
+  asked = w6 A;
+  issues = issuing_it A;
+  request = asks A;
+  says = has 0 refl;
+  arriving = w7 A;
+  way_there = record { later = omega arith; clients = refl; devices = refl; keys = refl; history = refl };
+  served = w8 A;
+  executes = executing_it A;
+  brings = record {
+    inside = spoken_inside 2 asker.mac (asked_spoken A);
+    said = spoken_is_inside 2 asker.mac (asked_spoken A) refl;
+    brought = record {
+      header = handed_over true asker device (request_apdu A);
+      spelled = handed_over_spells true asker device (request_apdu A) (omega arith) (omega arith) (omega arith) (omega arith);
+      is = record { application = refl; source = refl; reach = refl; apdu = refl };
+    };
+    last = refl;
+    alone = refl;
+    stamp = refl;
+  };
+  bound = refl;
+  whole = record { asked = refl; answered = refl };
+  ready = record { listens = omega arith; place = refl };
+  answer = tells A;
+  answers = has 0 refl;
+  returning = w9 A;
+  way_back = record { later = omega arith; clients = refl; devices = refl; keys = refl; history = refl };
+  hears = hearing_it A;
+  same = refl;
+  returns = record {
+    inside = spoken_inside 1 device.mac (told_spoken A);
+    said = spoken_is_inside 1 device.mac (told_spoken A) refl;
+    brought = record {
+      header = handed_over false device asker (answer_apdu A);
+      spelled = handed_over_spells false device asker (answer_apdu A) (omega arith) (omega arith) (omega arith) (omega arith);
+      is = record { application = refl; source = refl; reach = refl; apdu = refl };
+    };
+    last = refl;
+    alone = refl;
+    stamp = refl;
+  };
+}
+
+pub has_exchange : {A : Type 0} → HasExchange A
+has_exchange {A} = record {
+  before = w5 A;
+  steps = record {
+    between = w1 A ∷ w2 A ∷ w3 A ∷ w4 A ∷ w5 A ∷ [];
+    steps = (asks_who A, (who_is_crosses A, (says_who_it_is A, (i_am_crosses A, (learns A, tt)))));
+    last = refl;
+  };
+  after = w10 A;
+  exchange = exchange;
 }

@@ -1,5 +1,5 @@
 -- Why they are not.
-use Rattle.std.proofs.Common.{◌≡◌, ◌⊎◌, ⊎_elim, refl, sym, subst, ℕ, List, [], ◌∷◌}
+use Rattle.std.proofs.Common.{◌≡◌, ⊎_elim, refl, ℕ, [], ◌∷◌}
 use Rattle.history.proofs.Lists.{has, has_cons, none_has}
 use Rattle.history.specs.Lists.{Has}
 use Rattle.history.specs.declared.Entry.{Entry}

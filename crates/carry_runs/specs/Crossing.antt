@@ -11,6 +11,7 @@ use Rattle.apdu.specs.declared.unconfirmed.UnconfirmedService.TheVariants.{IAm, 
 use Rattle.bvll.specs.Datagram.{unicast}
 use Rattle.carry.specs.Ports.{datagram_to}
 use Rattle.carry.specs.Things.{Thing}
+use Rattle.carry_answered.specs.Answered.{Exchange}
 use Rattle.carry_world.specs.Laws.{IsFresh}
 use Rattle.carry_world.specs.PlainSteps.{StepsTo}
 use Rattle.carry_world.specs.PlainWorld.{PlainWorld}
@@ -110,6 +111,13 @@ pub record IsAnswered (A : Type 0) : Type 0 where
   pub crossed : Has world.things (datagram_from A asker.net)
   pub history : world.history ≡
       Issue 0 asker 10 reads_name 0 ∷ Executed 0 (name_read A) 0 ∷ Answered 0 (name_read A) 0 ∷ []
+
+-- steps lead from a fresh world to one from which an exchange goes on in which nothing is lost, over the router
+pub record HasExchange (A : Type 0) : Type 0 where
+  pub before : PlainWorld A
+  pub steps : StepsTo (site A) (begun A asker) before
+  pub after : PlainWorld A
+  pub exchange : Exchange before after
 
 -- no steps lead to a world in which the same was said, and the request lies there with the outgoing network in SNET
 abbrev pub NoneMisnames : Type 0 → Type 0

@@ -1,5 +1,5 @@
 -- Histories of one device with the instance 10 that aren't legal.
-use Rattle.std.specs.Prelude.{ℕ, List, [], ◌∷◌}
+use Rattle.std.specs.Prelude.{List, [], ◌∷◌}
 use Rattle.carry_world.specs.Laws.{IsLegal, Judged}
 use Rattle.headline_site_runs.specs.Small.{reads_name}
 use Rattle.history.specs.declared.Entry.{Entry}

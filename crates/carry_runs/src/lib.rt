@@ -12,7 +12,7 @@
 //!   runs begin (`Fresh`).
 #![tactic(auto)]
 
-ghost use Rattle.carry_runs.specs.Crossing.{IsAnswered, NoneMisnames};
+ghost use Rattle.carry_runs.specs.Crossing.{HasExchange, IsAnswered, NoneMisnames};
 ghost use Rattle.carry_runs.specs.Distributing.{IsForwarded};
 ghost use Rattle.carry_runs.specs.Illegal.{NoneIsMissing, NoneIsStrange};
 
@@ -21,6 +21,11 @@ use std::alloc::Allocator;
 /// A request through a router's two networks is executed once and answered.
 pub fn a_request_crosses_a_router<A: Allocator>()
     ensures { IsAnswered A }
+{}
+
+/// There are exchanges in which nothing is lost, of which it is promised that they end in an answer.
+pub fn there_is_an_exchange<A: Allocator>()
+    ensures { HasExchange A }
 {}
 
 /// A broadcast through a manager is heard beyond it.

@@ -1,0 +1,3 @@
+pub mod Issuers
+pub mod Waking
+pub mod Ends
