@@ -1,8 +1,8 @@
 -- In which PDU a reply goes (15.5, 15.7, 15.9, 15.10, 20.1.4, 20.1.5, 20.1.7).
 use Rattle.std.specs.Prelude.{◌≡◌, ℕ, List, Option, Some, None}
-use Rattle.tags.specs.declared.object_id.ObjectId.{ObjectId}
-use Rattle.primitives.specs.declared.plain_data.Reply.{Reply}
-use Rattle.primitives.specs.declared.plain_data.Reply.TheVariants.{Values, Many, Done, Error, ErrorAt}
+use Rattle.apdu.specs.tags.declared.object_id.ObjectId.{ObjectId}
+use Rattle.objects.specs.primitives.declared.plain_data.Reply.{Reply}
+use Rattle.objects.specs.primitives.declared.plain_data.Reply.TheVariants.{Values, Many, Done, Error, ErrorAt}
 use Rattle.apdu.specs.declared.service_error.ObjectPropertyReference.{ObjectPropertyReference}
 use Rattle.apdu.specs.declared.service_error.ServiceError.{ServiceError}
 use Rattle.answers.specs.declared.answer.Answer.{Answer}

@@ -4,7 +4,7 @@ ghost use Rattle.std.specs.Prelude.{◌≡◌, ◌↔◌, IsTrue};
 ghost use Rattle.answers.specs.Answer.{GoesIn, GoesInPdu};
 
 use apdu::{ObjectPropertyReference, ServiceError};
-use primitives::Reply;
+use objects::primitives::Reply;
 use std::alloc::Allocator;
 
 /// What an answer has behind its header (20.1.4, 20.1.5, 20.1.7).

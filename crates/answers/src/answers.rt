@@ -3,9 +3,9 @@
 
 ghost use Rattle.std.specs.Prelude.{◌≡◌, ◌↔◌, IsTrue, map};
 ghost use Rattle.std.specs.List.{AllByRecursion};
-ghost use Rattle.primitives.specs.Answers.{IsAnswerTo, IsOneProperty, AnswersRefs, AnswersAll, read_reference};
+ghost use Rattle.objects.specs.primitives.Answers.{IsAnswerTo, IsOneProperty, AnswersRefs, AnswersAll, read_reference};
 
-use primitives::{
+use objects::primitives::{
     ALL_PROPERTIES, OPTIONAL_PROPERTIES, ObjectRefs, ObjectResults, PropertyReference,
     PropertyResult, REQUIRED_PROPERTIES, Reply, Request,
 };

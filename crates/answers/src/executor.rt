@@ -1,16 +1,16 @@
 //! What executes requests, and the object machine that does (15).
 
 use objects::Table;
-use primitives::{Reply, Request};
+use objects::primitives::{Reply, Request};
 use std::alloc::{AllocError, Allocator};
 
 /// Executes requests on objects. A contract sees the table that it holds.
 pub trait Executor<A: Allocator> {
     ghost use Rattle.std.specs.Prelude.{◌≡◌, OnOk, OnErr, IfOk};
-    ghost use Rattle.primitives.specs.Answers.{IsAnswerTo};
+    ghost use Rattle.objects.specs.primitives.Answers.{IsAnswerTo};
     ghost use Rattle.objects.specs.Machine.{reply, after};
-    ghost use Rattle.object_model.specs.Objects.{PlainTable};
-    ghost use Rattle.primitives.specs.Sound.{IsSoundRequest, IsSoundReply};
+    ghost use Rattle.objects.specs.object_model.Objects.{PlainTable};
+    ghost use Rattle.objects.specs.primitives.Sound.{IsSoundRequest, IsSoundReply};
 
     ghost table_of: { Self → PlainTable A };
 

@@ -18,5 +18,6 @@ mod stop;
 
 pub use answer::{Answer, ReplyPdu, answer_of, is_about, pdu_of};
 pub use answers::is_answer_to;
+pub use apdu;
 pub use executor::{Executor, ObjectExecutor};
 pub use stop::{Stop, reject_reason};

@@ -9,3 +9,5 @@ pub mod ApduRefusal
 pub mod ApduWriting
 pub mod Unconfirmed
 pub mod ApduLaws
+-- What the layers above cite of those below.
+pub use Rattle.apdu_fields.specs.tags as tags

@@ -23,7 +23,7 @@ mod sizes;
 mod unconfirmed;
 
 pub use apdu::{Apdu, Segment};
-pub use apdu_fields::{class_and_code_from, contents_of};
+pub use apdu_fields::{class_and_code_from, contents_of, tags};
 pub use apdu_laws::{apdu_spelling, i_am_spelling, one_number, one_size, who_is_spelling};
 pub use numbers::{AbortReason, ConfirmedService, RejectReason, UnknownService};
 pub use pdu_type::PduType;

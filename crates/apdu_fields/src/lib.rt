@@ -18,3 +18,4 @@ pub use first_octet::says_segment;
 pub use parameter::{
     closing_from, contents_from, contents_of, number_from, object_from, opening_from,
 };
+pub use primitives::tags;

@@ -8,10 +8,10 @@ ghost use Rattle.bbmd_tables.specs.Tables.{registered, served, without};
 use crate::addresses::{append_others, is_among};
 use crate::registration::{Registration, has_room, keep_living, keep_others, served};
 use bvll::Address;
+use bvll::tags::Fault;
 use profile::MAX_PEERS;
 use std::alloc::{AllocError, Allocator};
 use std::marker::Model;
-use tags::Fault;
 
 /// The tables of a broadcast manager: its own address, the members of its subnet, all managers of the network, and the
 /// foreign devices that are registered (J.4.3, J.5.2).

@@ -25,3 +25,4 @@ pub use entry::{DistributionEntry, ENTRY_OCTETS, ForeignDevice, TableEntry};
 pub use function::Function;
 pub use laws::spelling;
 pub use table::{BvllTable, Iter};
+pub use tags;

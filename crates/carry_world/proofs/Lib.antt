@@ -10,4 +10,5 @@ pub mod Legal
 pub mod Told
 pub mod Executed
 -- What the proofs above cite of those below.
+pub use Rattle.carry_said.proofs as carry_said
 pub use Rattle.carry_said.proofs.headline_client as headline_client

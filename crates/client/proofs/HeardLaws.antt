@@ -10,7 +10,7 @@ use Rattle.primitives.proofs.ErrorNames.{one_class, one_code}
 use Rattle.primitives.specs.declared.error.ErrorClass.{ErrorClass}
 use Rattle.primitives.specs.declared.error.ErrorCode.{ErrorCode}
 use Rattle.apdu.specs.declared.service_error.ObjectPropertyReference.{ObjectPropertyReference}
-use Rattle.services.specs.Contents.{PlainAnswer, failed, simple}
+use Rattle.client_tsm.specs.services.Contents.{PlainAnswer, failed, simple}
 use Rattle.apdu.specs.Apdu.{apdu_of, HasNamedNumbers}
 use Rattle.apdu.specs.declared.apdu.Apdu.{Apdu}
 

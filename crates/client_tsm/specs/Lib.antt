@@ -8,3 +8,5 @@ pub mod Hearing
 pub mod Steps
 pub mod Planned
 pub mod Laws
+-- What the layers above cite of those below.
+pub use Rattle.services.specs as services

@@ -3,7 +3,7 @@ use Rattle.std.proofs.Common.{◌≡◌, ◌∙◌, refl, sym, ap, subst, List, 
 use Rattle.apdu.specs.Apdu as application
 use Rattle.npdu.specs.declared.mac.Mac.{Mac}
 use Rattle.npdu.specs.declared.mac.Target.{Target}
-use Rattle.server_tsm.specs.Server.{ServerTsmState, committed}
+use Rattle.device.specs.server_tsm.Server.{ServerTsmState, committed}
 use Rattle.server_answers.specs.declared.asked.Origin.{Origin}
 use Rattle.server_answers.specs.Plan.{ServerChange, Stays, Says, Gathers, GivesUp, Executes, Wakes}
 use Rattle.unitdata.specs.Hearing.{HeardContent, refuses, says}

@@ -15,4 +15,5 @@ mod linking;
 mod port;
 
 pub use laws::carried_is_borne;
+pub use link_bus;
 pub use port::SitePort;

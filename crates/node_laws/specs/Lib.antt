@@ -9,3 +9,4 @@ pub use Rattle.site_node.specs.device as device
 pub use Rattle.site_node.specs.link_site as link_site
 pub use Rattle.site_node.specs as site_node
 pub use Rattle.site_node.specs.site_ports as site_ports
+pub use Rattle.site_node.specs.link_bus as link_bus

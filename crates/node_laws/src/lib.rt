@@ -66,5 +66,5 @@ pub fn nodes_pass_on<A: Allocator>()
 
 pub use site_node::{
     Client, Device, Draft, Executed, Outcome, Part, PartPlan, PartTold, SiteNode, SitePort,
-    TransactionOutcome,
+    TransactionOutcome, link_bus,
 };

@@ -3,7 +3,7 @@ use Rattle.std.proofs.Common.{refl, ap, ◌≡◌, ◌≤◌, ℕ, Bool, true, f
 use Rattle.std.proofs.lemmas.Bool.{lt-ltb}
 use Rattle.std.specs.Prelude.{cond, ◌&&◌, nat_lt}
 use Rattle.priority.specs.Slots.{put_slot}
-use Rattle.tags.specs.declared.value.Value.{Value}
+use Rattle.primitives.specs.tags.declared.value.Value.{Value}
 use Rattle.object_model.specs.Levels.{put_level}
 
 counted_if : (a b : Bool) → a ≡ true → b ≡ true → (a && b) ≡ true

@@ -1,6 +1,6 @@
 -- What a read or a write that isn't refused has found, and what it then leaves.
 use Rattle.std.proofs.Common.{refl, ap, subst, ◌∙◌, ◌≡◌, ℕ, Option, Some, None, Result, Ok, Err, length}
-use Rattle.tags.specs.declared.object_id.ObjectId.{ObjectId}
+use Rattle.primitives.specs.tags.declared.object_id.ObjectId.{ObjectId}
 use Rattle.object_model.specs.declared.object.Object.{Object}
 use Rattle.primitives.specs.declared.plain_data.PropertyWrite.{PropertyWrite}
 use Rattle.primitives.specs.declared.property.Property.{Property}

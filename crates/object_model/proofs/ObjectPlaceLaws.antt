@@ -1,7 +1,7 @@
 -- An object stands in the table at the place of its identifier.
 use Rattle.std.proofs.Common.{refl, sym, ap, ◌∙◌, ◌≡◌, ◌<◌, ℕ, suc, Bool, true, false, List, [], ◌∷◌, Option, Some, None, length, arith}
 use Rattle.std.specs.Prelude.{cond, map, option_map, slice_get, slice_set}
-use Rattle.tags.specs.declared.object_id.ObjectId.{ObjectId}
+use Rattle.primitives.specs.tags.declared.object_id.ObjectId.{ObjectId}
 use Rattle.object_model.specs.declared.object.Object.{Object}
 use Rattle.object_model.specs.Identifiers.{same_id}
 use Rattle.object_model.specs.Objects.{PlainTable, identifier}

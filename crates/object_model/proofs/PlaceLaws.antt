@@ -4,7 +4,7 @@ use Rattle.std.specs.Prelude.{suc, ◌==◌, cond, if◌then◌else◌, Option, 
 use Rattle.std.proofs.lemmas.Bool.{eqb-true, and_parts}
 use Rattle.std.specs.Ordering.{is_eq}
 use Rattle.std.specs.Cmp.{both_tied, unsigned_tied}
-use Rattle.tags.specs.declared.object_id.ObjectId.{ObjectId}
+use Rattle.primitives.specs.tags.declared.object_id.ObjectId.{ObjectId}
 use Rattle.object_model.specs.Identifiers.{same_id}
 use Rattle.object_model.specs.Places.{place_of, id_cmp, also_at}
 

@@ -3,8 +3,8 @@ use Rattle.std.proofs.Common.{refl, ap, ◌∙◌, ◌≡◌, ◌⊎◌, inl, in
 use Rattle.std.specs.Prelude.{◌≢◌, ◌+◌, ◌-◌, ◌<◌, ◌≤◌, zero, suc, Option, Some, None, option_map, option_to_list, map, slice_get, slice_index_or, length}
 use Rattle.std.proofs.lemmas.Bool.{ne_eqb}
 use Rattle.priority.specs.Slots.{slot}
-use Rattle.tags.specs.declared.value.Value.{Value}
-use Rattle.tags.specs.declared.value.Value.TheVariants as value
+use Rattle.primitives.specs.tags.declared.value.Value.{Value}
+use Rattle.primitives.specs.tags.declared.value.Value.TheVariants as value
 use Rattle.object_model.specs.declared.object.DeviceObject.{DeviceObject}
 use Rattle.object_model.specs.declared.object.ValueObject.{ValueObject}
 use Rattle.primitives.specs.declared.property.Property.{Property}

@@ -5,10 +5,10 @@ use Rattle.std.specs.Prelude.{map, cond, ◌-◌, slice_set}
 use Rattle.std.specs.List.{AllByRecursion}
 use Rattle.priority.specs.Slots.{put_slot}
 use Rattle.priority.proofs.SlotLaws.{length-put_slot}
-use Rattle.tags.specs.declared.object_id.ObjectId.{ObjectId}
-use Rattle.tags.specs.declared.value.Value.{Value}
-use Rattle.tags.specs.declared.value.Value.TheVariants as value
-use Rattle.tags.specs.Value.{IsSound}
+use Rattle.primitives.specs.tags.declared.object_id.ObjectId.{ObjectId}
+use Rattle.primitives.specs.tags.declared.value.Value.{Value}
+use Rattle.primitives.specs.tags.declared.value.Value.TheVariants as value
+use Rattle.primitives.specs.tags.Value.{IsSound}
 use Rattle.object_model.specs.declared.object.DeviceObject.{DeviceObject}
 use Rattle.object_model.specs.declared.object.Object.{Object}
 use Rattle.object_model.specs.declared.object.Object.TheVariants as object

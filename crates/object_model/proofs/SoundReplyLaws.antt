@@ -7,10 +7,10 @@ use Rattle.std.specs.Prelude.{cond, map, find, ◌-◌, ◌==◌, nat_lt, ◌&&�
 use Rattle.std.specs.Str.{is_utf8}
 use Rattle.std.specs.List.{AllByRecursion}
 use Rattle.priority.specs.Slots.{first_filled}
-use Rattle.tags.specs.declared.object_id.ObjectId.{ObjectId}
-use Rattle.tags.specs.declared.value.Value.{Value}
-use Rattle.tags.specs.declared.value.Value.TheVariants as value
-use Rattle.tags.specs.Value.{IsSound}
+use Rattle.primitives.specs.tags.declared.object_id.ObjectId.{ObjectId}
+use Rattle.primitives.specs.tags.declared.value.Value.{Value}
+use Rattle.primitives.specs.tags.declared.value.Value.TheVariants as value
+use Rattle.primitives.specs.tags.Value.{IsSound}
 use Rattle.object_model.specs.declared.object.Access.{Access}
 use Rattle.object_model.specs.declared.object.Access.TheVariants.{ReadOnly, Writable, Commandable}
 use Rattle.object_model.specs.declared.object.Datatype.{Datatype}

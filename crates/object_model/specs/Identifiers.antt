@@ -1,6 +1,6 @@
 -- Identifiers of objects.
 use Rattle.std.specs.Prelude.{◌==◌, ◌&&◌, Bool}
-use Rattle.tags.specs.declared.object_id.ObjectId.{ObjectId}
+use Rattle.primitives.specs.tags.declared.object_id.ObjectId.{ObjectId}
 
 -- whether two identifiers are one (20.2.14)
 abbrev pub same_id : ObjectId → ObjectId → Bool

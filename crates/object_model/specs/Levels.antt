@@ -1,7 +1,7 @@
 -- Priority levels (19.2).
 use Rattle.std.specs.Prelude.{ℕ, ◌&&◌, nat_lt, if◌then◌else◌, List, Option}
 use Rattle.priority.specs.Slots.{put_slot}
-use Rattle.tags.specs.declared.value.Value.{Value}
+use Rattle.primitives.specs.tags.declared.value.Value.{Value}
 
 -- the slots of a value object, that of level 1 first (19.2)
 abbrev pub SlotList : Type 0 → Type 0

@@ -1,9 +1,9 @@
 -- The objects of a device, and the properties that they have (12.8, 12.11, 12.20, 12.37, 12.43).
 use Rattle.std.specs.Prelude.{ℕ, Bool, true, false, List, [], ◌∷◌, ◌++◌, Option, Some, None, map, unwrap_or, codes}
 use Rattle.priority.specs.Slots.{first_filled}
-use Rattle.tags.specs.declared.object_id.ObjectId.{ObjectId}
-use Rattle.tags.specs.declared.value.Value.{Value}
-use Rattle.tags.specs.declared.value.Value.TheVariants as value
+use Rattle.primitives.specs.tags.declared.object_id.ObjectId.{ObjectId}
+use Rattle.primitives.specs.tags.declared.value.Value.{Value}
+use Rattle.primitives.specs.tags.declared.value.Value.TheVariants as value
 use Rattle.object_model.specs.declared.object.ValueKind.{ValueKind}
 use Rattle.object_model.specs.declared.object.ValueKind.TheVariants as kind
 use Rattle.object_model.specs.declared.object.ValueObject.{ValueObject}

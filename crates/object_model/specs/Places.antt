@@ -2,7 +2,7 @@
 use Rattle.std.specs.Prelude.{ℕ, suc, if◌then◌else◌, List, [], ◌∷◌, Option, Some, None, option_map}
 use Rattle.std.specs.declared.cmp.Ordering.{Ordering}
 use Rattle.std.specs.Ordering.{nat_cmp, ordering_then}
-use Rattle.tags.specs.declared.object_id.ObjectId.{ObjectId}
+use Rattle.primitives.specs.tags.declared.object_id.ObjectId.{ObjectId}
 use Rattle.object_model.specs.Identifiers.{same_id}
 
 -- the index at which an identifier first stands in a list

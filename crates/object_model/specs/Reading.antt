@@ -1,9 +1,9 @@
 -- Reading a property: what it holds, or the first rule that refuses (15.5, 15.7).
 use Rattle.std.specs.Prelude.{ℕ, ◌-◌, ◌==◌, ◌||◌, not, nat_lt, Bool, true, if◌then◌else◌, List, [], ◌∷◌, Option, Some}
 use Rattle.std.specs.Prelude.{None, Result, Ok, Err, map, filter, find, flat_map, length, slice_get, option_to_list}
-use Rattle.tags.specs.declared.object_id.ObjectId.{ObjectId}
-use Rattle.tags.specs.declared.value.Value.{Value}
-use Rattle.tags.specs.declared.value.Value.TheVariants as value
+use Rattle.primitives.specs.tags.declared.object_id.ObjectId.{ObjectId}
+use Rattle.primitives.specs.tags.declared.value.Value.{Value}
+use Rattle.primitives.specs.tags.declared.value.Value.TheVariants as value
 use Rattle.primitives.specs.declared.error.ErrorClass.{ErrorClass}
 use Rattle.primitives.specs.declared.error.ErrorClass.TheVariants as class
 use Rattle.primitives.specs.declared.error.ErrorCode.{ErrorCode}

@@ -2,9 +2,9 @@
 use Rattle.std.specs.Prelude.{ℕ, ◌+◌, ◌==◌, ◌&&◌, nat_lt, Bool, if◌then◌else◌, List, [], ◌∷◌, Option, Some, None}
 use Rattle.std.specs.Prelude.{Result, Ok, Err, map, flat_map, length, unwrap_or}
 use Rattle.std.specs.Str.{is_utf8}
-use Rattle.tags.specs.declared.object_id.ObjectId.{ObjectId}
-use Rattle.tags.specs.declared.value.Value.{Value}
-use Rattle.tags.specs.declared.value.Value.TheVariants as value
+use Rattle.primitives.specs.tags.declared.object_id.ObjectId.{ObjectId}
+use Rattle.primitives.specs.tags.declared.value.Value.{Value}
+use Rattle.primitives.specs.tags.declared.value.Value.TheVariants as value
 use Rattle.primitives.specs.declared.error.ErrorClass.TheVariants as class
 use Rattle.primitives.specs.declared.error.ErrorCode.TheVariants as code
 use Rattle.object_model.specs.declared.object.Access.{Access}

@@ -5,10 +5,10 @@ ghost use Rattle.std.specs.Prelude.{option_copied};
 ghost use Rattle.priority.specs.Slots.{no_slots, slot, first_filled, put_slot};
 ghost use Rattle.object_model.specs.Levels.{put_level};
 
+use primitives::tags::Value;
 use priority::Slots;
 use std::alloc::{AllocError, Allocator};
 use std::marker::Model;
-use tags::Value;
 
 /// The sixteen slots of a value object. They lie in memory of their own, so that an object is
 /// small. A contract sees the list of the slots.

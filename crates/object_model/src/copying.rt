@@ -5,9 +5,9 @@ ghost use Rattle.std.specs.Prelude.{◌≡◌, IfOk, option_copied};
 use crate::commands::Commands;
 use crate::object::{DeviceObject, Object, ValueObject};
 use crate::site::{SiteObject, SiteObjects};
+use primitives::tags::Value;
 use primitives::{CopyIn, copy_all};
 use std::alloc::{AllocError, Allocator};
-use tags::Value;
 
 impl<A: Allocator + Copy> SiteObjects<A> {
     ghost use Rattle.std.specs.Prelude.{◌≡◌, IfOk};

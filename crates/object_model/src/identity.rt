@@ -6,9 +6,9 @@ ghost use Rattle.object_model.specs.Objects.{type_of, identifier, properties_of}
 ghost use Rattle.object_model.specs.Reading.{property_at};
 
 use crate::object::{Object, ValueKind};
+use primitives::tags::ObjectId;
 use primitives::{ObjectType, Property};
 use std::alloc::Allocator;
-use tags::ObjectId;
 
 /// The properties of a Binary Value and of a CharacterString Value, in the order of their table.
 const VALUE_PROPERTIES: [Property; 10] = [

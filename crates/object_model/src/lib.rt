@@ -31,4 +31,7 @@ pub use commands::Commands;
 pub use laws::types_are_supported;
 pub use object::{Access, Datatype, DeviceObject, Object, ValueKind, ValueObject};
 pub use places::Places;
+pub use primitives;
+pub use primitives::tags;
+pub use profile;
 pub use site::{SiteObject, SiteObjects};

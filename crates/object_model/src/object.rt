@@ -1,9 +1,9 @@
 //! The objects of a device: what each holds (clauses 12.8, 12.11, 12.20, 12.37 and 12.43).
 
 use crate::commands::Commands;
+use primitives::tags::{Octets, Value};
 use profile::LinkKind;
 use std::alloc::Allocator;
-use tags::{Octets, Value};
 
 /// What sets one type of value object off from the others. It never changes.
 #[derive(Clone, Copy, Debug, PartialEq, Eq)]

@@ -3,12 +3,12 @@
 ghost use Rattle.std.specs.Prelude.{◌≡◌, List, ◌++◌, ◌∷◌, [], OnOk, OnErr, length};
 ghost use Rattle.std.specs.BTreeMap as tree;
 ghost use Rattle.object_model.specs.Places.{id_cmp, also_at};
-ghost use Rattle.tags.specs.declared.object_id.ObjectId.{ObjectId};
+ghost use Rattle.primitives.specs.tags.declared.object_id.ObjectId.{ObjectId};
 
+use primitives::tags::ObjectId;
 use std::alloc::{AllocError, Allocator};
 use std::collections::BTreeMap;
 use std::marker::Model;
-use tags::ObjectId;
 
 /// A list of identifiers, with a map from each to its place. A contract sees the list.
 #[derive(Drop)]
@@ -21,7 +21,7 @@ impl<A: Allocator> Model for Places<A> {
     ghost use Rattle.std.specs.Prelude.{◌≡◌, List};
     ghost use Rattle.std.specs.BTreeMap as tree;
     ghost use Rattle.object_model.specs.Places.{place_of, id_cmp};
-    ghost use Rattle.tags.specs.declared.object_id.ObjectId.{ObjectId};
+    ghost use Rattle.primitives.specs.tags.declared.object_id.ObjectId.{ObjectId};
 
     ghost Value = { List ObjectId };
 

@@ -2,7 +2,7 @@
 
 ghost use Rattle.std.specs.Prelude.{◌≡◌, ◌∷◌, ◌-◌, ◌^◌, ◌<◌, ◌≤◌, ◌+◌, ◌≢◌, [], None, Some, Ok, Err, true, IfOk, IfErr};
 ghost use Rattle.std.specs.Prelude.{OnOk, length, map, option_to_list, option_copied, slice_get, if◌then◌else◌};
-ghost use Rattle.tags.specs.declared.value.Value.TheVariants as value;
+ghost use Rattle.primitives.specs.tags.declared.value.Value.TheVariants as value;
 ghost use Rattle.primitives.specs.Numbers.{type_number};
 ghost use Rattle.object_model.specs.Objects.{text, present_value, status_flags, states_of, units_of, slot_value};
 ghost use Rattle.object_model.specs.Objects.{object_list, held, held_by_value, held_by_device};
@@ -11,12 +11,12 @@ ghost use Rattle.object_model.specs.Reading.{index_refusal, locate_property, at_
 
 use crate::commands::Commands;
 use crate::object::{DeviceObject, Object, ValueKind, ValueObject};
+use primitives::tags::{Items, ObjectId, Octets, Value};
 use primitives::{ErrorClass, ErrorCode, ObjectType, Property, Values};
 use profile::{
     APDU_SEGMENT_TIMEOUT_MS, APDU_TIMEOUT_MS, MAX_SEGMENTS_ACCEPTED, NUMBER_OF_APDU_RETRIES,
 };
 use std::alloc::{AllocError, Allocator};
-use tags::{Items, ObjectId, Octets, Value};
 
 /// Why something is refused: an error class and code (18).
 pub type Refusal = (ErrorClass, ErrorCode);

@@ -1,9 +1,9 @@
 //! The objects that a site gives a device.
 
 use crate::object::ValueKind;
+use primitives::tags::{Items, Octets, Value};
 use profile::LinkKind;
 use std::alloc::Allocator;
-use tags::{Items, Octets, Value};
 
 /// A device as its site describes it: its Device object, and its value objects in order.
 #[derive(Drop)]

@@ -2,7 +2,7 @@
 
 ghost use Rattle.std.specs.Prelude.{◌≡◌, ◌∷◌, [], None, length};
 ghost use Rattle.std.specs.Str.{is_utf8};
-ghost use Rattle.tags.specs.Value.{IsSound};
+ghost use Rattle.primitives.specs.tags.Value.{IsSound};
 ghost use Rattle.primitives.specs.Sound.{AreSound};
 ghost use Rattle.object_model.specs.Writing.{access, in_range, text_refusal, value_refusal, values_refusal};
 ghost use Rattle.object_model.specs.Writing.{command_refusal, write_refusal, level_of, commanded, put, put_value};
@@ -10,11 +10,11 @@ ghost use Rattle.object_model.specs.Writing.{put_device};
 
 use crate::object::{Access, Datatype, DeviceObject, Object, ValueKind, ValueObject};
 use crate::reading::Refusal;
+use primitives::tags::Value;
 use primitives::{ErrorClass, ErrorCode, Property, Values};
 use profile::MAX_TEXT_OCTETS;
 use std::alloc::Allocator;
 use std::str;
-use tags::Value;
 
 /// The level of a write without a priority (19.2.3).
 const DEFAULT_LEVEL: u8 = 16;

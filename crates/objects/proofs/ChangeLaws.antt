@@ -1,9 +1,9 @@
 -- What a request leaves as it was, in the table as a whole.
 use Rattle.std.proofs.Common.{refl, sym, ap, ◌∙◌, ◌≡◌, ℕ, List, [], ◌∷◌, ◌++◌, Option, Result, Ok, Err}
 use Rattle.std.specs.Prelude.{map}
-use Rattle.tags.specs.declared.object_id.ObjectId.{ObjectId}
-use Rattle.tags.specs.declared.value.Value.{Value}
-use Rattle.tags.specs.declared.value.Value.TheVariants as value
+use Rattle.object_model.specs.tags.declared.object_id.ObjectId.{ObjectId}
+use Rattle.object_model.specs.tags.declared.value.Value.{Value}
+use Rattle.object_model.specs.tags.declared.value.Value.TheVariants as value
 use Rattle.primitives.specs.declared.error.ErrorClass.{ErrorClass}
 use Rattle.primitives.specs.declared.error.ErrorCode.{ErrorCode}
 use Rattle.object_model.specs.declared.object.Object.{Object}

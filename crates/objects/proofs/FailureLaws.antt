@@ -1,7 +1,7 @@
 -- A write is refused for the reason that its place gives.
 use Rattle.std.proofs.Common.{◌∙◌, ◌≡◌, ◌+◌, ◌<◌, refl, ap, ℕ, Bool, true, false, List, [], ◌∷◌, ◌++◌}
 use Rattle.std.specs.Prelude.{Option, Some, None, Result, Ok, Err, length, drop, get_or}
-use Rattle.tags.specs.declared.object_id.ObjectId.{ObjectId}
+use Rattle.object_model.specs.tags.declared.object_id.ObjectId.{ObjectId}
 use Rattle.primitives.specs.declared.plain_data.ObjectWrites.{ObjectWrites}
 use Rattle.primitives.specs.declared.plain_data.PropertyWrite.{PropertyWrite}
 use Rattle.primitives.specs.declared.plain_data.Reply.{Reply}

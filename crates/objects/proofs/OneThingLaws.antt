@@ -2,9 +2,9 @@
 use Rattle.std.proofs.Common.{refl, sym, ap, subst, ◌∙◌, ◌≡◌, ◌≢◌, ℕ, Bool, true, false, List, [], ◌∷◌, Option, Some, None, Result, Ok, Err, length}
 use Rattle.std.proofs.lemmas.Bool.{eqb-true}
 use Rattle.std.specs.Prelude.{cond, map, find, ◌==◌}
-use Rattle.tags.specs.declared.object_id.ObjectId.{ObjectId}
-use Rattle.tags.specs.declared.value.Value.{Value}
-use Rattle.tags.specs.declared.value.Value.TheVariants as value
+use Rattle.object_model.specs.tags.declared.object_id.ObjectId.{ObjectId}
+use Rattle.object_model.specs.tags.declared.value.Value.{Value}
+use Rattle.object_model.specs.tags.declared.value.Value.TheVariants as value
 use Rattle.object_model.specs.declared.object.DeviceObject.{DeviceObject}
 use Rattle.object_model.specs.declared.object.Object.{Object}
 use Rattle.object_model.specs.declared.object.Object.TheVariants as object

@@ -9,9 +9,9 @@ use Rattle.std.specs.Str.{is_utf8}
 use Rattle.priority.specs.Laws.{NoneHigher}
 use Rattle.priority.specs.Slots.{put_slot, first_filled}
 use Rattle.priority.proofs.SlotLaws.{put_first, first_in_force, in_force_first, no_first_none_filled, none_filled_no_first}
-use Rattle.tags.specs.declared.object_id.ObjectId.{ObjectId}
-use Rattle.tags.specs.declared.value.Value.{Value}
-use Rattle.tags.specs.declared.value.Value.TheVariants as value
+use Rattle.object_model.specs.tags.declared.object_id.ObjectId.{ObjectId}
+use Rattle.object_model.specs.tags.declared.value.Value.{Value}
+use Rattle.object_model.specs.tags.declared.value.Value.TheVariants as value
 use Rattle.object_model.specs.declared.object.Datatype.{Datatype}
 use Rattle.object_model.specs.declared.object.DeviceObject.{DeviceObject}
 use Rattle.object_model.specs.declared.object.Object.{Object}

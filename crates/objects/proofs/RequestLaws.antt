@@ -4,8 +4,8 @@ use Rattle.std.proofs.lemmas.Bool.{ne_eqb}
 use Rattle.std.proofs.lemmas.List.{map-append}
 use Rattle.std.specs.Prelude.{cond, map, filter, flat_map}
 use Rattle.std.specs.List.{AllByRecursion}
-use Rattle.tags.specs.declared.object_id.ObjectId.{ObjectId}
-use Rattle.tags.specs.declared.value.Value.{Value}
+use Rattle.object_model.specs.tags.declared.object_id.ObjectId.{ObjectId}
+use Rattle.object_model.specs.tags.declared.value.Value.{Value}
 use Rattle.object_model.specs.declared.object.Object.{Object}
 use Rattle.primitives.specs.declared.plain_data.ObjectRefs.{ObjectRefs}
 use Rattle.primitives.specs.declared.plain_data.ObjectWrites.{ObjectWrites}

@@ -2,8 +2,8 @@
 use Rattle.std.proofs.Common.{refl, sym, ap, subst, ◌∙◌, ◌≡◌, ℕ, suc, Bool, true, false, List, [], ◌∷◌, ◌++◌, Option, Some, None, Result, Ok, Err, length}
 use Rattle.std.proofs.lemmas.List.{length-map}
 use Rattle.std.specs.Prelude.{cond, find, ◌==◌, ◌↔◌}
-use Rattle.tags.specs.declared.object_id.ObjectId.{ObjectId}
-use Rattle.tags.specs.declared.value.Value.{Value}
+use Rattle.object_model.specs.tags.declared.object_id.ObjectId.{ObjectId}
+use Rattle.object_model.specs.tags.declared.value.Value.{Value}
 use Rattle.object_model.specs.declared.object.Access.{Access}
 use Rattle.object_model.specs.declared.object.Access.TheVariants.{Writable, Commandable}
 use Rattle.object_model.specs.declared.object.DeviceObject.{DeviceObject}

@@ -2,7 +2,7 @@
 use Rattle.std.proofs.Common.{◌∙◌, ◌≡◌, ◌<◌, refl, sym, ap, subst, ℕ, List, [], ◌∷◌, ◌++◌}
 use Rattle.std.specs.Prelude.{Option, Some, None, Result, Ok, Err, length, map, slice_get, slice_set}
 use Rattle.std.proofs.lemmas.List.{length-map}
-use Rattle.tags.specs.declared.object_id.ObjectId.{ObjectId}
+use Rattle.object_model.specs.tags.declared.object_id.ObjectId.{ObjectId}
 use Rattle.object_model.specs.declared.object.Object.{Object}
 use Rattle.primitives.specs.declared.plain_data.ObjectWrites.{ObjectWrites}
 use Rattle.primitives.specs.declared.plain_data.PropertyWrite.{PropertyWrite}

@@ -1,9 +1,9 @@
 -- What holds of tables and requests (15, 19.2).
 use Rattle.std.specs.Prelude.{◌≡◌, ◌≢◌, ◌↔◌, ◌⊎◌, ℕ, List, [], ◌∷◌, ◌++◌, Option, Some, None, Ok, Err, map}
 use Rattle.std.specs.List.{AllByRecursion}
-use Rattle.tags.specs.declared.object_id.ObjectId.{ObjectId}
-use Rattle.tags.specs.declared.value.Value.{Value}
-use Rattle.tags.specs.declared.value.Value.TheVariants as value
+use Rattle.object_model.specs.tags.declared.object_id.ObjectId.{ObjectId}
+use Rattle.object_model.specs.tags.declared.value.Value.{Value}
+use Rattle.object_model.specs.tags.declared.value.Value.TheVariants as value
 use Rattle.priority.specs.Laws.{NoneHigher, IsInForce, NoneFilled}
 use Rattle.object_model.specs.declared.object.Object.TheVariants as object
 use Rattle.object_model.specs.declared.object.ValueObject.{ValueObject}

@@ -1,6 +1,6 @@
 -- The object machine: what a device replies to a request, and what the request leaves (12, 15, 19).
 use Rattle.std.specs.Prelude.{List, map, Option, Some, None, Result, Ok, Err}
-use Rattle.tags.specs.declared.value.Value.{Value}
+use Rattle.object_model.specs.tags.declared.value.Value.{Value}
 use Rattle.primitives.specs.declared.plain_data.Reply.{Reply}
 use Rattle.primitives.specs.declared.plain_data.Reply.TheVariants.{Values, Many, Done, Error}
 use Rattle.primitives.specs.declared.plain_data.Request.{Request}

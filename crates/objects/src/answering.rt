@@ -9,13 +9,13 @@ ghost use Rattle.object_model.specs.Writing.{place_refusal};
 use crate::table::Table;
 use object_model::Object;
 use object_model::reading::{NOT_AN_ARRAY, Refusal, UNKNOWN_OBJECT, locate};
+use object_model::tags::{Items, ObjectId, Value};
 use object_model::writing::{access, level_of, write_refusal};
 use primitives::{
     ALL_PROPERTIES, OPTIONAL_PROPERTIES, ObjectRefs, ObjectResults, ObjectWrites, Property,
     PropertyReference, PropertyResult, PropertyWrite, REQUIRED_PROPERTIES, Reply, Request,
 };
 use std::alloc::{AllocError, Allocator};
-use tags::{Items, ObjectId, Value};
 
 impl<A: Allocator + Copy> Table<A> {
     ghost use Rattle.std.specs.Prelude.{◌≡◌, ◌++◌, OnOk, IfOk, None, map, filter};

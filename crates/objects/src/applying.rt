@@ -9,10 +9,10 @@ ghost use Rattle.object_model.specs.Writing.{put};
 use crate::table::Table;
 use object_model::Object;
 use object_model::reading::Refusal;
+use object_model::tags::{Items, ObjectId};
 use object_model::writing::{level_of, put};
 use primitives::{ObjectWrites, PropertyWrite, Reply, Request, Values, copy_all};
 use std::alloc::{AllocError, Allocator};
-use tags::{Items, ObjectId};
 
 impl<A: Allocator + Copy> Table<A> {
     ghost use Rattle.std.specs.Prelude.{◌≡◌, OnOk, OnErr, IfOk, IfErr, Ok, Err};

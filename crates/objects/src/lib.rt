@@ -29,6 +29,6 @@ pub use laws::{
     write_leaves_other_objects, write_leaves_other_properties, write_leaves_other_reads,
     write_leaves_shape, write_reads_back, writes_end_at_failure,
 };
-pub use object_model::{SiteObject, SiteObjects, ValueKind};
+pub use object_model::{SiteObject, SiteObjects, ValueKind, primitives};
 pub use opening::is_site;
 pub use table::Table;

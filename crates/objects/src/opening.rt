@@ -2,21 +2,21 @@
 
 ghost use Rattle.std.specs.Prelude.{◌≡◌, ◌∷◌, ◌↔◌, ◌≤◌, ◌+◌, ◌++◌, IsTrue, IfOk, OnOk, length, map};
 ghost use Rattle.std.specs.List.{AllByRecursion};
-ghost use Rattle.tags.specs.declared.object_id.ObjectId.{ObjectId};
+ghost use Rattle.object_model.specs.tags.declared.object_id.ObjectId.{ObjectId};
 ghost use Rattle.object_model.specs.declared.object.Object.TheVariants as object;
 ghost use Rattle.object_model.specs.Objects.{identifier, name_of};
 ghost use Rattle.object_model.specs.Site.{opening_value, opening_device, opening_table, IsText, IsSoundKind};
 ghost use Rattle.object_model.specs.Site.{IsSoundObjectOf, IsOther, AllApart, IsSite};
-ghost use Rattle.profile.specs.Limits.{MAX_OBJECTS};
+ghost use Rattle.object_model.specs.profile.Limits.{MAX_OBJECTS};
 
+use object_model::profile::MAX_OBJECTS;
+use object_model::tags::{Items, ObjectId, Octets};
 use object_model::writing::{text_refusal, value_refusal};
 use object_model::{
     Commands, DeviceObject, Object, Places, SiteObject, SiteObjects, ValueKind, ValueObject,
 };
 use primitives::ObjectType;
-use profile::MAX_OBJECTS;
 use std::alloc::{AllocError, Allocator};
-use tags::{Items, ObjectId, Octets};
 
 /// The least instance number that no object has.
 const NO_INSTANCE: u32 = 4_194_303;

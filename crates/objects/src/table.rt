@@ -6,11 +6,11 @@ ghost use Rattle.object_model.specs.Reading.{read_place, locate_property};
 
 use crate::opening::{is_site, open, places_of};
 use object_model::reading::{self, Refusal, UNKNOWN_OBJECT, locate, object_at};
+use object_model::tags::{Fault, ObjectId};
 use object_model::{Object, Places, SiteObjects};
 use primitives::{Values, copy_all};
 use std::alloc::{AllocError, Allocator};
 use std::marker::Model;
-use tags::{Fault, ObjectId};
 
 /// The objects of a device. A contract sees the object machine's table.
 #[derive(Drop)]

@@ -31,3 +31,4 @@ pub use plain_data::{
     Reply, Request, Values,
 };
 pub use property::{ALL_PROPERTIES, OPTIONAL_PROPERTIES, Property, REQUIRED_PROPERTIES};
+pub use tags;

@@ -1,7 +1,7 @@
 //! The map from who asked to the key of the newest record.
 
 ghost use Rattle.std.specs.Prelude.{◌≡◌, Some, OnOk, OnErr, slice_get};
-ghost use Rattle.objects.specs.Machine.{after};
+ghost use Rattle.answers.specs.objects.Machine.{after};
 ghost use Rattle.remembered.specs.Keeping.{HasNow, IsSet, IsSameMap};
 ghost use Rattle.remembered.specs.Keeping as map;
 

@@ -1,7 +1,7 @@
 //! Remembered answers in a list, for tests.
 
 ghost use Rattle.std.specs.Prelude.{◌≡◌, ◌∷◌, ◌++◌, [], OnOk, OnErr};
-ghost use Rattle.objects.specs.Machine.{after};
+ghost use Rattle.answers.specs.objects.Machine.{after};
 ghost use Rattle.remembered.specs.Keeping.{newest_place};
 ghost use Rattle.remembered.specs.Records.{later_or, some_if};
 

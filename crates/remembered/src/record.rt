@@ -4,7 +4,7 @@ ghost use Rattle.std.specs.Prelude.{◌≡◌, IfOk, Option};
 ghost use Rattle.std.specs.Ordering.{is_eq};
 ghost use Rattle.remembered.specs.Records.{asker_cmp};
 
-use apdu::{AbortReason, ConfirmedService};
+use answers::apdu::{AbortReason, ConfirmedService};
 use npdu::{Station, Way};
 use segments::Sender;
 use std::alloc::{AllocError, Allocator};

@@ -2,7 +2,7 @@
 //! looked for is found in the time of a map.
 
 ghost use Rattle.std.specs.Prelude.{◌≡◌, ◌∷◌, ◌++◌, [], OnOk, OnErr, IfOk, option_copied, drop};
-ghost use Rattle.objects.specs.Machine.{after};
+ghost use Rattle.answers.specs.objects.Machine.{after};
 ghost use Rattle.remembered.specs.Keeping.{first};
 
 use crate::keys::{AskerKeys, key_in, run_with_key};

@@ -163,9 +163,9 @@ fn drawn<A: Allocator + Copy>(alloc: Global, memory: A, run: Run<'_, '_>) -> Res
     };
     match drawn {
         Ok(octets) => in_words(alloc, kind, octets.as_slice()),
-        Err(site_history::Stop::Refused(Fault::Memory)) => Err(Stop::Memory),
-        Err(site_history::Stop::Refused(fault)) => refusal(alloc, fault),
-        Err(site_history::Stop::Line(number)) => Ok(format!(in alloc; "line {number}")?),
+        Err(site_ladder::Stop::Refused(Fault::Memory)) => Err(Stop::Memory),
+        Err(site_ladder::Stop::Refused(fault)) => refusal(alloc, fault),
+        Err(site_ladder::Stop::Line(number)) => Ok(format!(in alloc; "line {number}")?),
     }
 }
 

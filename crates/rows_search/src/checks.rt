@@ -3,7 +3,7 @@
 
 use crate::asked::{Asked, push_steps};
 use sheets::{Stop, differs};
-use site_run::{Spelling, Telling, simulate_told};
+use site_search::{Spelling, Telling, simulate_told};
 use std::alloc::Global;
 
 /// What is printed of a script at a site, without its last line.

@@ -30,5 +30,5 @@ pub use plan::{Executed, Planned, QuietChange, Saying, ServerPlan, ServerPlanSai
 pub use remembered::{Asker, Record, Records, SlabRecords};
 pub use restarting::restart;
 pub use said::{ServerSaid, write_whole};
-pub use services::{Executor, decode_request};
+pub use services::{Executor, ObjectExecutor, decode_request};
 pub use speaking::WholeAnswer;

@@ -60,6 +60,6 @@ pub use laws::{
 };
 pub use server::ServerTsm;
 pub use server_answers::{
-    AnswerLimits, Asked, Executed, Origin, QuietChange, RequestGathering, Saying, ServerPlan,
-    ServerPlanSaid, ServerSaid, ServerTold, WholeAnswer, write_whole,
+    AnswerLimits, Asked, Executed, ObjectExecutor, Origin, QuietChange, RequestGathering, Saying,
+    ServerPlan, ServerPlanSaid, ServerSaid, ServerTold, WholeAnswer, write_whole,
 };

@@ -1,8 +1,8 @@
 -- The names that don't compute are equal to what they stand for.
 use Rattle.std.proofs.Common.{◌≡◌, refl}
 use Rattle.primitives.specs.declared.plain_data.Request.{Request}
-use Rattle.objects.specs.Machine.{reply, after}
-use Rattle.object_model.specs.Objects.{PlainTable}
+use Rattle.answers.specs.objects.Machine.{reply, after}
+use Rattle.answers.specs.object_model.Objects.{PlainTable}
 use Rattle.apdu.specs.Numbers.{service_number}
 use Rattle.services.specs.CanonicalRequest.{canonical_request}
 use Rattle.services.specs.Request.{request_service}

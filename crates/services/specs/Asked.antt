@@ -3,8 +3,8 @@
 use Rattle.std.specs.Prelude.{ℕ, List}
 use Rattle.primitives.specs.declared.plain_data.Request.{Request}
 use Rattle.primitives.specs.declared.plain_data.Reply.{Reply}
-use Rattle.objects.specs.Machine.{reply, after}
-use Rattle.object_model.specs.Objects.{PlainTable}
+use Rattle.answers.specs.objects.Machine.{reply, after}
+use Rattle.answers.specs.object_model.Objects.{PlainTable}
 use Rattle.apdu.specs.Numbers.{service_number}
 use Rattle.services.specs.CanonicalRequest.{canonical_request}
 use Rattle.services.specs.Request.{request_service}

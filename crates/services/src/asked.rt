@@ -3,8 +3,8 @@
 
 ghost use Rattle.std.specs.Prelude.{◌≡◌};
 ghost use Rattle.apdu.specs.Numbers.{service_number};
-ghost use Rattle.objects.specs.Machine.{reply, after};
-ghost use Rattle.object_model.specs.Objects.{PlainTable};
+ghost use Rattle.answers.specs.objects.Machine.{reply, after};
+ghost use Rattle.answers.specs.object_model.Objects.{PlainTable};
 ghost use Rattle.primitives.specs.declared.plain_data.Request.{Request};
 ghost use Rattle.services.specs.Asked.{replied, left_by, request_octets, service_asked};
 ghost use Rattle.services.specs.CanonicalRequest.{canonical_request};

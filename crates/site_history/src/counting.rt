@@ -4,8 +4,8 @@ ghost use Rattle.std.specs.Prelude.{◌≡◌};
 ghost use Rattle.site_history.specs.Counting as spec;
 
 use history::Entry;
+use simulator::WorldEntry;
 use std::alloc::Allocator;
-use world_log::WorldEntry;
 
 /// The kinds of entries that are counted.
 #[derive(Clone, Copy, Debug, PartialEq, Eq)]

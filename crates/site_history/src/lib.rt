@@ -23,4 +23,5 @@ pub use lines::{
     print_entries, print_refusal, print_refused_asked, print_refused_event, print_refused_time,
 };
 pub use printed::{EndLine, EntryLine, RefusedLine};
+pub use simulator::{Event, Flow, World, WorldEntry};
 pub use stop::{Stop, say_stop};

@@ -7,14 +7,13 @@ ghost use Rattle.site_history.specs.Printed.{entries_text, entry_text, line, ref
 
 use crate::event_line::{AskedFor, EventLine, ScriptLine, cause, missing};
 use crate::printed::{EntryLine, RefusedLine};
-use simulator::Event;
+use simulator::{Event, WorldEntry};
 use site_parts::Station;
 use std::alloc::Allocator;
 use std::io;
 use std::io::Write;
 use tags::Fault;
 use words::Spelling;
-use world_log::WorldEntry;
 
 /// Prints that an event was refused at a moment, in milliseconds.
 ///

@@ -7,12 +7,12 @@ ghost use Rattle.site_history.specs.Printed.{end_text, entry_text, refused_text,
 use crate::counting::Counts;
 use history::{End, Entry};
 use primitives::Request;
+use simulator::WorldEntry;
 use site_trace::{DeviceName, NameAt};
 use std::alloc::Allocator;
 use std::fmt;
 use tags::Fault;
 use words::{Named, ReplyTo, Spelled, Spelling, abort_reasons, reject_reasons};
-use world_log::WorldEntry;
 
 /// The line of an entry: `0 issue 0 c 10 read 5:1 85`, `1 executed 0 values enum 1`, `2 answered 0 values enum 1`,
 /// `12000 ended 0 timedout`, `5 restarted d`.

@@ -4,8 +4,7 @@ use crate::folding::{folded, shades_of, with_pauses};
 use crate::lanes::{bands_of, stations_of};
 use crate::page::write_page;
 use ladder::{Ladder, Links, write_svg};
-use site_gathering::{Gathering, Part, place_named};
-use site_steps::{Event, Stop, Watcher, World, watch};
+use site_gathering::{Event, Gathering, Part, Stop, Watcher, World, place_named, watch};
 use std::alloc::{AllocError, Allocator, Global};
 use tags::Fault;
 
@@ -130,7 +129,7 @@ fn remark_of<A: Allocator + Copy>(
 /// history. The document is read in memory of `reading`.
 ///
 /// # Errors
-/// Those of `site_steps::open`, `NoSuch` where the part names a station that the site hasn't, and `Memory`.
+/// Those of `site_gathering::watch`, `NoSuch` where the part names a station that the site hasn't, and `Memory`.
 pub fn ladder<A: Allocator + Copy>(
     reading: Global,
     alloc: A,

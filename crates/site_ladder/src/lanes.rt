@@ -1,9 +1,8 @@
 //! Which stations have lanes, and where: clients left, then the stations of each network, the routers last.
 
 use ladder::{Arrow, Band, Mark, Note, Reach, Row};
-use site_gathering::{name_of, network_of};
+use site_gathering::{World, name_of, network_of};
 use site_parts::{Role, Station};
-use site_steps::World;
 use std::alloc::{AllocError, Allocator};
 
 /// Up to so many lanes stations have some that send broadcasts alone.

@@ -16,4 +16,4 @@ mod page;
 mod page_messages;
 
 pub use drawing::{ladder, report};
-pub use site_gathering::Part;
+pub use site_gathering::{Part, Stop};

@@ -2,8 +2,7 @@
 
 use crate::page_messages::{write_datagrams, write_frames};
 use ladder::{Escaped, Ladder, Links, Mark, Note, Row, Station, write_svg};
-use site_gathering::{Gathering, Part};
-use site_steps::{EndLine, World, counted};
+use site_gathering::{EndLine, Gathering, Part, World, counted};
 use std::alloc::Allocator;
 use std::io;
 use std::io::Write;

@@ -11,3 +11,4 @@ pub use Rattle.device.specs as device
 pub use Rattle.carry.specs as carry
 pub use Rattle.site_ports.specs.link_site as link_site
 pub use Rattle.site_ports.specs as site_ports
+pub use Rattle.site_ports.specs.link_bus as link_bus

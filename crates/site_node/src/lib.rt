@@ -27,5 +27,5 @@ pub use device::{Device, Executed};
 pub use node::SiteNode;
 pub use part::Part;
 pub use plan::PartPlan;
-pub use site_ports::{Draft, SitePort};
+pub use site_ports::{Draft, SitePort, link_bus};
 pub use told::PartTold;

@@ -11,7 +11,7 @@ mod draft;
 mod ports;
 
 pub use draft::{Draft, settle};
-pub use link_site::SitePort;
+pub use link_site::{SitePort, link_bus};
 pub use ports::{
     count_at, down_each, down_over, heard_at, is_any_due, register_at, restart_all, wake_all,
 };

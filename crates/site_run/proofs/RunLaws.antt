@@ -9,12 +9,12 @@ use Rattle.primitives.specs.declared.plain_data.Reply.{Reply}
 use Rattle.primitives.specs.declared.plain_data.Request.{Request}
 use Rattle.profile.specs.Times.{MAX_MOMENT_MS}
 use Rattle.script.specs.declared.step.Step.{Step}
-use Rattle.simulator.proofs.FlowLaws.{steps_pass}
-use Rattle.simulator.specs.Flows.{Gives, IsOfFlow, left_of, ticks_in, ticks_of}
-use Rattle.simulator.specs.declared.flow.Flow.{Flow}
-use Rattle.simulator.specs.world.World.{WorldState}
-use Rattle.simulator.specs.world.declared.event.Event.{Event}
-use Rattle.simulator.specs.world.declared.event.Event.TheVariants as event
+use Rattle.site_history.proofs.simulator.FlowLaws.{steps_pass}
+use Rattle.site_history.specs.simulator.Flows.{Gives, IsOfFlow, left_of, ticks_in, ticks_of}
+use Rattle.site_history.specs.simulator.declared.flow.Flow.{Flow}
+use Rattle.site_history.specs.simulator.world.World.{WorldState}
+use Rattle.site_history.specs.simulator.world.declared.event.Event.{Event}
+use Rattle.site_history.specs.simulator.world.declared.event.Event.TheVariants as event
 use Rattle.site_parts.specs.declared.parts.Station.{Station}
 use Rattle.site_history.specs.Asked.{refused_time_text}
 use Rattle.site_history.specs.Printed.{entries_text, line}

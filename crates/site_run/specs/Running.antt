@@ -5,12 +5,12 @@ use Rattle.std.specs.List.{AllByRecursion}
 use Rattle.profile.specs.Times.{MAX_MOMENT_MS, MAX_TICK_MS}
 use Rattle.script.specs.declared.step.Step.{Step}
 use Rattle.script.specs.declared.step.Step.TheVariants as step
-use Rattle.simulator.specs.Flows.{IsOfFlow, ticks_in}
-use Rattle.simulator.specs.world.Refusals.{IsRefused}
-use Rattle.simulator.specs.world.Step.{Steps}
-use Rattle.simulator.specs.world.World.{WorldState}
-use Rattle.simulator.specs.world.declared.event.Event.{Event}
-use Rattle.simulator.specs.world.declared.event.Event.TheVariants as event
+use Rattle.site_history.specs.simulator.Flows.{IsOfFlow, ticks_in}
+use Rattle.site_history.specs.simulator.world.Refusals.{IsRefused}
+use Rattle.site_history.specs.simulator.world.Step.{Steps}
+use Rattle.site_history.specs.simulator.world.World.{WorldState}
+use Rattle.site_history.specs.simulator.world.declared.event.Event.{Event}
+use Rattle.site_history.specs.simulator.world.declared.event.Event.TheVariants as event
 pub use Rattle.site_history.specs.Printed.{Known}
 use Rattle.site_history.specs.Asked.{refused_asked_text, refused_time_text, told_of}
 use Rattle.site_history.specs.Printed.{entries_text, line}

@@ -2,13 +2,13 @@
 use Rattle.std.specs.Prelude.{◌≡◌, ℕ, List}
 use Rattle.std.specs.Io.KnownBytes.{Appends}
 use Rattle.std.specs.List.{AllByRecursion}
-use Rattle.simulator.specs.carry_world.Laws.{IsLegal}
+use Rattle.site_history.specs.simulator.carry_world.Laws.{IsLegal}
 use Rattle.script.specs.Lines.{SaysSteps}
 use Rattle.script.specs.Numbers.{line_numbers}
 use Rattle.script.specs.Steps.{IsSoundStep}
 use Rattle.script.specs.declared.step.Step.{Step}
-use Rattle.simulator.specs.Judged.{instances_of, judged_of}
-use Rattle.simulator.specs.world.World.{WorldState, fresh_world}
+use Rattle.site_history.specs.simulator.Judged.{instances_of, judged_of}
+use Rattle.site_history.specs.simulator.world.World.{WorldState, fresh_world}
 use Rattle.site.specs.Sound.{IsSound}
 use Rattle.site_parts.specs.declared.parts.Parts.{Parts}
 use Rattle.site_text.specs.Document.{IsDocument}

@@ -16,6 +16,8 @@ mod simulating;
 pub use running::{Telling, Told, make, take_steps};
 pub use script::{LineNumbers, Step};
 pub use simulating::{Opened, open, print_end, simulate, simulate_told, simulate_traced};
-pub use simulator::{Event, Flow, World, WorldEntry};
-pub use site_history::{EndLine, EntryLine, EventLine, Stop, counted, say_failed, say_stop};
+pub use site_history::{
+    EndLine, EntryLine, Event, EventLine, Flow, Stop, World, WorldEntry, counted, say_failed,
+    say_stop,
+};
 pub use words::Spelling;

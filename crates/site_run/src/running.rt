@@ -5,14 +5,13 @@ ghost use Rattle.std.specs.Io.KnownBytes.{Appends};
 ghost use Rattle.std.specs.List.{AllByRecursion};
 ghost use Rattle.script.specs.Steps.{IsSoundStep};
 ghost use Rattle.script.specs.declared.step.Step.TheVariants as step;
-ghost use Rattle.simulator.specs.world.Step.{IsSoundEvent};
+ghost use Rattle.site_history.specs.simulator.world.Step.{IsSoundEvent};
 ghost use Rattle.site_run.specs.Running.{PrintsAll, PrintsEvent, PrintsGrowth, PrintsStep, PrintsSteps, told};
 ghost use Rattle.site_run.specs.Running.{trace_text};
 ghost use Rattle.site_run.specs.Running as spec;
 
 use script::{LineNumbers, Step};
-use simulator::{Event, Flow, World};
-use site_history::{print_entries, print_refused_event, print_refused_time};
+use site_history::{Event, Flow, World, print_entries, print_refused_event, print_refused_time};
 use site_trace::{print_frames, print_items};
 use std::alloc::Allocator;
 use std::io;

@@ -3,10 +3,10 @@
 ghost use Rattle.std.specs.Prelude.{◌≡◌, ◌≤◌, IfOk, OnOk};
 ghost use Rattle.std.specs.Io.KnownBytes.{Appends};
 ghost use Rattle.std.specs.List.{AllByRecursion};
-ghost use Rattle.simulator.specs.carry_world.Laws.{IsLegal};
+ghost use Rattle.site_history.specs.simulator.carry_world.Laws.{IsLegal};
 ghost use Rattle.script.specs.Numbers.{line_numbers};
 ghost use Rattle.script.specs.Steps.{IsSoundStep};
-ghost use Rattle.simulator.specs.Judged.{instances_of, judged_of};
+ghost use Rattle.site_history.specs.simulator.Judged.{instances_of, judged_of};
 ghost use Rattle.site_history.specs.Counting.{counts_of};
 ghost use Rattle.site_history.specs.Printed.{end_text, line};
 ghost use Rattle.site_run.specs.Running.{all_in, entries_in};
@@ -14,8 +14,7 @@ ghost use Rattle.site_run.specs.Simulate.{IsOpened, PrintsRun, Simulates};
 
 use crate::running::{Telling, take_steps};
 use script::{LineNumbers, Step, script_of};
-use simulator::World;
-use site_history::{EndLine, Stop, counted, say_failed, say_stop};
+use site_history::{EndLine, Stop, World, counted, say_failed, say_stop};
 use site_text::site_of;
 use std::alloc::{Allocator, Global};
 use std::io;

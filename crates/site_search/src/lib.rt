@@ -18,4 +18,6 @@ mod until;
 
 pub use failure::{Failure, say_found};
 pub use searching::{Found, search};
-pub use site_storm::{Chances, Spelling, Weather, end_missing, storm, storm_counted};
+pub use site_storm::{
+    Chances, Spelling, Telling, Weather, end_missing, simulate_told, storm, storm_counted,
+};

@@ -26,7 +26,7 @@ pub use raging::Weather;
 pub use script_end::end_missing;
 pub use site_run::{
     EntryLine, Event, EventLine, LineNumbers, Opened, Spelling, Step, Stop, Telling, World,
-    WorldEntry, open, say_stop, take_steps,
+    WorldEntry, open, say_stop, simulate_told, take_steps,
 };
 pub use storm::Chances;
 pub use storming::{storm, storm_counted};

@@ -6,9 +6,9 @@ ghost use Rattle.unitdata.specs.Saying.{announced, announcing_npdu, is_spelled, 
 
 use crate::saying::{begin, begin_global, is_spelled};
 use apdu::Apdu;
+use apdu::tags::{Fault, Items, Octets};
 use npdu::{Mac, Parcel, Target, Way};
 use std::alloc::Allocator;
-use tags::{Fault, Items, Octets};
 
 /// What a station says: an APDU on its way.
 pub trait Say {

@@ -6,9 +6,9 @@ ghost use Rattle.unitdata.specs.Saying.{destination_to, global_npdu, header_to, 
 ghost use Rattle.unitdata.specs.Saying as spec;
 
 use apdu::PduType;
+use apdu::tags::Fault;
 use npdu::{Destination, Dnet, INITIAL_HOP_COUNT, Priority, Station, View};
 use std::alloc::Allocator;
-use tags::Fault;
 
 /// How many octets a buffer of an NPDU takes at first: so it doesn't grow for a short one.
 const SHORT_NPDU: usize = 64;

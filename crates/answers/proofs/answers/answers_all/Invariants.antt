@@ -1,5 +1,5 @@
 use Rattle.std.proofs.Common.{◌↔◌, length}
-use Rattle.primitives.specs.Answers.{AnswersAll}
+use Rattle.objects.specs.primitives.Answers.{AnswersAll}
 use Rattle.answers.proofs.answers.answers_all.Given as goal
 
 abbrev pub invariant-loop-asked_left : goal.invariant-loop-asked_left

@@ -1,5 +1,5 @@
 use Rattle.std.proofs.Common.{◌≡◌, ◌↔◌, map, length}
-use Rattle.primitives.specs.Answers.{read_reference}
+use Rattle.objects.specs.primitives.Answers.{read_reference}
 use Rattle.answers.proofs.answers.are_of.Given as goal
 
 abbrev pub invariant-loop-results_left : goal.invariant-loop-results_left

@@ -1,6 +1,6 @@
 use Rattle.std.proofs.Common.{◌↔◌, length}
 use Rattle.std.specs.List.{AllByRecursion}
-use Rattle.primitives.specs.Answers.{IsOneProperty}
+use Rattle.objects.specs.primitives.Answers.{IsOneProperty}
 use Rattle.answers.proofs.answers.names_single_properties.Given as goal
 
 abbrev pub invariant-loop-left : goal.invariant-loop-left

@@ -1,5 +1,5 @@
 use Rattle.std.proofs.Common.{◌≡◌, IfOk, IfErr}
-use Rattle.simulator.specs.world.Step.{IsSoundIfAny}
+use Rattle.site_history.specs.simulator.world.Step.{IsSoundIfAny}
 use Rattle.site_run.proofs.RunLaws.{IsNextOf, IsUnderWay, left_behind, to_go}
 use Rattle.site_run.proofs.running.make_all.Given as goal
 use Rattle.tags.specs.declared.fault.Fault.TheVariants.{Memory}

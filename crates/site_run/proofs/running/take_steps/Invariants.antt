@@ -1,6 +1,6 @@
 use Rattle.std.specs.List.{AllByRecursion}
 use Rattle.script.specs.Steps.{IsSoundStep}
-use Rattle.simulator.specs.world.World.{WorldState}
+use Rattle.site_history.specs.simulator.world.World.{WorldState}
 use Rattle.site_run.specs.Running.{Known, PrintsSteps}
 use Rattle.site_run.proofs.running.take_steps.Given as goal
 

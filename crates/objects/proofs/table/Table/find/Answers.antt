@@ -1,5 +1,5 @@
 use Rattle.std.proofs.Common.{◌∙◌, sym, ap, List}
-use Rattle.tags.specs.declared.object_id.ObjectId.{ObjectId}
+use Rattle.object_model.specs.tags.declared.object_id.ObjectId.{ObjectId}
 use Rattle.object_model.specs.Places.{place_of}
 use Rattle.object_model.proofs.ObjectPlaceLaws.{object_at-place, stands_at}
 use Rattle.objects.proofs.table.Table.find.Goals as goal

@@ -1,5 +1,5 @@
 use Rattle.std.proofs.Common.{◌∙◌, sym, ap, List}
-use Rattle.tags.specs.declared.object_id.ObjectId.{ObjectId}
+use Rattle.object_model.specs.tags.declared.object_id.ObjectId.{ObjectId}
 use Rattle.object_model.specs.Places.{place_of}
 use Rattle.object_model.proofs.LocateLaws.{IsSoundTable-write}
 use Rattle.objects.proofs.WriteLaws.{is_refused, is_written, has_place, identifiers_write, place_within}
