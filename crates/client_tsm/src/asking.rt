@@ -14,6 +14,9 @@ use services::encode_request;
 use std::alloc::{AllocError, Allocator};
 use tags::{Items, Octets};
 
+/// How many octets the service data of a request take at first: so they don't grow for a short one.
+const SHORT_REQUEST: usize = 32;
+
 /// The octets behind the service of a request.
 #[tactic(auto, using(crate::proofs::Names::asked_octets))]
 pub(crate) fn octets_of<A: Allocator + Copy>(
@@ -23,7 +26,7 @@ pub(crate) fn octets_of<A: Allocator + Copy>(
     requires { IsSoundRequest request.now }
     ensures { IfOk result (λ octets. octets ≡ request_octets request.now) }
 {
-    let mut out = Vec::new(alloc);
+    let mut out = Vec::with_capacity(alloc, SHORT_REQUEST)?;
     if encode_request(request, &mut out).is_err() {
         return Err(AllocError);
     }
