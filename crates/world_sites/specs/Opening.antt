@@ -5,7 +5,7 @@ use Rattle.bbmd_manager.specs.State.{new_manager}
 use Rattle.bbmd_tables.specs.Tables.{others}
 use Rattle.node_laws.specs.carry_said.headline_site.headline_bacnet.Refined.{ObjectSite}
 use Rattle.node_laws.specs.carry_said.headline_site.Placed.{Placed, site_of}
-use Rattle.link_bus.specs.Port as bus
+use Rattle.node_laws.specs.link_bus.Port as bus
 use Rattle.link_ip.specs.Port as ip
 use Rattle.link_ip.specs.declared.port.Reach.TheVariants as reach
 use Rattle.node_laws.specs.link_site.Port as site

@@ -10,9 +10,9 @@ ghost use Rattle.site_views.specs.Views.{host, managed_at};
 
 use bbmd_tables::append_others;
 use bvll::Address;
-use link_bus::BusPort;
 use link_ip::{IpPort, Reach};
 use node_laws::SitePort;
+use node_laws::link_bus::BusPort;
 use site::SubnetId;
 use site_parts::{Foreign, Link, Place, Role, Station};
 use site_views::{members, named};
