@@ -5,19 +5,19 @@ use Rattle.carry.specs.Things.{Thing}
 use Rattle.carry_ends.proofs.Issuers.{IsThere, IssuersAreThere, fresh_there, steps_there}
 use Rattle.carry_ends.proofs.Waking.{left_in_time}
 use Rattle.carry_ends.specs.Ends.{IsOpen, IssuesAreAccountedFor, OpenAreUnclosed, WakesEnd}
-use Rattle.carry_said.proofs.headline_site.Reached.{kept_at, reached_by}
-use Rattle.carry_said.proofs.headline_site.headline_client.Places.{all_at, has_seen}
-use Rattle.carry_said.specs.client.Client.{ClientState}
-use Rattle.carry_said.specs.headline_site.AllStations.{AllStations}
-use Rattle.carry_said.specs.headline_site.Laws.{IsReached}
-use Rattle.carry_said.specs.headline_site.headline.Protocol.{IsSite}
-use Rattle.carry_said.specs.headline_site.headline.Stations.{Client, Transaction}
-use Rattle.carry_said.specs.headline_site.headline_bacnet.Laws.{object_laws}
-use Rattle.carry_said.specs.headline_site.headline_bacnet.Protocol.{bacnet}
-use Rattle.carry_said.specs.headline_site.headline_bacnet.Refined.{ObjectCore, ObjectSite}
-use Rattle.carry_said.specs.headline_site.headline_bacnet.Stations.{longest_of}
-use Rattle.carry_said.specs.headline_site.headline_client.Laws.{IsClient, awake}
-use Rattle.carry_said.specs.headline_site.headline_client.Safe.{safe_client, safe_transaction, station_of}
+use Rattle.carry_world.proofs.carry_said.headline_site.Reached.{kept_at, reached_by}
+use Rattle.carry_world.proofs.carry_said.headline_site.headline_client.Places.{all_at, has_seen}
+use Rattle.carry_world.specs.carry_said.client.Client.{ClientState}
+use Rattle.carry_world.specs.carry_said.headline_site.AllStations.{AllStations}
+use Rattle.carry_world.specs.carry_said.headline_site.Laws.{IsReached}
+use Rattle.carry_world.specs.carry_said.headline_site.headline.Protocol.{IsSite}
+use Rattle.carry_world.specs.carry_said.headline_site.headline.Stations.{Client, Transaction}
+use Rattle.carry_world.specs.carry_said.headline_site.headline_bacnet.Laws.{object_laws}
+use Rattle.carry_world.specs.carry_said.headline_site.headline_bacnet.Protocol.{bacnet}
+use Rattle.carry_world.specs.carry_said.headline_site.headline_bacnet.Refined.{ObjectCore, ObjectSite}
+use Rattle.carry_world.specs.carry_said.headline_site.headline_bacnet.Stations.{longest_of}
+use Rattle.carry_world.specs.carry_said.headline_site.headline_client.Laws.{IsClient, awake}
+use Rattle.carry_world.specs.carry_said.headline_site.headline_client.Safe.{safe_client, safe_transaction, station_of}
 use Rattle.carry_world.proofs.Kept.{Inv}
 use Rattle.carry_world.proofs.Keys.{last_same}
 use Rattle.carry_world.proofs.Seeing.{Seen, all_seen, fresh_seen, kept_of}

@@ -2,17 +2,17 @@
 use Rattle.std.proofs.Common.{◌≡◌, ◌∙◌, refl, sym, ap, subst, ⊎_elim, ℕ, zero, suc, List, [], ◌∷◌, length, Option, Some, None}
 use Rattle.std.specs.Prelude.{slice_get, slice_set}
 use Rattle.apdu.specs.Apdu.{abort_pdu, complex_ack, confirmed, error_pdu, reject_pdu, segment_ack, simple_ack, unconfirmed}
-use Rattle.carry_said.specs.client.Client.{ClientState}
-use Rattle.carry_said.specs.client.ClientTold.{ClientTold}
-use Rattle.carry_said.specs.client.Hearing.{ClientHears, Does, Drops, Hears}
-use Rattle.carry_said.specs.client_tsm.Waking as client_waking
-use Rattle.carry_said.specs.client_tsm.declared.plan.TransactionOutcome.{TransactionOutcome}
-use Rattle.carry_said.specs.headline_site.headline.Happenings as core
-use Rattle.carry_said.specs.headline_site.headline.Happenings.{Fails, Gives, Outcome, closing}
-use Rattle.carry_said.specs.headline_site.headline_bacnet.Refined.{ObjectSite}
-use Rattle.carry_said.specs.headline_site.headline_client.Safe.{station_of}
-use Rattle.carry_said.specs.headline_site.headline_client.Told.{outcome_of}
-use Rattle.carry_said.specs.server_answers.Executed as told
+use Rattle.carry_world.specs.carry_said.client.Client.{ClientState}
+use Rattle.carry_world.specs.carry_said.client.ClientTold.{ClientTold}
+use Rattle.carry_world.specs.carry_said.client.Hearing.{ClientHears, Does, Drops, Hears}
+use Rattle.carry_world.specs.carry_said.client_tsm.Waking as client_waking
+use Rattle.carry_world.specs.carry_said.client_tsm.declared.plan.TransactionOutcome.{TransactionOutcome}
+use Rattle.carry_world.specs.carry_said.headline_site.headline.Happenings as core
+use Rattle.carry_world.specs.carry_said.headline_site.headline.Happenings.{Fails, Gives, Outcome, closing}
+use Rattle.carry_world.specs.carry_said.headline_site.headline_bacnet.Refined.{ObjectSite}
+use Rattle.carry_world.specs.carry_said.headline_site.headline_client.Safe.{station_of}
+use Rattle.carry_world.specs.carry_said.headline_site.headline_client.Told.{outcome_of}
+use Rattle.carry_world.specs.carry_said.server_answers.Executed as told
 use Rattle.carry_world.specs.Laws.{IsFresh}
 use Rattle.carry_world.specs.PlainSteps.{ArePlainSteps, PlainStep, client_asks, client_hears, client_issues, client_wakes, device_hears, device_restarts, device_wakes, last_world}
 use Rattle.carry_world.specs.PlainSteps.{something_passes, time_passes}

@@ -2,11 +2,11 @@
 use Rattle.std.proofs.Common.{◌≡◌, ◌∙◌, refl, sym, ap, subst, ⊎_elim, ℕ, Bool, true, false, List, [], ◌∷◌, Option, Some, None}
 use Rattle.std.specs.Prelude.{◌+◌, ◌<◌, ◌&&◌}
 use Rattle.std.proofs.lemmas.Bool.{and_parts, ltb-true}
-use Rattle.carry_said.specs.client_tsm.Open.{Open, gathers_still, goes_on, sends_still}
-use Rattle.carry_said.specs.client_tsm.Waking.{again, again_by, all_left, left_by, left_of, turn_by, turn_where}
-use Rattle.carry_said.specs.headline_site.headline_client.segments.Sender.{SenderState}
-use Rattle.carry_said.specs.headline_site.headline_client.segments.declared.step.Turn.{Turn}
-use Rattle.carry_said.specs.headline_site.headline_client.segments.declared.step.Turn.TheVariants.{Ends, Sends, Waits}
+use Rattle.carry_world.specs.carry_said.client_tsm.Open.{Open, gathers_still, goes_on, sends_still}
+use Rattle.carry_world.specs.carry_said.client_tsm.Waking.{again, again_by, all_left, left_by, left_of, turn_by, turn_where}
+use Rattle.carry_world.specs.carry_said.headline_site.headline_client.segments.Sender.{SenderState}
+use Rattle.carry_world.specs.carry_said.headline_site.headline_client.segments.declared.step.Turn.{Turn}
+use Rattle.carry_world.specs.carry_said.headline_site.headline_client.segments.declared.step.Turn.TheVariants.{Ends, Sends, Waits}
 use Rattle.history.proofs.Lists.{has_cons, has_either, none_has}
 use Rattle.history.specs.Lists.{Has}
 use Rattle.profile.specs.Ages as age

@@ -1,11 +1,11 @@
 -- When an issue of a world has come to its end, when it is open still, and what a wake ends.
 use Rattle.std.specs.Prelude.{◌≡◌, ◌⊎◌, ◌≤◌, ◌+◌, ℕ, Some, slice_get}
-use Rattle.carry_said.specs.client.Client.{ClientState}
-use Rattle.carry_said.specs.client_tsm.Open.{Open}
-use Rattle.carry_said.specs.headline_site.headline.Protocol.{IsSite}
-use Rattle.carry_said.specs.headline_site.headline_bacnet.Protocol.{bacnet}
-use Rattle.carry_said.specs.headline_site.headline_bacnet.Refined.{ObjectSite}
-use Rattle.carry_said.specs.headline_site.headline_client.Safe.{station_of}
+use Rattle.carry_world.specs.carry_said.client.Client.{ClientState}
+use Rattle.carry_world.specs.carry_said.client_tsm.Open.{Open}
+use Rattle.carry_world.specs.carry_said.headline_site.headline.Protocol.{IsSite}
+use Rattle.carry_world.specs.carry_said.headline_site.headline_bacnet.Protocol.{bacnet}
+use Rattle.carry_world.specs.carry_said.headline_site.headline_bacnet.Refined.{ObjectSite}
+use Rattle.carry_world.specs.carry_said.headline_site.headline_client.Safe.{station_of}
 use Rattle.carry_world.specs.Laws.{IsFresh}
 use Rattle.carry_world.specs.PlainSteps.{ClientWakes, StepsTo}
 use Rattle.carry_world.specs.PlainWorld.{PlainWorld, last_key}

@@ -6,6 +6,7 @@ pub mod BusLeads
 pub mod LeadLaws
 pub mod JudgedLaws
 pub mod LedLaws
+pub mod EndLaws
 pub mod FreshLaws
 pub mod HeardLaws
 pub mod FlowLaws

@@ -4,6 +4,7 @@ pub mod Judged
 pub mod Runs
 pub mod Flows
 pub mod Quiet
+pub mod Ended
 -- What the layers above cite of those below.
 pub use Rattle.world.specs as world
 pub use Rattle.world.specs.world_log as world_log

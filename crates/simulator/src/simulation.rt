@@ -4,8 +4,10 @@ ghost use Rattle.std.specs.Prelude.{◌≡◌, [], IfOk, IfErr, IfNone, IfSome, 
 ghost use Rattle.std.specs.List.{AllByRecursion};
 ghost use Rattle.buses.specs.Buses.{buses_of};
 ghost use Rattle.carry.specs.Things.{AreCarried};
+ghost use Rattle.world.specs.carry_ends.Ends.{IssuesAreAccountedFor, OpenAreUnclosed};
 ghost use Rattle.world.specs.carry_world.Answers.{WholeIsExecuted};
 ghost use Rattle.world.specs.carry_world.Laws.{IsLegal, WholeIsIssued};
+ghost use Rattle.simulator.specs.Ended.{OverdueAreEnded};
 ghost use Rattle.simulator.specs.Flows.{Gives, IsLess, left_of};
 ghost use Rattle.simulator.specs.Heard.{AnswersAreWhole, ExecutedWasIssued, HeardWasSaid, OutcomesHaveIssues};
 ghost use Rattle.simulator.specs.Heard.{RequestsAreWhole};
@@ -96,10 +98,13 @@ impl<A: Allocator + Copy> World<A> {
 
     /// What was issued, executed, answered and ended, in order. It is legal: each answer is the reply of one execution
     /// of that very issue at the device that it names, no issue is executed twice, and the objects of each device are
-    /// what its executions leave.
+    /// what its executions leave. None is forgotten: each issue has its one closing entry, or is open at its client,
+    /// under the last issue of its invoke ID, and no transaction is open whose issue has a closing entry (5.4.4).
     pub fn history(&self) -> &[WorldEntry<A>]
         ensures history { result.now ≡ self.now.history }
         ensures legal { IsLegal (instances_of self.now.site) result.now (judged_of self.now) }
+        ensures accounted { IssuesAreAccountedFor (plain self.now) }
+        ensures unclosed { OpenAreUnclosed (plain self.now) }
     {
         self.internetwork.history()
     }
@@ -121,8 +126,8 @@ impl<A: Allocator + Copy> World<A> {
 
     /// An event happens: the station that it is for makes its own step, no other changes, and what is on its way, what
     /// was said and the history grow by exactly what comes of it. What is heard by it was said, what is executed was
-    /// issued, what is told is of its issue, and what comes whole, now or later, is the whole of one. Its request,
-    /// where it has one, must be sound.
+    /// issued, what is told is of its issue, and what comes whole, now or later, is the whole of one. A client that
+    /// wakes leaves none of its issues open that is DEADLINE_MS old. Its request, where it has one, must be sound.
     ///
     /// # Errors
     /// `NoSuch` for a name, an item or a tick that isn't there; `Expired` for an item that is too old; what the station
@@ -139,6 +144,7 @@ impl<A: Allocator + Copy> World<A> {
         ensures outcomes { OutcomesHaveIssues event.now self.old self.new }
         ensures requests { RequestsAreWhole event.now self.old self.new }
         ensures answers { AnswersAreWhole event.now self.old self.new }
+        ensures ended { OnOk result (OverdueAreEnded event.now self.old self.new) }
         ensures whole { WholeIsIssued (plain self.new) }
         ensures whole_answers { WholeIsExecuted (plain self.new) }
     {
@@ -161,11 +167,14 @@ impl<A: Allocator + Copy> World<A> {
     }
 
     /// Events happen, one after another: none is left out but those that are refused, and these change nothing.
-    /// Whatever they are, what each brings was said, issued and whole, and the history is legal then: the promise.
+    /// Whatever they are, what each brings was said, issued and whole, and the history is legal then: the promise. Each
+    /// issue of it has its one closing entry, or is open at its client.
     pub fn run(&mut self, events: &[Event<A>])
         requires sound { AllByRecursion IsSoundEvent events.now }
         ensures runs { Runs events.now self.old self.new }
         ensures legal { IsLegal (instances_of self.new.site) self.new.history (judged_of self.new) }
+        ensures accounted { IssuesAreAccountedFor (plain self.new) }
+        ensures unclosed { OpenAreUnclosed (plain self.new) }
         ensures carried { AreCarried self.new.said (plain self.new).things }
         ensures whole { WholeIsIssued (plain self.new) }
         ensures whole_answers { WholeIsExecuted (plain self.new) }
@@ -204,6 +213,8 @@ impl<A: Allocator + Copy> World<A> {
     /// What the promise says of every world, for the proofs of others: it does nothing.
     fn promised(&self)
         ensures legal { IsLegal (instances_of self.now.site) self.now.history (judged_of self.now) }
+        ensures accounted { IssuesAreAccountedFor (plain self.now) }
+        ensures unclosed { OpenAreUnclosed (plain self.now) }
         ensures carried { AreCarried self.now.said (plain self.now).things }
         ensures whole { WholeIsIssued (plain self.now) }
         ensures whole_answers { WholeIsExecuted (plain self.now) }

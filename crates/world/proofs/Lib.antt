@@ -15,3 +15,4 @@ pub use Rattle.world_log.proofs.headline_client as headline_client
 pub use Rattle.world_log.proofs.link_site as link_site
 pub use Rattle.world_log.proofs.node_laws as node_laws
 pub use Rattle.world_log.proofs.site_ports as site_ports
+pub use Rattle.world_log.proofs.carry_ends as carry_ends

@@ -21,3 +21,4 @@ pub use Rattle.world_sites.specs.site as site
 pub use Rattle.world_log.specs.site_node as site_node
 pub use Rattle.world_log.specs.site_ports as site_ports
 pub use Rattle.world_sites.specs.site_views as site_views
+pub use Rattle.world_log.specs.carry_ends as carry_ends

@@ -1,7 +1,7 @@
 -- The last issue of a client under an invoke ID, where one more is known.
 use Rattle.std.proofs.Common.{◌≡◌, ◌∙◌, refl, sym, ap, arith, ℕ, zero, suc, ◌+◌, ◌-◌, ◌<◌, ◌≤◌, Bool, true, false, List, [], ◌∷◌, ◌++◌, Option, Some, None, length, take}
 use Rattle.std.specs.Prelude.{◌&&◌, ◌==◌, cond, slice_index_or}
-use Rattle.carry_world.specs.PlainWorld.{Key, last_key, last_key_from}
+use Rattle.carry_ends.specs.carry_world.PlainWorld.{Key, last_key, last_key_from}
 use Rattle.history.specs.Lists.{first_of}
 use Rattle.npdu.specs.Mac.{same_station}
 use Rattle.npdu.specs.declared.mac.Station.{Station}

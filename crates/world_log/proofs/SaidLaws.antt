@@ -1,7 +1,7 @@
 -- What is inside parcels that have something inside.
 use Rattle.std.proofs.Common.{◌≡◌, ◌∙◌, refl, sym, ap, subst, arith, ℕ, zero, suc, ◌<◌, List, [], ◌∷◌, ◌++◌, length, Option, Some, None}
 use Rattle.std.specs.Prelude.{IfNone, IsSome, slice_get, slice_index_or}
-use Rattle.carry_world.specs.carry_said.Said.{HasInsides, HasSomething}
+use Rattle.carry_ends.specs.carry_world.carry_said.Said.{HasInsides, HasSomething}
 use Rattle.inside.specs.Inside.{AreInside, HasNothingInside, IsInsideOf, Said}
 use Rattle.npdu.specs.declared.parcel.Parcel.{Parcel}
 use Rattle.world_log.proofs.PutLaws.{take_all, take_front}

@@ -1,7 +1,7 @@
 -- What comes of what a node does: items, frames, and entries of the history.
 use Rattle.std.specs.Prelude.{ℕ, ◌+◌, false, List, [], ◌∷◌, ◌++◌, length, option_to_list, slice_get}
 use Rattle.std.specs.List.{AllByRecursion, flat_map}
-use Rattle.carry_world.specs.PlainWorld.{Key, executed_told, outcomes_told}
+use Rattle.carry_ends.specs.carry_world.PlainWorld.{Key, executed_told, outcomes_told}
 use Rattle.history.specs.declared.Entry.{Entry}
 use Rattle.link.specs.Step.{PortSent}
 use Rattle.link.specs.declared.step.Sent.{Sent}

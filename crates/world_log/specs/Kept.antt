@@ -1,6 +1,6 @@
 -- What the code keeps of what was said and issued, in the words of the promise.
 use Rattle.std.specs.Prelude.{List, map}
-use Rattle.carry_world.specs.PlainWorld as plain
+use Rattle.carry_ends.specs.carry_world.PlainWorld as plain
 use Rattle.inside.specs.Inside.{Said}
 use Rattle.world_log.specs.declared.key.Key.{Key}
 use Rattle.world_log.specs.declared.saying.SaidMessage.{SaidMessage}

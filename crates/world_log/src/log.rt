@@ -1,7 +1,7 @@
 //! What a world keeps of all that happened.
 
 ghost use Rattle.std.specs.Prelude.{◌≡◌, [], IfOk, OnOk, length};
-ghost use Rattle.carry_world.specs.carry_said.Said.{HasInsides};
+ghost use Rattle.carry_ends.specs.carry_world.carry_said.Said.{HasInsides};
 ghost use Rattle.node_laws.specs.site_node.Node.{node_places};
 ghost use Rattle.world_log.specs.Growing.{frames_at};
 ghost use Rattle.world_log.specs.Log.{GoesOn, HasGrown, HasRoomToTell, caused, cut_to, log_of, mark_of, told_to};

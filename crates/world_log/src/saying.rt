@@ -1,7 +1,7 @@
 //! What was said: what is inside each message that an application entity said, and when.
 
 ghost use Rattle.std.specs.Prelude.{◌≡◌, IfOk, OnOk, length, take};
-ghost use Rattle.carry_world.specs.carry_said.Said.{HasInsides, HasSomething};
+ghost use Rattle.carry_ends.specs.carry_world.carry_said.Said.{HasInsides, HasSomething};
 ghost use Rattle.inside.specs.Inside.{AreInside, IsInsideOf};
 ghost use Rattle.world_log.specs.Kept.{all_said, said_of};
 ghost use Rattle.world_log.specs.Log.{Says};

@@ -2,10 +2,10 @@
 
 ghost use Rattle.std.specs.Prelude.{◌≡◌, ◌≤◌, ◌<◌, ◌+◌, ◌&&◌, ◌==◌, length};
 ghost use Rattle.std.specs.Vec.{vec_capacity, vec_len};
-ghost use Rattle.carry_world.specs.PlainWorld.{executed_told, last_key, outcomes_told};
-ghost use Rattle.carry_world.specs.headline.Happenings as core;
-ghost use Rattle.carry_world.specs.headline.Happenings.{closing};
-ghost use Rattle.carry_world.specs.headline_client.Told.{outcome_of};
+ghost use Rattle.carry_ends.specs.carry_world.PlainWorld.{executed_told, last_key, outcomes_told};
+ghost use Rattle.carry_ends.specs.carry_world.headline.Happenings as core;
+ghost use Rattle.carry_ends.specs.carry_world.headline.Happenings.{closing};
+ghost use Rattle.carry_ends.specs.carry_world.headline_client.Told.{outcome_of};
 ghost use Rattle.npdu.specs.Mac.{same_station};
 ghost use Rattle.world_log.specs.Kept.{all_keys};
 

@@ -1,5 +1,5 @@
 use Rattle.std.proofs.Common.{◌≡◌, ◌≤◌, length, take}
-use Rattle.carry_world.specs.PlainWorld.{last_key}
+use Rattle.carry_ends.specs.carry_world.PlainWorld.{last_key}
 use Rattle.world_log.specs.Kept.{all_keys}
 use Rattle.world_log.proofs.telling.last_issue.Given as goal
 

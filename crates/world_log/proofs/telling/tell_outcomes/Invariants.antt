@@ -1,6 +1,6 @@
 use Rattle.std.proofs.Common.{◌≡◌, ◌≤◌, ◌+◌, length}
 use Rattle.std.specs.Vec.{vec_capacity, vec_len}
-use Rattle.carry_world.specs.PlainWorld.{outcomes_told}
+use Rattle.carry_ends.specs.carry_world.PlainWorld.{outcomes_told}
 use Rattle.world_log.specs.Kept.{all_keys}
 use Rattle.world_log.proofs.telling.tell_outcomes.Given as goal
 

@@ -1,4 +1,5 @@
 use Rattle.std.proofs.Common.{subst}
+use Rattle.simulator.proofs.EndLaws.{accounted_of, unclosed_of}
 use Rattle.simulator.proofs.LedLaws.{answers_of, carried_of, legal_of, whole_of}
 use Rattle.simulator.specs.Laws.{IsLed}
 use Rattle.world.specs.World.{WorldState}
@@ -19,3 +20,11 @@ returns-clause-whole g c =
 pub returns-clause-whole_answers : goal.returns-clause-whole_answers
 returns-clause-whole_answers g c =
     answers_of c.args.self.now (subst (λ (w : WorldState _). IsLed w) c.self.view_is c.self.invariant)
+
+pub returns-clause-accounted : goal.returns-clause-accounted
+returns-clause-accounted g c =
+    accounted_of c.args.self.now (subst (λ (w : WorldState _). IsLed w) c.self.view_is c.self.invariant)
+
+pub returns-clause-unclosed : goal.returns-clause-unclosed
+returns-clause-unclosed g c =
+    unclosed_of c.args.self.now (subst (λ (w : WorldState _). IsLed w) c.self.view_is c.self.invariant)

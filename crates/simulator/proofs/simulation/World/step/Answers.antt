@@ -1,3 +1,4 @@
+use Rattle.simulator.proofs.EndLaws.{ended_by}
 use Rattle.simulator.proofs.HeardLaws.{brought_by}
 use Rattle.simulator.proofs.LedLaws.{answers_of, led_after, whole_of}
 use Rattle.simulator.proofs.simulation.World.step.Goals as goal
@@ -31,3 +32,7 @@ pub returns-clause-whole_answers : goal.returns-clause-whole_answers
 returns-clause-whole_answers g c = answers_of c.step.new.self
     (led_after c.args.event.now c.self.inside.internetwork c.step.new.self c.step.result c.step.ensures.stands
     c.requires.sound c.step.ensures.steps c.step.ensures.unchanged c.self.invariant)
+
+pub returns-clause-ended : goal.returns-clause-ended
+returns-clause-ended g c = ended_by c.args.event.now c.self.inside.internetwork c.args.self.now c.step.new.self
+    c.step.result c.self.view_is c.self.invariant c.step.ensures.steps
