@@ -1,0 +1,12 @@
+pub mod Places
+pub mod Steady
+pub mod Items
+pub mod Serving
+pub mod Issuing
+pub mod Hearing
+pub mod Passing
+pub mod Answering
+pub mod Putting
+pub mod Direct
+pub mod Routed
+pub mod Forwarding
