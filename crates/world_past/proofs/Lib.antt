@@ -1,0 +1,16 @@
+pub mod EachLaws
+pub mod ItemLaws
+pub mod StampLaws
+pub mod BusLaws
+pub mod KeyLaws
+pub mod KeepingLaws
+pub mod EventLaws
+pub mod HearLaws
+pub mod SteppingLaws
+pub mod RefusingLaws
+pub mod NotHearing
+pub mod RefusedLaws
+pub mod RunningLaws
+pub mod StrayLaws
+pub mod KeysKept
+pub mod ForgettingLaws

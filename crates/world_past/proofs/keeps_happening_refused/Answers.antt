@@ -1,0 +1,5 @@
+use Rattle.world_past.proofs.RefusedLaws.{keeps_happening_refused}
+use Rattle.world_past.proofs.keeps_happening_refused.Goals as goal
+
+pub returns : goal.returns
+returns g c = keeps_happening_refused

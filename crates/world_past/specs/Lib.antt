@@ -1,0 +1,7 @@
+pub mod Old
+pub mod Keeping
+pub mod Laws
+pub mod Refusing
+pub mod Running
+pub mod Strays
+pub mod Forgetting
