@@ -13,10 +13,11 @@ use crate::simulating::sim;
 use crate::storming::storm_files;
 use clap::Error;
 use clap::error::ErrorKind;
+use command_diagnosis::diagnose;
 use command_files::{Files, is_read_twice, read_file};
 use command_order::{Checking, Order, order_of};
 use command_tools::{
-    begin, diagnose, ended, explain, print_completions, print_mended, print_page, print_statement,
+    begin, ended, explain, print_completions, print_mended, print_page, print_statement,
 };
 use console::{answer_line, say_failed, say_refused};
 use json_lines::{JsonOut, Kind};

@@ -1,12 +1,12 @@
 -- The command line of the program, and what its words ask for.
 use Rattle.std.specs.Prelude.{◌≡◌, ◌≢◌, List, [], Option, Some, None, codes, map, true, false, option_map}
-use Rattle.std.specs.Prelude.{unwrap_or, string_bytes}
+use Rattle.std.specs.Prelude.{string_bytes}
 use Rattle.clap.specs.Lexer.{usize_max}
 use Rattle.clap.specs.Words.{App, Rule, Row, Text, new_app, new_rule, with_rule, with_subcommand}
-use Rattle.clap.specs.Words.{all_of, first_of, one_of}
+use Rattle.clap.specs.Words.{first_of, one_of}
 use Rattle.clap.specs.declared.builder.ArgAction.TheVariants.{Append}
 use Rattle.command_order.specs.Words.{IsFlag, at_site, capture_rule, file_rule, flag_rule, json_rule, names_rule}
-use Rattle.command_order.specs.Words.{option_rule, optional_file_rule, site_rule, word_of}
+use Rattle.command_order.specs.Words.{option_rule, optional_file_rule, site_rule, word_of, words_of}
 use Rattle.command_order.specs.Describing.{IsStatingOf, completions, man, pics}
 use Rattle.command_order.specs.Diagnosing.{IsDiagnosingOf, diagnose}
 use Rattle.command_order.specs.Searching.{IsSearchingOf, search}
@@ -94,7 +94,7 @@ name_of found = option_map (λ p. p.0) found
 
 -- the words behind a subcommand
 abbrev pub hex_of : List Row → List Text
-hex_of rows = unwrap_or (all_of (codes "hex") rows) []
+hex_of rows = words_of (codes "hex") rows
 
 -- the words behind the subcommand that is named
 abbrev pub digits_of : Option (Text × List Row) → List Text

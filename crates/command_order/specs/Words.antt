@@ -1,6 +1,6 @@
 -- Words of a command line that several subcommands have.
 use Rattle.std.specs.Prelude.{◌≡◌, List, [], Option, Some, None, Bool, true, false, codes, unwrap_or}
-use Rattle.clap.specs.Words.{App, Rule, Row, Text, first_of, new_app, new_rule, with_rule}
+use Rattle.clap.specs.Words.{App, Rule, Row, Text, all_of, first_of, new_app, new_rule, with_rule}
 use Rattle.clap.specs.declared.builder.ArgAction.TheVariants.{Set, SetTrue}
 
 -- a word that names a file
@@ -18,6 +18,10 @@ flag_rule id = record (new_rule id) { long = Some id; action = Some SetTrue }
 -- a word that is given or not, behind a flag of its name
 abbrev pub option_rule : Text → Rule
 option_rule id = record (new_rule id) { long = Some id; action = Some Set; value_names = 1 }
+
+-- two words that are given or not, behind a flag of their name
+abbrev pub pair_rule : Text → Rule
+pair_rule id = record (new_rule id) { long = Some id; action = Some Set; value_names = 2 }
 
 -- a word that has to be given, behind a flag of its name
 abbrev pub required_rule : Text → Rule
@@ -46,6 +50,10 @@ at_site name = with_rule (with_rule (new_app name) site_rule) (file_rule (codes 
 -- the word of this name behind it, which is empty where there is none
 abbrev pub word_of : Text → List Row → Text
 word_of id rows = unwrap_or (first_of id rows) []
+
+-- all words of this name, none where it isn't given
+abbrev pub words_of : Text → List Row → List Text
+words_of id rows = unwrap_or (all_of id rows) []
 
 -- a flag is given, or isn't
 pub record IsFlag (word : Option Text) (flag : Bool) : Type 0 where

@@ -37,7 +37,9 @@ pub(crate) const EXPLAIN: &str = "Examples:
 pub(crate) const DIAGNOSE: &str = "Examples:
   bacsite diagnose plant.pcapng
   bacsite diagnose plant.pcapng --transactions --timeout 10000
-  bacsite diagnose plant.pcapng --stations";
+  bacsite diagnose plant.pcapng --stations
+  bacsite diagnose plant.pcapng --between 10.0.0.5 10.0.0.9 --json
+  bacsite diagnose plant.pcapng --site plant.toml --report plant.html";
 
 pub(crate) const SIM: &str = "Examples:
   bacsite sim plant.toml plant.script --names

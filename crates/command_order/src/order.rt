@@ -3,7 +3,7 @@
 ghost use Rattle.std.specs.Prelude.{◌≡◌, true, false, IfOk, map, string_bytes};
 ghost use Rattle.clap.specs.Words.{app_of, rule_of, rows_of, found_of, with_subcommand};
 ghost use Rattle.clap.specs.Words.{subcommand_of, subcommand_rows_of, FailsBy, fault_of};
-ghost use Rattle.command_order.specs.Order.{program, bare, simulators, site_commands, tool, tools, hex_rule, hex_of};
+ghost use Rattle.command_order.specs.Order.{program, bare, simulators, site_commands, tool, tools, hex_rule};
 ghost use Rattle.command_order.specs.Order.{check, explain, fmt, live, optional_hex_rule, run};
 ghost use Rattle.command_order.specs.Order.{IsExplainingOf, IsOrderOf, IsLiveRunOf, IsCheckingOf};
 ghost use Rattle.command_order.specs.Order.{IsOrderOr, NamesNoSiteCommand, NamesNoTool};
@@ -16,8 +16,8 @@ use crate::simulating::{Simulation, sim, simulation_in};
 use crate::starting::{Starting, init, starting_in};
 use crate::storming::{Storming, storm, storming_in};
 use crate::words::{
-    SCRIPT_HELP, at_site, file, flag, is_given, json, names, option, optional_file, optional_word,
-    site_file, word, written_capture,
+    SCRIPT_HELP, all_words, at_site, file, flag, is_given, json, names, option, optional_file,
+    optional_word, site_file, word, written_capture,
 };
 use clap::{Arg, ArgAction, ArgMatches, Command, Error};
 use std::alloc::{AllocError, Global};
@@ -165,7 +165,7 @@ fn tool_order_in(alloc: Global, matches: &ArgMatches<'_>) -> Result<Option<Order
     ensures { IfOk result (IsOrderOr NamesNoTool (subcommand_rows_of matches.now)) }
 {
     if let Some(answer) = matches.subcommand_matches("answer") {
-        return Ok(Some(Order::Answer(hex_words(alloc, answer)?)));
+        return Ok(Some(Order::Answer(all_words(alloc, answer, "hex")?)));
     }
     if let Some(explain) = matches.subcommand_matches("explain") {
         return Ok(Some(Order::Explain(explaining_in(alloc, explain)?)));
@@ -193,7 +193,7 @@ fn explaining_in(alloc: Global, matches: &ArgMatches<'_>) -> Result<Explaining, 
     ensures { IfOk result (IsExplainingOf (rows_of (found_of matches.now))) }
 {
     Ok(Explaining {
-        words: hex_words(alloc, matches)?,
+        words: all_words(alloc, matches, "hex")?,
         capture: optional_word(alloc, matches, "pcap")?,
         is_json: is_given(matches, "json"),
         is_named: is_given(matches, "names"),
@@ -401,25 +401,4 @@ fn optional_hex_argument<'a>(alloc: Global) -> Arg<'a>
         "A BACnet/IP datagram in hexadecimal digits, as 81 0A 00 11, 81:0a:00:11, 0x81, 0x0a, 0x00, 0x11 \
              or the lines of a hex dump",
     )
-}
-
-/// The words behind a subcommand.
-fn hex_words(alloc: Global, matches: &ArgMatches<'_>) -> Result<Vec<String>, AllocError>
-    ensures { IfOk result (λ words. map string_bytes words.items ≡ hex_of (rows_of (found_of matches.now))) }
-{
-    match matches.get_strs("hex") {
-        Some(values) => copied(alloc, values),
-        None => Ok(Vec::new(alloc)),
-    }
-}
-
-/// Words in memory of their own.
-fn copied(alloc: Global, words: &[&str]) -> Result<Vec<String>, AllocError>
-    ensures { IfOk result (λ copies. map string_bytes copies.items ≡ map (λ w. w.now) words.now) }
-{
-    let mut copies = Vec::new(alloc);
-    for word in words {
-        copies.push(String::from_str(alloc, word)?)?;
-    }
-    Ok(copies)
 }

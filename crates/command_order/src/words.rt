@@ -1,6 +1,6 @@
 //! Words of a command line that several commands have.
 
-ghost use Rattle.std.specs.Prelude.{◌≡◌, false, IfOk, option_map, string_bytes};
+ghost use Rattle.std.specs.Prelude.{◌≡◌, false, IfOk, map, option_map, string_bytes};
 ghost use Rattle.clap.specs.Words.{app_of, first_of, found_of, one_of, rows_of, rule_of};
 ghost use Rattle.command_order.specs.Words as spec;
 
@@ -99,6 +99,23 @@ pub(crate) fn option<'a>(alloc: Global, id: &'a str, name: &'a str, help: &'a st
         .help(help)
 }
 
+/// Two words behind a flag of their name, which may be left out.
+pub(crate) fn pair<'a>(
+    alloc: Global,
+    id: &'a str,
+    names: &'a [&'a str; 2],
+    help: &'a str,
+) -> Arg<'a>
+    ensures rule { rule_of result ≡ spec.pair_rule id.entry.now }
+    ensures own { result.global ≡ false }
+{
+    Arg::new(alloc, id)
+        .long(id)
+        .value_names(names)
+        .action(ArgAction::Set)
+        .help(help)
+}
+
 /// The file of a capture that is written, if one is named.
 pub(crate) fn written_capture<'a>(alloc: Global) -> Arg<'a>
     ensures rule { rule_of result ≡ spec.capture_rule }
@@ -142,6 +159,31 @@ pub(crate) fn word(alloc: Global, matches: &ArgMatches<'_>, id: &str) -> Result<
         Some(word) => String::from_str(alloc, word),
         None => Ok(String::new(alloc)),
     }
+}
+
+/// All words of an argument, none where it isn't given.
+pub(crate) fn all_words(
+    alloc: Global,
+    matches: &ArgMatches<'_>,
+    id: &str,
+) -> Result<Vec<String>, AllocError>
+    ensures { IfOk result (λ words. map string_bytes words.items ≡ spec.words_of id.now (rows_of (found_of matches.now))) }
+{
+    match matches.get_strs(id) {
+        Some(values) => copied(alloc, values),
+        None => Ok(Vec::new(alloc)),
+    }
+}
+
+/// Words in memory of their own.
+fn copied(alloc: Global, words: &[&str]) -> Result<Vec<String>, AllocError>
+    ensures { IfOk result (λ copies. map string_bytes copies.items ≡ map (λ w. w.now) words.now) }
+{
+    let mut copies = Vec::new(alloc);
+    for word in words {
+        copies.push(String::from_str(alloc, word)?)?;
+    }
+    Ok(copies)
 }
 
 /// Whether a flag is given.

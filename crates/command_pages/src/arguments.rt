@@ -32,11 +32,23 @@ impl Value {
     }
 }
 
-/// An argument as a command line shows it: `--json`, `--pcap <FILE>`, `<SITE>` or `[HEX]...`.
+/// An argument as a command line shows it: `--json`, `--pcap <FILE>`, `--between <A> <B>`, `<SITE>` or `[HEX]...`.
 pub(crate) fn shown(alloc: Global, arg: &Arg<'_>) -> Result<String, AllocError> {
     match arg.get_long() {
         Some(long) if !has_value(arg) => format!(in alloc; "--{long}"),
-        _ => format!(in alloc; "{arg}"),
+        _ => shown_with_value(alloc, arg),
+    }
+}
+
+/// .. with its values. Until its command is built, clap shows a second one as if it might be left out: `<A> [B]`.
+fn shown_with_value(alloc: Global, arg: &Arg<'_>) -> Result<String, AllocError> {
+    let shown = format!(in alloc; "{arg}")?;
+    match shown.as_str().split_once("> [") {
+        Some((first, second)) => {
+            let second = second.strip_suffix(']').unwrap_or(second);
+            format!(in alloc; "{first}> <{second}>")
+        }
+        None => format!(in alloc; "{arg}"),
     }
 }
 
@@ -56,6 +68,12 @@ pub(crate) fn value_name(shown: &str) -> &str {
             None => behind,
         },
     }
+}
+
+/// The name of the second value in an argument as it is shown: `B` of `--between <A> <B>`.
+pub(crate) fn second_name(shown: &str) -> Option<&str> {
+    let (_, behind) = shown.split_once("> <")?;
+    behind.strip_suffix('>')
 }
 
 /// Whether an argument is followed by a value.

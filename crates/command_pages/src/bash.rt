@@ -1,6 +1,6 @@
 //! Completions for bash.
 
-use crate::arguments::{Value, has_value, is_repeated};
+use crate::arguments::{Value, has_value, is_repeated, second_name, shown};
 use clap::{Arg, Command};
 use std::alloc::Global;
 use std::io;
@@ -9,7 +9,7 @@ use std::io::Write;
 /// What the function does behind the list of commands: one word behind the program is a command.
 const FIRST: &str =
     r#"    local current="${COMP_WORDS[COMP_CWORD]}" previous="${COMP_WORDS[COMP_CWORD - 1]}"
-    local flags='' files='' others='' places=() place=0 at value=''
+    local flags='' files='' others='' pairs='' places=() place=0 at value=''
     COMPREPLY=()
     if ((COMP_CWORD == 1)); then
         COMPREPLY=($(compgen -W "$commands --help --version" -- "$current"))
@@ -22,13 +22,15 @@ const FIRST: &str =
 /// What it does behind the words of the commands: a value of the flag before it, a flag, or what stands at its place.
 const LAST: &str = r#"    esac
     case " $files " in *" $previous "*) value=file ;; esac
-    case " $others " in *" $previous "*) value=free ;; esac
+    case " $others $pairs " in *" $previous "*) value=free ;; esac
+    ((COMP_CWORD > 2)) && case " $pairs " in *" ${COMP_WORDS[COMP_CWORD - 2]} "*) value=free ;; esac
     if [[ -z $value && $current == -* ]]; then
-        COMPREPLY=($(compgen -W "$flags $files $others --help" -- "$current"))
+        COMPREPLY=($(compgen -W "$flags $files $others $pairs --help" -- "$current"))
         return
     fi
     if [[ -z $value ]]; then
         for ((at = 2; at < COMP_CWORD; at++)); do
+            case " $pairs " in *" ${COMP_WORDS[at]} "*) at=$((at + 2)); continue ;; esac
             case " $files $others " in
                 *" ${COMP_WORDS[at]} "*) at=$((at + 1)) ;;
                 *) [[ ${COMP_WORDS[at]} == -?* ]] || place=$((place + 1)) ;;
@@ -37,7 +39,7 @@ const LAST: &str = r#"    esac
         value="${places[place]-}"
     fi
     case "$value" in
-        '') COMPREPLY=($(compgen -W "$flags $files $others --help" -- "$current")) ;;
+        '') COMPREPLY=($(compgen -W "$flags $files $others $pairs --help" -- "$current")) ;;
         shell) COMPREPLY=($(compgen -W 'bash zsh fish' -- "$current")) ;;
         command) COMPREPLY=($(compgen -W "$commands" -- "$current")) ;;
         free) ;;
@@ -86,6 +88,9 @@ fn write_words<W: Write>(alloc: Global, command: &Command<'_>, out: &mut W) -> i
     write_flags(alloc, command, Flags::Bare, out)?;
     write_flags(alloc, command, Flags::WithFile, out)?;
     write_flags(alloc, command, Flags::WithOther, out)?;
+    if has_pairs(alloc, command)? {
+        write_flags(alloc, command, Flags::WithTwo, out)?;
+    }
     write_places(alloc, command, out)?;
     out.write_all(b"            ;;\n")
 }
@@ -99,6 +104,8 @@ enum Flags {
     WithFile,
     /// Those with another value behind them.
     WithOther,
+    /// Those with two values behind them.
+    WithTwo,
 }
 
 impl Flags {
@@ -108,6 +115,7 @@ impl Flags {
             Flags::Bare => "flags",
             Flags::WithFile => "files",
             Flags::WithOther => "others",
+            Flags::WithTwo => "pairs",
         }
     }
 
@@ -116,11 +124,24 @@ impl Flags {
         if !has_value(arg) {
             return Ok(Flags::Bare);
         }
+        if second_name(shown(alloc, arg)?.as_str()).is_some() {
+            return Ok(Flags::WithTwo);
+        }
         Ok(match Value::of(alloc, arg)? {
             Value::File => Flags::WithFile,
             Value::Site | Value::Folder | Value::Shell | Value::Free => Flags::WithOther,
         })
     }
+}
+
+/// Whether a command has flags with two values.
+fn has_pairs(alloc: Global, command: &Command<'_>) -> io::Result<bool> {
+    for arg in command.get_arguments() {
+        if Flags::of(alloc, arg)? == Flags::WithTwo {
+            return Ok(true);
+        }
+    }
+    Ok(false)
 }
 
 /// Writes a list of a command's flags.

@@ -1,6 +1,6 @@
 //! Completions for zsh.
 
-use crate::arguments::{Value, has_value, is_repeated, shown, value_name};
+use crate::arguments::{Value, has_value, is_repeated, second_name, shown, value_name};
 use crate::escaped::ZshQuoted;
 use clap::{Arg, Command};
 use std::alloc::Global;
@@ -97,8 +97,11 @@ fn write_argument<W: Write>(alloc: Global, arg: &Arg<'_>, out: &mut W) -> io::Re
     }
     if has_value(arg) {
         let shown = shown(alloc, arg)?;
-        let name = value_name(shown.as_str());
-        write!(out, ":{name}:{}", action(Value::of(alloc, arg)?))?;
+        let action = action(Value::of(alloc, arg)?);
+        write!(out, ":{}:{action}", value_name(shown.as_str()))?;
+        if let Some(second) = second_name(shown.as_str()) {
+            write!(out, ":{second}:{action}")?;
+        }
     }
     out.write_all(b"' \\\n")
 }

@@ -109,12 +109,7 @@ impl<A: Allocator + Copy> Diagnosis<A> {
     /// # Errors
     /// Want of memory. Then part of what the packet shows may be known.
     pub fn take(&mut self, packet: &Packet<'_>) -> Result<(), AllocError> {
-        self.findings.count_packet();
-        if let Some(moment) = packet.microseconds {
-            self.began = Some(self.began.unwrap_or(moment));
-            self.moment = moment;
-        }
-        self.following.pass(self.moment, &mut self.findings)?;
+        self.pass(packet.microseconds)?;
         let at = At {
             packet: packet.number,
             moment: self.moment,
@@ -128,6 +123,19 @@ impl<A: Allocator + Copy> Diagnosis<A> {
                 Ok(())
             }
         }
+    }
+
+    /// Passes a packet over, of which only that it was captured counts, and when, if that is told.
+    ///
+    /// # Errors
+    /// Want of memory.
+    pub fn pass(&mut self, moment: Option<u64>) -> Result<(), AllocError> {
+        self.findings.count_packet();
+        if let Some(moment) = moment {
+            self.began = Some(self.began.unwrap_or(moment));
+            self.moment = moment;
+        }
+        self.following.pass(self.moment, &mut self.findings)
     }
 
     /// Takes a datagram, but for one that was captured before.
@@ -478,7 +486,7 @@ impl<A: Allocator + Copy> Diagnosis<A> {
     }
 
     /// Keeps none of the findings so far.
-    pub(crate) fn forget_findings(&mut self) {
+    pub fn forget_findings(&mut self) {
         self.findings.forget_kept();
     }
 

@@ -2,16 +2,15 @@
 //! each confirmed request followed to its end, the stations that speak, how long answers take, and what no plant should
 //! show.
 //!
-//! To the layer above it promises that it takes any packet, and comes to an end of any file, and that each packet that
-//! a finding names is in the capture. What is counted and found is shown by rows, and isn't proved.
+//! To the layer above it promises that it takes any packet, and that each packet that a finding names was taken. What is
+//! counted and found is shown by rows, and isn't proved.
 //!
-//! - `diagnosis`: what is known, packet by packet. `reading`: a capture that is read to its end.
+//! - `diagnosis`: what is known, packet by packet.
 //! - `stations`: stations, and the networks of routers. `sighting`: packets that are captured twice.
 //! - `summary`, `tables`: what is printed.
 #![tactic(auto)]
 
 mod diagnosis;
-mod reading;
 mod sighting;
 mod stations;
 mod summary;
@@ -19,8 +18,6 @@ mod tables;
 
 pub use diagnosis::Diagnosis;
 pub use diagnosis_parts::Settings;
-pub use findings::print_kept;
-pub use reading::{Failure, Telling, diagnose};
 pub use stations::Route;
 pub use summary::print_summary;
 pub use tables::{print_stations, print_transactions};

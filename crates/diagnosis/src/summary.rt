@@ -2,7 +2,7 @@
 
 use crate::diagnosis::Diagnosis;
 use diagnosis_parts::{PacketCounts, RequestCounts};
-use findings::print_counts;
+use findings::{Findings, print_counts};
 use std::alloc::Allocator;
 use std::io::Write;
 use std::{fmt, io};
@@ -20,13 +20,14 @@ impl fmt::Display for Thousands {
 /// What is said of requests that came again.
 const REPEATED: &str = "whether it was executed again, the wire doesn't show";
 
-/// Prints what is counted of a capture, a line each; counts of what is rare only where there is some, and those of
+/// Prints what is counted of a capture, a line each; counts of what is rare only where there is some, and those of these
 /// findings last.
 ///
 /// # Errors
 /// Those of writing.
 pub fn print_summary<A: Allocator + Copy, W: Write>(
     diagnosis: &Diagnosis<A>,
+    findings: &Findings<A>,
     out: &mut W,
 ) -> io::Result<()> {
     print_packets(&diagnosis.packets(), diagnosis.duration(), out)?;
@@ -35,7 +36,7 @@ pub fn print_summary<A: Allocator + Copy, W: Write>(
     print_requests(&diagnosis.requests(), out)?;
     print_time("median answer time", diagnosis.percentile(50), out)?;
     print_time("99th percentile", diagnosis.percentile(99), out)?;
-    print_counts(diagnosis.findings(), out)
+    print_counts(findings, out)
 }
 
 /// Prints what is counted of packets.

@@ -1,8 +1,8 @@
 //! The lines of `check`: faults, each with the place where it is, and how large a site is that has none.
 
 use crate::line::Line;
-use crate::object::Object;
 use crate::stop::Stop;
+use json_object::Object;
 use std::alloc::Allocator;
 use words::parse_u64;
 

@@ -1,8 +1,8 @@
 //! The lines of `explain`: the first word of a line names the first thing that it says.
 
 use crate::line::Line;
-use crate::object::Object;
 use crate::stop::Stop;
+use json_object::Object;
 use std::alloc::Allocator;
 
 /// What stands before why a packet is passed over.

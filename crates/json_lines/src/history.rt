@@ -2,10 +2,10 @@
 //! and the word of its entry.
 
 use crate::line::Line;
-use crate::object::Object;
 use crate::replies::put_reply;
 use crate::requests::put_request;
 use crate::stop::Stop;
+use json_object::Object;
 use std::alloc::{AllocError, Allocator};
 use words::{parse_any_reply, parse_any_request, parse_u64};
 

@@ -8,7 +8,6 @@
 //!
 //! - `writing`: line by line. `streaming`: as lines are printed.
 //! - `line`: the words of a line. `stop`: why a line has no object of its own.
-//! - `object`: an object, member by member.
 //! - `history`, `checking`, `explaining`: the lines of each kind.
 //! - `requests`, `replies`, `values`: what lines of a history hold.
 #![tactic(auto)]
@@ -17,7 +16,6 @@ mod checking;
 mod explaining;
 mod history;
 mod line;
-mod object;
 mod replies;
 mod requests;
 mod stop;

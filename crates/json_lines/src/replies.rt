@@ -1,8 +1,8 @@
 //! Replies (clauses 15 and 18): `{"kind":"values","values":[{"enum":1}]}`.
 
-use crate::object::Object;
 use crate::requests::put_place;
 use crate::values::{put_reference, put_values};
+use json_object::Object;
 use primitives::{ErrorClass, ErrorCode, ObjectResults, PropertyReference, PropertyResult, Reply};
 use std::alloc::{AllocError, Allocator};
 

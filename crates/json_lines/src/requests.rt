@@ -1,7 +1,7 @@
 //! Requests (clause 15): `{"kind":"read","object":"5:1","property":85}`.
 
-use crate::object::Object;
 use crate::values::{put_reference, put_values};
+use json_object::Object;
 use primitives::{ObjectRefs, ObjectWrites, PropertyReference, PropertyWrite, Request, Values};
 use std::alloc::{AllocError, Allocator};
 use tags::ObjectId;

@@ -1,6 +1,6 @@
 //! Values (20.2), each with its kind as the one name that all of them have: `{"enum":1}`, `{"text":"6F6E"}`.
 
-use crate::object::Object;
+use json_object::Object;
 use primitives::{PropertyReference, Values};
 use std::alloc::{AllocError, Allocator};
 use tags::Value;

@@ -5,8 +5,8 @@ ghost use Rattle.std.specs.Prelude.{◌≡◌, ◌<◌, [], IfSome, OnOk, length
 use crate::checking::put_checked;
 use crate::explaining::put_explained;
 use crate::history::put_history;
-use crate::object::Object;
 use crate::stop::Stop;
+use json_object::Object;
 use std::alloc::{AllocError, Allocator};
 use std::io;
 use std::io::Write;

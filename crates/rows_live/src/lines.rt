@@ -173,6 +173,18 @@ address = "127.0.0.1:47811"
 object = [{type = "binary-value", instance = 1, name = "B1", default = 0}]
 "#;
 
+/// The site whose client and device stand at the addresses of the capture.
+const SITE_OF_CAPTURE: &str = r#"network = [{number = 1, kind = "ip"}]
+client = [{name = "panel", network = 1, subnet = 1, address = "127.0.0.1:47809"}]
+[[device]]
+name = "ahu"
+instance = 10
+network = 1
+subnet = 1
+address = "127.0.0.1:47808"
+object = [{type = "binary-value", instance = 1, name = "B1", default = 0}]
+"#;
+
 /// A site without a network.
 const NO_SITE: &str = "network = []\n";
 
@@ -257,7 +269,7 @@ pub(crate) fn disk_texts() -> [(&'static str, &'static [u8]); 7] {
 /// What a file of pcapng begins with: the type of its first block.
 const SECTION: &[u8] = &[0x0A, 0x0D, 0x0D, 0x0A];
 
-/// Eleven files, `p.toml`, `none.toml`, `live.script`, `unended.script`, `named.script`, `numbered.script`,
+/// Twelve files, `p.toml`, `none.toml`, `one.toml`, `live.script`, `unended.script`, `named.script`, `numbered.script`,
 /// `reading.script`, `refused.script`, `empty.script`, `bad.script` and `one.pcap`, which is also standard input where
 /// that is read piece by piece; and six that may be written: `storm.script`; `restarts.script` and `behind.script` if
 /// they hold just these texts; and `live.pcapng`, `live.svg` and `live.html` if they begin as such files do.
@@ -290,6 +302,7 @@ impl Files for Texts {
         match name {
             "p.toml" => Ok(SITE.as_bytes()),
             "none.toml" => Ok(NO_SITE.as_bytes()),
+            "one.toml" => Ok(SITE_OF_CAPTURE.as_bytes()),
             "live.script" => Ok(SCRIPT.as_bytes()),
             "unended.script" => Ok(UNENDED_SCRIPT.as_bytes()),
             "named.script" => Ok(NAMED_SCRIPT.as_bytes()),

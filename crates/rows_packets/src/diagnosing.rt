@@ -3,19 +3,23 @@
 //! are packets of a capture: `FROM TO WORDS @MS`, a datagram with its ends, or `frame WORDS @MS`, a frame on the bus of
 //! network 2, each in octets or names of pieces; `A & B @MS` are two at a moment, and `.. @MS x5+10` stands for five
 //! steps, 10 ms apart. `raw WORDS` alone is a file in itself. Tables hold 16 entries, and 16 findings of a name are
-//! kept; in rows of `summary few ..` two.
+//! kept; in rows of `summary few ..` two. Before the steps stands what is asked for, as on a command line:
+//! `--json`, `--between A B`, `--instance N`, `--from MS`, `--to MS`.
 //!
 //! Each row runs with the file in reads of 16 octets, also with each allocation refused in turn; those of tables and of
 //! the summary in reads of each size from 1, and those of transactions cut at each octet and with each octet changed,
 //! where they come to an end.
 
+use crate::asking::{Asking, asking_in};
 use crate::pieces::octets_of;
 use bvll::{ADDRESS_OCTETS, Address};
 use captures::{Datagram, write_datagram, write_frame, write_start};
-use diagnosis::{
-    Diagnosis, Failure, Settings, Telling, diagnose, print_kept, print_stations, print_summary,
-    print_transactions,
+use diagnosis::Settings;
+use diagnosis_reading::{
+    Diagnosed, Form, Request, Telling, diagnose, print_counted, print_found, print_requests,
+    print_senders,
 };
+use packet_choice::{Excerpt, Failure};
 use sheets::{
     Counts, Given, Part, Row, Said, Stop, Trial, change_octets, compare, differs, try_row,
     two_words,
@@ -74,39 +78,35 @@ pub(crate) fn run_printed(
     words: &str,
     wanted: &str,
 ) -> Result<Counts, Stop> {
-    match words.strip_prefix("few ") {
-        Some(words) => run(given, printed, FEW, rows, words, wanted),
-        None => run(given, printed, MANY, rows, words, wanted),
-    }
-}
-
-/// Runs a row, whose tables hold so many entries.
-fn run(
-    given: Given<'_>,
-    printed: Printed,
-    most: usize,
-    rows: &[Row<'_>],
-    steps: &str,
-    wanted: &str,
-) -> Result<Counts, Stop> {
+    let (most, words) = match words.strip_prefix("few ") {
+        Some(words) => (FEW, words),
+        None => (MANY, words),
+    };
+    let (asking, steps) = asking_in(words)?;
     let file = file_of(given.alloc, rows, steps)?;
-    let file = file.as_slice();
-    for size in printed.least()..MOST {
-        let trial = Diagnosing {
-            printed,
-            most,
-            size,
-        };
-        compare(trial.answer(given, file)?, wanted)?;
-    }
-    let trial = Diagnosing {
+    let diagnosing = Diagnosing {
         printed,
         most,
         size: MOST,
+        asking,
     };
-    let counts = try_row(given, &trial, file, wanted)?;
-    let changed = match printed {
-        Printed::Transactions => change_octets(given, &trial, file)?,
+    run(given, diagnosing, file.as_slice(), wanted)
+}
+
+/// Runs a row, which asks this of a file.
+fn run(
+    given: Given<'_>,
+    diagnosing: Diagnosing<'_>,
+    file: &[u8],
+    wanted: &str,
+) -> Result<Counts, Stop> {
+    for size in diagnosing.printed.least()..MOST {
+        let trial = Diagnosing { size, ..diagnosing };
+        compare(trial.answer(given, file)?, wanted)?;
+    }
+    let counts = try_row(given, &diagnosing, file, wanted)?;
+    let changed = match diagnosing.printed {
+        Printed::Transactions => change_octets(given, &diagnosing, file)?,
         Printed::Summary | Printed::Stations | Printed::Found | Printed::Told => 0,
     };
     Ok(Counts { changed, ..counts })
@@ -198,38 +198,25 @@ fn address(alloc: Global, rows: &[Row<'_>], word: &str) -> Result<Address, Stop>
 
 /// A capture that is read, of which so much is known at a time, in reads of this size.
 #[derive(Clone, Copy)]
-struct Diagnosing {
+struct Diagnosing<'q> {
     printed: Printed,
     most: usize,
     size: usize,
+    asking: Asking<'q>,
 }
 
-impl<'a> Trial<'a> for Diagnosing {
+impl<'a> Trial<'a> for Diagnosing<'_> {
     fn answer(&self, given: Given<'a>, octets: &[u8]) -> Result<String, Stop> {
         let mut said = Said {
             status: 0,
             out: Vec::new(given.alloc),
             err: Vec::new(given.alloc),
         };
-        let mut input = Pieces {
-            left: octets,
-            size: self.size,
-        };
-        let telling = match self.printed {
-            Printed::Found => Telling::AtOnce,
-            Printed::Summary | Printed::Transactions | Printed::Stations | Printed::Told => {
-                Telling::Later
-            }
-        };
-        let settings = settings(self.most);
-        match diagnose(given.memory, settings, telling, &mut input, &mut said.out) {
-            Ok(Some(diagnosis)) => {
-                let printed = self.print(given.memory, &diagnosis, &mut said.out);
-                told(given.alloc, printed)?;
-            }
-            Ok(None) => said.status = 1,
+        match self.tell(given, octets, &mut said.out) {
+            Ok(true) => {}
+            Ok(false) => said.status = 1,
             Err(Failure::Reading(error) | Failure::Writing(error)) => {
-                told(given.alloc, Err(error))?;
+                return Err(stop(given.alloc, &error));
             }
         }
         if let Printed::Found = self.printed {
@@ -250,30 +237,85 @@ fn first_lines(alloc: Global, printed: &[u8]) -> Result<Vec<u8>, Stop> {
     Ok(lines)
 }
 
-impl Diagnosing {
+impl Diagnosing<'_> {
+    /// Prints what is asked for of a file. Returns `false` where it is no capture.
+    fn tell(&self, given: Given<'_>, octets: &[u8], out: &mut Vec<u8>) -> Result<bool, Failure> {
+        let choice = self.asking.choice(given.memory, &mut self.pieces(octets))?;
+        self.tell_of(given.memory, choice.excerpt(), octets, out)
+    }
+
+    /// Prints what is asked for of these packets of a file. Returns `false` where it is no capture.
+    fn tell_of<A: Allocator + Copy>(
+        &self,
+        alloc: A,
+        excerpt: Excerpt<'_>,
+        octets: &[u8],
+        out: &mut Vec<u8>,
+    ) -> Result<bool, Failure> {
+        let Some(diagnosed) = self.diagnosed(alloc, excerpt, octets, &mut *out)? else {
+            return Ok(false);
+        };
+        match self.print(alloc, &diagnosed, out) {
+            Ok(()) => Ok(true),
+            Err(error) => Err(Failure::Writing(error)),
+        }
+    }
+
+    /// What these packets of a file show; what is found at once is printed.
+    fn diagnosed<A: Allocator + Copy>(
+        &self,
+        alloc: A,
+        excerpt: Excerpt<'_>,
+        octets: &[u8],
+        out: &mut Vec<u8>,
+    ) -> Result<Option<Diagnosed<A>>, Failure> {
+        let telling = match self.printed {
+            Printed::Found => Telling::AtOnce,
+            Printed::Summary | Printed::Transactions | Printed::Stations | Printed::Told => {
+                Telling::Later
+            }
+        };
+        let request = Request {
+            settings: settings(self.most),
+            excerpt,
+            telling,
+            form: self.asking.form,
+        };
+        diagnose(alloc, request, &mut self.pieces(octets), out)
+    }
+
+    /// A file that is read in pieces.
+    fn pieces<'o>(&self, octets: &'o [u8]) -> Pieces<'o> {
+        Pieces {
+            left: octets,
+            size: self.size,
+        }
+    }
+
     /// Prints what is asked for.
     fn print<A: Allocator + Copy>(
         &self,
         alloc: A,
-        diagnosis: &Diagnosis<A>,
+        diagnosed: &Diagnosed<A>,
         out: &mut Vec<u8>,
     ) -> io::Result<()> {
+        let form = self.asking.form;
         match self.printed {
-            Printed::Summary => print_summary(diagnosis, out),
-            Printed::Transactions => print_transactions(alloc, diagnosis, out),
-            Printed::Stations => print_stations(alloc, diagnosis, out),
+            Printed::Summary => print_counted(alloc, form, diagnosed, out),
+            Printed::Transactions => print_requests(alloc, form, diagnosed, out),
+            Printed::Stations => print_senders(alloc, form, diagnosed, out),
             Printed::Found => Ok(()),
-            Printed::Told => print_kept(diagnosis.findings(), out),
+            Printed::Told => print_found(alloc, form, diagnosed.findings(), out),
         }
     }
 }
 
-/// Nothing where all went well, and why a row stops.
-fn told(alloc: Global, done: io::Result<()>) -> Result<(), Stop> {
-    match done {
-        Ok(()) => Ok(()),
-        Err(error) if error.kind() == ErrorKind::OutOfMemory => Err(Stop::Memory),
-        Err(_) => Err(differs(alloc, "a read that failed")),
+/// Why a row stops where a capture isn't read, or what it shows not printed.
+fn stop(alloc: Global, error: &io::Error) -> Stop {
+    if error.kind() == ErrorKind::OutOfMemory {
+        Stop::Memory
+    } else {
+        differs(alloc, "a read that failed")
     }
 }
 

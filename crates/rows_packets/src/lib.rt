@@ -3,9 +3,10 @@
 //! `rows_captures`.
 //!
 //! - `pieces`: the octets of a file, in pieces with names.
-//! - `reading`, `chunks`, `writing`: captures. `diagnosing`: what they show.
+//! - `reading`, `chunks`, `writing`: captures. `diagnosing`: what they show. `asking`: what of them.
 #![tactic(auto)]
 
+mod asking;
 mod chunks;
 mod diagnosing;
 mod pieces;

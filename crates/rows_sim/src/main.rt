@@ -3,7 +3,7 @@
 //! each row, and prints a line for each row that differs and one with the counts of each file.
 //!
 //! - `examples`: sites and scripts as files, with what is printed of them.
-//! - `as_json`: what is printed of them as objects of JSON.
+//! - `as_json`: what is printed of them as objects of JSON. `captured`: what a diagnosis finds in captures of them.
 //! - `storms`: storms behind the scripts of the examples, and what their own scripts print.
 //! - `blocks`: sites, scripts and texts that rows describe.
 //! - `repeated`: words that stand for many.
@@ -14,6 +14,7 @@
 
 mod as_json;
 mod blocks;
+mod captured;
 mod examples;
 mod memory;
 mod repeated;
@@ -62,6 +63,7 @@ fn main(rt: HostRuntime) -> io::Result<()> {
     sheets::run_files::<Sim>(&rt)?;
     examples::run_examples(&rt)?;
     as_json::run_objects(&rt)?;
+    captured::run_captures(&rt)?;
     storms::run_storms(&rt)?;
     memory::run_file(&rt)?;
     strays::run_file(&rt)?;

@@ -1,15 +1,10 @@
 use Rattle.std.proofs.Common.{◌∙◌, ap}
-use Rattle.clap.specs.Simple.{app_of_fields}
-use Rattle.command_order.proofs.CommandLaws.{adds, adds_last}
+use Rattle.std.proofs.lemmas.Result.{IfOk-weaker}
+use Rattle.command_order.specs.Diagnosing.{with_files, with_stations, with_times}
 use Rattle.command_order.proofs.diagnosing.diagnose.Goals as goal
 
 pub returns : goal.returns
 returns c =
-    let named = ap app_of_fields c.about.ensures ∙ c.new.ensures.app in
-    let capture = adds c.in_ok-arg.ensures c.file.ensures.own named c.file.ensures.rule in
-    let timeout = adds c.in_ok-arg-2.ensures c.option.ensures.own capture c.option.ensures.rule in
-    let slow = adds c.in_ok-arg-3.ensures c.option-2.ensures.own timeout c.option-2.ensures.rule in
-    let port = adds c.in_ok-arg-4.ensures c.option-3.ensures.own slow c.option-3.ensures.rule in
-    let all = adds c.in_ok-arg-5.ensures c.flag.ensures.own port c.flag.ensures.rule in
-    let transactions = adds c.in_ok-arg-6.ensures c.flag-2.ensures.own all c.flag-2.ensures.rule in
-    adds_last c.arg-7.result _ _ c.arg-7.ensures c.flag-3.ensures.own transactions c.flag-3.ensures.rule
+    let stations = c.in_ok-with_stations.ensures ∙ ap with_stations c.in_ok-told.ensures in
+    let times = c.in_ok-with_times.ensures ∙ ap with_times stations in
+    IfOk-weaker c.with_files.result _ _ (λ _ e. e ∙ ap with_files times) c.with_files.ensures

@@ -8,7 +8,7 @@ use words::{Hex, Words};
 
 /// An object that grows by members, which may be objects and lists themselves.
 #[derive(Drop)]
-pub(crate) struct Object<A: Allocator> {
+pub struct Object<A: Allocator> {
     alloc: A,
     writer: Writer<A>,
 }
@@ -18,14 +18,14 @@ impl<A: Allocator + Copy> Object<A> {
     ///
     /// # Errors
     /// Want of memory, as of each of its calls.
-    pub(crate) fn new(alloc: A) -> Result<Self, AllocError> {
+    pub fn new(alloc: A) -> Result<Self, AllocError> {
         let mut writer = Writer::new(Vec::new(alloc));
         writer.begin_object()?;
         Ok(Object { alloc, writer })
     }
 
     /// Its text.
-    pub(crate) fn into_text(self) -> Result<Vec<u8, A>, AllocError> {
+    pub fn into_text(self) -> Result<Vec<u8, A>, AllocError> {
         let Object { writer, .. } = self;
         let mut writer = writer;
         writer.end_object()?;
@@ -33,37 +33,37 @@ impl<A: Allocator + Copy> Object<A> {
     }
 
     /// Adds a number.
-    pub(crate) fn number(&mut self, name: &str, number: u64) -> Result<(), AllocError> {
+    pub fn number(&mut self, name: &str, number: u64) -> Result<(), AllocError> {
         self.writer.key(name)?;
         self.writer.u64(number)
     }
 
     /// Adds a number with a sign.
-    pub(crate) fn signed(&mut self, name: &str, number: i64) -> Result<(), AllocError> {
+    pub fn signed(&mut self, name: &str, number: i64) -> Result<(), AllocError> {
         self.writer.key(name)?;
         self.writer.i64(number)
     }
 
     /// Adds `true` or `false`.
-    pub(crate) fn boolean(&mut self, name: &str, value: bool) -> Result<(), AllocError> {
+    pub fn boolean(&mut self, name: &str, value: bool) -> Result<(), AllocError> {
         self.writer.key(name)?;
         self.writer.boolean(value)
     }
 
     /// Adds `null`.
-    pub(crate) fn null(&mut self, name: &str) -> Result<(), AllocError> {
+    pub fn null(&mut self, name: &str) -> Result<(), AllocError> {
         self.writer.key(name)?;
         self.writer.null()
     }
 
     /// Adds a text.
-    pub(crate) fn text(&mut self, name: &str, text: &str) -> Result<(), AllocError> {
+    pub fn text(&mut self, name: &str, text: &str) -> Result<(), AllocError> {
         self.writer.key(name)?;
         self.writer.string(text)
     }
 
     /// Adds octets as a text of pairs of hexadecimal digits, which is empty where there are none.
-    pub(crate) fn octets(&mut self, name: &str, octets: &[u8]) -> Result<(), AllocError> {
+    pub fn octets(&mut self, name: &str, octets: &[u8]) -> Result<(), AllocError> {
         if octets.is_empty() {
             return self.text(name, "");
         }
@@ -71,40 +71,45 @@ impl<A: Allocator + Copy> Object<A> {
     }
 
     /// Adds the type and the instance of an object, as `5:1`.
-    pub(crate) fn object_id(&mut self, name: &str, object: &ObjectId) -> Result<(), AllocError> {
+    pub fn object_id(&mut self, name: &str, object: &ObjectId) -> Result<(), AllocError> {
         self.shown(name, &Words(object))
     }
 
     /// Adds as a text how something is printed.
-    fn shown<D: Display>(&mut self, name: &str, shown: &D) -> Result<(), AllocError> {
+    pub fn shown<D: Display>(&mut self, name: &str, shown: &D) -> Result<(), AllocError> {
         let text = format!(in self.alloc; "{shown}")?;
         self.text(name, text.as_str())
     }
 
     /// Begins an object under this name.
-    pub(crate) fn begin(&mut self, name: &str) -> Result<(), AllocError> {
+    pub fn begin(&mut self, name: &str) -> Result<(), AllocError> {
         self.writer.key(name)?;
         self.writer.begin_object()
     }
 
     /// Begins an object in a list.
-    pub(crate) fn begin_item(&mut self) -> Result<(), AllocError> {
+    pub fn begin_item(&mut self) -> Result<(), AllocError> {
         self.writer.begin_object()
     }
 
+    /// Adds a number to a list.
+    pub fn number_item(&mut self, number: u64) -> Result<(), AllocError> {
+        self.writer.u64(number)
+    }
+
     /// Ends an object that was begun in this one.
-    pub(crate) fn end(&mut self) -> Result<(), AllocError> {
+    pub fn end(&mut self) -> Result<(), AllocError> {
         self.writer.end_object()
     }
 
     /// Begins a list under this name.
-    pub(crate) fn begin_list(&mut self, name: &str) -> Result<(), AllocError> {
+    pub fn begin_list(&mut self, name: &str) -> Result<(), AllocError> {
         self.writer.key(name)?;
         self.writer.begin_array()
     }
 
     /// Ends a list.
-    pub(crate) fn end_list(&mut self) -> Result<(), AllocError> {
+    pub fn end_list(&mut self) -> Result<(), AllocError> {
         self.writer.end_array()
     }
 }
