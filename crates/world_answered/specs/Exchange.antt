@@ -38,7 +38,8 @@ pub record Waits {A : Type 0} (w v : WorldState A) : Type 0 where
   pub ticks : List ℕ
   pub pass : Passes ticks w v
 
--- a client knows where a device is, and that what that says came to it from this address on its own network (16.10.3)
+-- a client has a binding to a device: its station, and the address on the client's own network from which its I-Am came
+-- (16.10.3)
 pub record IsBound {A : Type 0} (instance : ℕ) (from : Mac) (c : ClientState A) (d : DeviceState A) : Type 0 where
   pub binding : Binding
   pub held : binding_of instance c.bindings ≡ Some binding
