@@ -1,8 +1,5 @@
 //! What is done in worlds (ANSI/ASHRAE 135, clauses 5.4 and 16.10).
 
-ghost use Rattle.std.specs.Prelude.{IsTrue};
-ghost use Rattle.simulator.specs.world.Step.{IsSoundEvent};
-
 use apdu::Limits;
 use primitives::{ObjectType, Property, Request};
 use simulator::{Event, Flow, World};
@@ -46,22 +43,6 @@ pub(crate) fn read<A: Allocator + Copy>(alloc: A, client: u16) -> Result<Event<A
     })
 }
 
-/// Whether an event may happen: its request has a spelling.
-fn is_sound<A: Allocator>(event: &Event<A>) -> bool
-    ensures { IsTrue result → IsSoundEvent event.now }
-{
-    match event {
-        Event::Issue { request, .. } => request.is_sound(),
-        Event::WhoIs { .. }
-        | Event::Tick(_)
-        | Event::Wake(_)
-        | Event::Deliver(_)
-        | Event::Restart(_)
-        | Event::Hear { .. }
-        | Event::Register(_) => true,
-    }
-}
-
 /// The client of this number asks device 1 who it is (16.10.1).
 ///
 /// # Errors
@@ -87,7 +68,7 @@ pub(crate) fn make_again<A: Allocator + Copy>(
     event: &Event<A>,
     times: u64,
 ) -> Result<u64, Fault> {
-    if !is_sound(event) {
+    if !event.is_sound() {
         return Err(Fault::NoSuch);
     }
     let mut made = 0u64;

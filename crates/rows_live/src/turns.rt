@@ -228,26 +228,8 @@ fn event_of<'m>(step: Step<Memory<'m>>) -> Option<Event<Memory<'m>>>
     ensures { IfSome result (λ event. IsSoundIfAny (Some event)) }
 {
     match step {
-        Step::Issue {
-            client,
-            instance,
-            request,
-        } => {
-            if !request.is_sound() {
-                return None;
-            }
-            Some(Event::Issue {
-                client,
-                instance,
-                request,
-            })
-        }
-        Step::WhoIs { client, limits } => Some(Event::WhoIs { client, limits }),
-        Step::Tick(n) => Some(Event::Tick(n)),
-        Step::Wake(station) => Some(Event::Wake(station)),
-        Step::Register(station) => Some(Event::Register(station)),
-        Step::Restart(station) => Some(Event::Restart(station)),
-        Step::Deliver(_) | Step::Hear { .. } | Step::Flow(_) => None,
+        Step::Happens(Event::Deliver(_) | Event::Hear { .. }) | Step::Flow(_) => None,
+        Step::Happens(event) => { if event.is_sound() { Some(event) } else { None } }
     }
 }
 

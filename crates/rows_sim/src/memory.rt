@@ -9,7 +9,7 @@
 
 ghost use Rattle.simulator.specs.world.Step.{IsSoundEvent};
 
-use crate::worlds::{Asked, asked_of, history_from, is_same_run, is_sound, opened, tables};
+use crate::worlds::{history_from, is_same_run, opened, tables};
 use refusing::Refusing;
 use script::{Step, script_of};
 use sheets::{
@@ -137,9 +137,9 @@ fn take_step<A: Allocator + Copy>(
     worlds: &mut Worlds<A>,
     step: Step<A>,
 ) -> Result<(), Stop> {
-    match asked_of(step) {
-        Asked::Event(event) => make(given, memory, worlds, &event),
-        Asked::Flow(n) => flow(given, memory, worlds, n),
+    match step {
+        Step::Happens(event) => make(given, memory, worlds, &event),
+        Step::Flow(n) => flow(given, memory, worlds, n),
     }
 }
 
@@ -201,7 +201,7 @@ fn make<A: Allocator + Copy>(
     worlds: &mut Worlds<A>,
     event: &Event<A>,
 ) -> Result<(), Stop> {
-    if !is_sound(event) {
+    if !event.is_sound() {
         return Err(Stop::Unread(Part::Words));
     }
     let entries = worlds.plain.history().len();

@@ -4,10 +4,10 @@
 //!
 //! Each stray comes to a world of its own. Where it is refused that world does afterwards what one does that got none.
 
-use crate::worlds::{Asked, asked_of, is_sound, opened};
+use crate::worlds::opened;
 use npdu::{Mac, Station};
 use refusing::Refusing;
-use script::script_of;
+use script::{Step, script_of};
 use sheets::{
     Counts, Given, Part, Report, Row, Stop, Trial, change_octets, differs, octets, rows, two_words,
 };
@@ -269,9 +269,9 @@ fn take_steps(alloc: Global, world: &mut World<Global>, script: &[u8]) -> Result
         return Err(Stop::Unread(Part::Asked));
     };
     for step in steps.into_vec() {
-        match asked_of(step) {
-            Asked::Event(event) => take(world, &event)?,
-            Asked::Flow(n) => flow(world, n)?,
+        match step {
+            Step::Happens(event) => take(world, &event)?,
+            Step::Flow(n) => flow(world, n)?,
         }
     }
     Ok(())
@@ -279,7 +279,7 @@ fn take_steps(alloc: Global, world: &mut World<Global>, script: &[u8]) -> Result
 
 /// An event happens.
 fn take(world: &mut World<Global>, event: &Event<Global>) -> Result<(), Stop> {
-    if !is_sound(event) {
+    if !event.is_sound() {
         return Err(Stop::Unread(Part::Words));
     }
     world.step(event)?;

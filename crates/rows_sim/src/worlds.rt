@@ -1,71 +1,11 @@
-//! Worlds of a site: how they open, what a step asks of them, and whether two of them are told apart.
-
-ghost use Rattle.std.specs.Prelude.{IsTrue};
-ghost use Rattle.simulator.specs.world.Step.{IsSoundEvent};
+//! Worlds of a site: how they open, and whether two of them are told apart.
 
 use history::{End, Entry};
-use script::Step;
 use sheets::{Stop, request_in};
 use simulator::{Event, World, WorldEntry};
 use site_text::site_of;
 use std::alloc::{AllocError, Allocator, Global};
 use words::Words;
-
-/// What a step asks for.
-#[derive(Drop)]
-pub(crate) enum Asked<A: Allocator> {
-    /// An event.
-    Event(Event<A>),
-    /// So many milliseconds, in which all that is put out is delivered.
-    Flow(u64),
-}
-
-/// What a step asks for.
-pub(crate) fn asked_of<A: Allocator>(step: Step<A>) -> Asked<A> {
-    Asked::Event(match step {
-        Step::Issue {
-            client,
-            instance,
-            request,
-        } => Event::Issue {
-            client,
-            instance,
-            request,
-        },
-        Step::WhoIs { client, limits } => Event::WhoIs { client, limits },
-        Step::Tick(n) => Event::Tick(n),
-        Step::Wake(station) => Event::Wake(station),
-        Step::Deliver(number) => Event::Deliver(number),
-        Step::Hear {
-            network,
-            station,
-            octets,
-        } => Event::Hear {
-            network,
-            station,
-            octets,
-        },
-        Step::Register(station) => Event::Register(station),
-        Step::Restart(station) => Event::Restart(station),
-        Step::Flow(n) => return Asked::Flow(n),
-    })
-}
-
-/// Whether an event may happen: its request has a spelling.
-pub(crate) fn is_sound<A: Allocator>(event: &Event<A>) -> bool
-    ensures { IsTrue result → IsSoundEvent event.now }
-{
-    match event {
-        Event::Issue { request, .. } => request.is_sound(),
-        Event::WhoIs { .. }
-        | Event::Tick(_)
-        | Event::Wake(_)
-        | Event::Deliver(_)
-        | Event::Restart(_)
-        | Event::Hear { .. }
-        | Event::Register(_) => true,
-    }
-}
 
 /// The world of a site's text as it opens, in this memory.
 ///

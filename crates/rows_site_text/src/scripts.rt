@@ -2,7 +2,7 @@
 
 use crate::escaped::push_unescaped;
 use apdu::Limits;
-use script::{BadScript, Step, script_of};
+use script::{BadScript, Event, Step, script_of};
 use sheets::{Counts, Given, Stop, Trial, run_trial};
 use std::alloc::{Allocator, Global};
 use words::{Hex, Words};
@@ -48,7 +48,14 @@ fn steps_in_words<A: Allocator>(alloc: Global, steps: &[Step<A>]) -> Result<Stri
 
 fn push_step<A: Allocator>(step: &Step<A>, out: &mut String) -> Result<(), Stop> {
     match step {
-        Step::Issue {
+        Step::Happens(event) => push_event(event, out),
+        Step::Flow(milliseconds) => Ok(write!(out, "flow {milliseconds}")?),
+    }
+}
+
+fn push_event<A: Allocator>(event: &Event<A>, out: &mut String) -> Result<(), Stop> {
+    match event {
+        Event::Issue {
             client,
             instance,
             request,
@@ -56,14 +63,14 @@ fn push_step<A: Allocator>(step: &Step<A>, out: &mut String) -> Result<(), Stop>
             push_named("issue ", client.as_slice(), out)?;
             write!(out, " {instance} {}", Words(request))?;
         }
-        Step::WhoIs { client, limits } => {
+        Event::WhoIs { client, limits } => {
             push_named("whois ", client.as_slice(), out)?;
             push_limits(*limits, out)?;
         }
-        Step::Tick(milliseconds) => write!(out, "tick {milliseconds}")?,
-        Step::Wake(name) => push_named("wake ", name.as_slice(), out)?,
-        Step::Deliver(item) => write!(out, "deliver {item}")?,
-        Step::Hear {
+        Event::Tick(milliseconds) => write!(out, "tick {milliseconds}")?,
+        Event::Wake(name) => push_named("wake ", name.as_slice(), out)?,
+        Event::Deliver(item) => write!(out, "deliver {item}")?,
+        Event::Hear {
             network,
             station,
             octets,
@@ -72,9 +79,8 @@ fn push_step<A: Allocator>(step: &Step<A>, out: &mut String) -> Result<(), Stop>
             push_named("", station.as_slice(), out)?;
             write!(out, " {}", Hex(octets.as_slice()))?;
         }
-        Step::Register(name) => push_named("register ", name.as_slice(), out)?,
-        Step::Restart(name) => push_named("restart ", name.as_slice(), out)?,
-        Step::Flow(milliseconds) => write!(out, "flow {milliseconds}")?,
+        Event::Register(name) => push_named("register ", name.as_slice(), out)?,
+        Event::Restart(name) => push_named("restart ", name.as_slice(), out)?,
     }
     Ok(())
 }

@@ -1,69 +1,9 @@
-//! Events: those of a script, whether one may happen, and one as a line of a script.
+//! An event as a line of a script.
 
-ghost use Rattle.std.specs.Prelude.{IsTrue};
-ghost use Rattle.simulator.specs.world.Step.{IsSoundEvent};
-
-use script::Step;
 use simulator::Event;
 use std::alloc::{Allocator, Global};
 use std::fmt;
 use words::{Hex, Words};
-
-/// What a step of a script asks for.
-#[derive(Drop)]
-pub(crate) enum Asked {
-    /// An event.
-    Event(Event<Global>),
-    /// So many milliseconds, in which all that is put out is delivered.
-    Flow(u64),
-}
-
-/// What a step of a script asks for.
-pub(crate) fn asked_of(step: Step<Global>) -> Asked {
-    Asked::Event(match step {
-        Step::Issue {
-            client,
-            instance,
-            request,
-        } => Event::Issue {
-            client,
-            instance,
-            request,
-        },
-        Step::WhoIs { client, limits } => Event::WhoIs { client, limits },
-        Step::Tick(n) => Event::Tick(n),
-        Step::Wake(station) => Event::Wake(station),
-        Step::Deliver(number) => Event::Deliver(number),
-        Step::Hear {
-            network,
-            station,
-            octets,
-        } => Event::Hear {
-            network,
-            station,
-            octets,
-        },
-        Step::Register(station) => Event::Register(station),
-        Step::Restart(station) => Event::Restart(station),
-        Step::Flow(n) => return Asked::Flow(n),
-    })
-}
-
-/// Whether an event may happen: its request has a spelling.
-pub(crate) fn is_sound<A: Allocator>(event: &Event<A>) -> bool
-    ensures { IsTrue result → IsSoundEvent event.now }
-{
-    match event {
-        Event::Issue { request, .. } => request.is_sound(),
-        Event::WhoIs { .. }
-        | Event::Tick(_)
-        | Event::Wake(_)
-        | Event::Deliver(_)
-        | Event::Restart(_)
-        | Event::Hear { .. }
-        | Event::Register(_) => true,
-    }
-}
 
 /// The name of a station.
 #[derive(Clone, Copy)]

@@ -2,7 +2,6 @@
 
 use crate::counts::Counts;
 use crate::ears::Ears;
-use crate::events::is_sound;
 use crate::weather::{Wrong, judge_end, make};
 use simulator::{Event, World};
 use std::alloc::{AllocError, Global};
@@ -111,7 +110,7 @@ fn make_sound(
     event: &Event<Global>,
     counts: &mut Counts,
 ) -> Result<Option<Wrong>, AllocError> {
-    if is_sound(event) {
+    if event.is_sound() {
         make(alloc, world, ears, event, counts)
     } else {
         Ok(None)

@@ -1,6 +1,6 @@
 //! The files of sites: how each is opened, and what is printed of its storms.
 
-use crate::events::{Asked, Line, asked_of, is_sound};
+use crate::events::Line;
 use crate::storms::{Broken, Told, run_storms};
 use script::{Step, script_of};
 use simulator::{Flow, World};
@@ -94,15 +94,15 @@ fn storms_behind(
 
 /// Takes a step in a world.
 fn take_step(world: &mut World<Global>, step: Step<Global>) -> Result<(), Fault> {
-    match asked_of(step) {
-        Asked::Event(event) => {
-            if is_sound(&event) {
+    match step {
+        Step::Happens(event) => {
+            if event.is_sound() {
                 world.step(&event)
             } else {
                 Err(Fault::NoSuch)
             }
         }
-        Asked::Flow(n) => flow(world, n),
+        Step::Flow(n) => flow(world, n),
     }
 }
 

@@ -8,7 +8,7 @@ use Rattle.buses.specs.Buses.{buses_of}
 use Rattle.buses.specs.Puts.{BusesState}
 use Rattle.buses.specs.declared.buses.Buses.{Buses}
 use Rattle.simulator.specs.world.World.{WorldState}
-use Rattle.simulator.specs.world.declared.event.Event.{Event}
+use Rattle.simulator.specs.world.site_events.declared.event.Event.{Event}
 use Rattle.runner.specs.Hearing.{HearsNext, HearsThem, IsNextHear, IsNextTurn, IsOver, MeetsNobody, left_to_hear, station_at, turn_after}
 use Rattle.runner.specs.declared.hearing.Heard.{Heard}
 use Rattle.simulator.proofs.FlowLaws.{told_less}

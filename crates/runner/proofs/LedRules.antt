@@ -12,7 +12,7 @@ use Rattle.simulator.specs.Laws.{IsLed}
 use Rattle.simulator.specs.world.Laws.{Stands}
 use Rattle.simulator.specs.world.Step.{Steps}
 use Rattle.simulator.specs.world.World.{WorldState}
-use Rattle.simulator.specs.world.declared.event.Event.{Event}
+use Rattle.simulator.specs.world.site_events.declared.event.Event.{Event}
 
 -- the history of one that events led to is legal
 pub led_is_legal : {A : Type 0} (r : RunnerState A) (h : WorldHistory A) → h ≡ r.world.history →

@@ -15,10 +15,10 @@ use Rattle.simulator.specs.world.Hearing.{RefusesOctets, RefusesOne}
 use Rattle.simulator.specs.world.Refusals.{HappeningIsRefused, IsRefused, RefusesAt, RefusesNamed}
 use Rattle.simulator.specs.world.Straying.{StrayIsRefused}
 use Rattle.simulator.specs.world.World.{WorldState}
-use Rattle.simulator.specs.world.declared.event.Event.{Event}
-use Rattle.simulator.specs.world.declared.event.Event.TheVariants as event
-use Rattle.simulator.specs.world.declared.event.Happening.{Happening}
-use Rattle.simulator.specs.world.declared.event.Happening.TheVariants as happening
+use Rattle.simulator.specs.world.site_events.declared.event.Event.{Event}
+use Rattle.simulator.specs.world.site_events.declared.event.Event.TheVariants as event
+use Rattle.simulator.specs.world.declared.happening.Happening.{Happening}
+use Rattle.simulator.specs.world.declared.happening.Happening.TheVariants as happening
 use Rattle.simulator.specs.world.declared.listener.Listener.{Listener}
 use Rattle.link_ip.specs.Hearing as ip
 use Rattle.link_site.specs.Steps as site

@@ -13,10 +13,10 @@ use Rattle.simulator.specs.world.Hearing.{Hears, IsTold, TakesEach}
 use Rattle.simulator.specs.world.Step.{Happens, Steps}
 use Rattle.simulator.specs.world.Straying.{Strays}
 use Rattle.simulator.specs.world.World.{WorldState}
-use Rattle.simulator.specs.world.declared.event.Event.{Event}
-use Rattle.simulator.specs.world.declared.event.Event.TheVariants as event
-use Rattle.simulator.specs.world.declared.event.Happening.{Happening}
-use Rattle.simulator.specs.world.declared.event.Happening.TheVariants as happening
+use Rattle.simulator.specs.world.site_events.declared.event.Event.{Event}
+use Rattle.simulator.specs.world.site_events.declared.event.Event.TheVariants as event
+use Rattle.simulator.specs.world.declared.happening.Happening.{Happening}
+use Rattle.simulator.specs.world.declared.happening.Happening.TheVariants as happening
 use Rattle.simulator.specs.world.declared.listener.Listener.{Listener}
 use Rattle.simulator.specs.site_node.Node.{NodeState}
 use Rattle.simulator.specs.site_node.Steps.{NodeTold}

@@ -4,8 +4,8 @@ use Rattle.std.specs.List.{AllByRecursion}
 use Rattle.simulator.specs.Runs.{Happens}
 use Rattle.simulator.specs.world.Step.{IsSoundEvent, IsSoundIfAny}
 use Rattle.simulator.specs.world.World.{WorldState}
-use Rattle.simulator.specs.world.declared.event.Event.{Event}
-use Rattle.simulator.specs.world.declared.event.Event.TheVariants.{Deliver}
+use Rattle.simulator.specs.world.site_events.declared.event.Event.{Event}
+use Rattle.simulator.specs.world.site_events.declared.event.Event.TheVariants.{Deliver}
 use Rattle.tags.specs.declared.fault.Fault.{Fault}
 use Rattle.tags.specs.declared.fault.Fault.TheVariants.{Wire}
 use Rattle.runner.specs.Laws.{AreEvents, Turn, Turns}

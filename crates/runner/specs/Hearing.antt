@@ -7,8 +7,8 @@ use Rattle.bus_traffic.specs.declared.ear.Ear.{Ear}
 use Rattle.bus_traffic.specs.declared.sending.Recent.{Recent}
 use Rattle.bus_traffic.specs.declared.telling.Telling.{Telling}
 use Rattle.simulator.specs.world.World.{WorldState}
-use Rattle.simulator.specs.world.declared.event.Event.{Event}
-use Rattle.simulator.specs.world.declared.event.Event.TheVariants.{Hear}
+use Rattle.simulator.specs.world.site_events.declared.event.Event.{Event}
+use Rattle.simulator.specs.world.site_events.declared.event.Event.TheVariants.{Hear}
 use Rattle.npdu.specs.declared.mac.Mac.TheVariants.{One}
 use Rattle.runner.specs.declared.hearing.Heard.{Heard}
 use Rattle.simulator.specs.Flows.{left_to_tell}

@@ -4,7 +4,7 @@ use Rattle.std.specs.List.{AllByRecursion}
 use Rattle.simulator.specs.Runs.{Runs}
 use Rattle.simulator.specs.world.Step.{IsSoundEvent, IsSoundIfAny}
 use Rattle.simulator.specs.world.World.{WorldState}
-use Rattle.simulator.specs.world.declared.event.Event.{Event}
+use Rattle.simulator.specs.world.site_events.declared.event.Event.{Event}
 use Rattle.tags.specs.declared.fault.Fault.{Fault}
 use Rattle.wire.specs.Datagrams.{Datagram}
 use Rattle.runner.specs.Runner.{RunnerState}

@@ -3,8 +3,8 @@ use Rattle.std.specs.Prelude.{◌≡◌, ◌⊎◌, ℕ, true, false, Option, So
 use Rattle.simulator.specs.Heard.{HasBrought}
 use Rattle.simulator.specs.world.Refusals.{IsRefused}
 use Rattle.simulator.specs.world.Step.{Steps}
-use Rattle.simulator.specs.world.declared.event.Event.{Event}
-use Rattle.simulator.specs.world.declared.event.Event.TheVariants.{Deliver}
+use Rattle.simulator.specs.world.site_events.declared.event.Event.{Event}
+use Rattle.simulator.specs.world.site_events.declared.event.Event.TheVariants.{Deliver}
 use Rattle.tags.specs.declared.fault.Fault.{Fault}
 use Rattle.tags.specs.declared.fault.Fault.TheVariants.{Wire}
 use Rattle.wire.specs.Counts.{raised}

@@ -13,6 +13,7 @@ use Rattle.words.specs.declared.unread.Unread.{Unread}
 use Rattle.words.specs.declared.unread.Unread.TheVariants.{Memory}
 use Rattle.script.specs.declared.step.Step.{Step}
 use Rattle.script.specs.declared.step.Step.TheVariants as step
+use Rattle.site_events.specs.declared.event.Event.TheVariants as event
 use Rattle.script.specs.Lines.{AreSteps, cut, without_return, IsBadLine, IsFirstBad, PutsLine, PutsStep, SaysSteps, is_skipped, lines, lines_left, size_left, spoken}
 use Rattle.script.specs.NoSteps.{IsBad, IsRefused}
 use Rattle.script.specs.Reading.{HasNoFeed, HasRead}
@@ -66,14 +67,14 @@ fit_behind [] s fit one = (one, tt)
 fit_behind (t ∷ ts) s fit one = (fit.0, fit_behind ts s fit.1 one)
 
 sound_one : {A : Type 0} (s : Step A) → IsFitStep s → IsSoundStep s
-sound_one (step.Issue client instance request) fit = fit.sound
-sound_one (step.WhoIs client limits) fit = tt
-sound_one (step.Tick n) fit = tt
-sound_one (step.Wake name) fit = tt
-sound_one (step.Deliver item) fit = tt
-sound_one (step.Hear network station octets) fit = tt
-sound_one (step.Register name) fit = tt
-sound_one (step.Restart name) fit = tt
+sound_one (step.Happens (event.Issue client instance request)) fit = fit.sound
+sound_one (step.Happens (event.WhoIs client limits)) fit = tt
+sound_one (step.Happens (event.Tick n)) fit = tt
+sound_one (step.Happens (event.Wake name)) fit = tt
+sound_one (step.Happens (event.Deliver item)) fit = tt
+sound_one (step.Happens (event.Hear network station octets)) fit = tt
+sound_one (step.Happens (event.Register name)) fit = tt
+sound_one (step.Happens (event.Restart name)) fit = tt
 sound_one (step.Flow n) fit = tt
 
 pub sound_all : {A : Type 0} (steps : List (Step A)) → AllByRecursion IsFitStep steps → AllByRecursion IsSoundStep steps

@@ -1,14 +1,15 @@
 -- A part of a step that isn't said leaves the whole unsaid.
-use Rattle.std.proofs.Common.{◌≡◌, ◌∙◌, ◌+◌, ◌*◌, sym, ap, inl, inr, refl, ℕ, List, length, Option, Some, None, Result, Ok, Err, arith}
-use Rattle.std.specs.Prelude.{◌≢◌, ◌⊎◌, IfErr, IfOk, slice_index, codes}
+use Rattle.std.proofs.Common.{◌≡◌, ◌∙◌, ◌+◌, ◌*◌, sym, ap, subst, inl, inr, refl, ℕ, List, length, Option, Some, None, Result, Ok, Err, arith}
+use Rattle.std.specs.Prelude.{◌≢◌, ◌⊎◌, ◌==◌, IfErr, IfOk, if◌then◌else◌, slice_index, codes}
 use Rattle.primitives.specs.Sound.{IsSoundRequest}
 use Rattle.primitives.specs.declared.plain_data.Request.{Request}
 use Rattle.words.specs.NoRequests.{HasSingleValues}
 use Rattle.apdu.specs.declared.unconfirmed.Limits.{Limits}
 use Rattle.script.specs.declared.step.Step.{Step}
 use Rattle.script.specs.declared.step.Step.TheVariants as step
+use Rattle.site_events.specs.declared.event.Event.TheVariants as event
 use Rattle.script.specs.NoSteps.{NoHear, NoHeard, NoIssue, NoLimits, NoName, NoStep, NoWhoIs, SaysUnfit, SaysUnfitIssue, SaysUnfitStep}
-use Rattle.script.specs.Steps.{IsFit, SaysHear, SaysHeard, SaysIssue, SaysName, SaysStep, SaysWhoIs, order_of}
+use Rattle.script.specs.Steps.{IsFit, SaysHear, SaysHeard, SaysIssue, SaysName, SaysRest, SaysStep, SaysWhoIs, order_of}
 use Rattle.site_parts.specs.Names.{IsName}
 use Rattle.words.specs.declared.unread.Unread.{Unread}
 use Rattle.words.specs.declared.unread.Unread.TheVariants.{Memory}
@@ -143,139 +144,143 @@ unheard words other none = record { none = λ o s. unheard_in words o other none
 
 pub ruleset heard_laws = (unheard)
 
--- words that differ in their first character or in their length
-apart : (word a b : List ℕ) → word ≡ a → word ≡ b → slice_index a 0 + 256 * length a ≢ slice_index b 0 + 256 * length b → ⊥
-apart word a b e f n = n (ap (λ (l : List ℕ). slice_index l 0 + 256 * length l) (sym e ∙ f))
+-- the words that steps begin with
+data Order : Type 0 where
+  issue : Order
+  whois : Order
+  tick : Order
+  wake : Order
+  deliver : Order
+  hear : Order
+  register : Order
+  restart : Order
+  flow : Order
 
-no_issue_in : {A : Type 0} (words : List ℕ) (s : Step A) → before space words ≡ codes "issue" → NoIssue A (behind space words) → SaysStep words s → ⊥
-no_issue_in words (step.Issue client instance request) e none s = none.none client instance request s.1
-no_issue_in words (step.WhoIs client limits) e none s = apart (before space words) (codes "whois") (codes "issue") s.0.kind_is e (λ n. absurd (omega (arith, n)))
-no_issue_in words (step.Tick n) e none s = apart (before space words) (codes "tick") (codes "issue") s.0.kind_is e (λ n. absurd (omega (arith, n)))
-no_issue_in words (step.Wake name) e none s = apart (before space words) (codes "wake") (codes "issue") s.0.kind_is e (λ n. absurd (omega (arith, n)))
-no_issue_in words (step.Deliver item) e none s = apart (before space words) (codes "deliver") (codes "issue") s.0.kind_is e (λ n. absurd (omega (arith, n)))
-no_issue_in words (step.Hear network station octets) e none s = apart (before space words) (codes "hear") (codes "issue") s.0.kind_is e (λ n. absurd (omega (arith, n)))
-no_issue_in words (step.Register name) e none s = apart (before space words) (codes "register") (codes "issue") s.0.kind_is e (λ n. absurd (omega (arith, n)))
-no_issue_in words (step.Restart name) e none s = apart (before space words) (codes "restart") (codes "issue") s.0.kind_is e (λ n. absurd (omega (arith, n)))
-no_issue_in words (step.Flow n) e none s = apart (before space words) (codes "flow") (codes "issue") s.0.kind_is e (λ n. absurd (omega (arith, n)))
+abbrev word_of : Order → List ℕ
+word_of issue = codes "issue"
+word_of whois = codes "whois"
+word_of tick = codes "tick"
+word_of wake = codes "wake"
+word_of deliver = codes "deliver"
+word_of hear = codes "hear"
+word_of register = codes "register"
+word_of restart = codes "restart"
+word_of flow = codes "flow"
 
-pub no_issue : (A : Type 0) (words : List ℕ) → before space words ≡ codes "issue" → NoIssue A (behind space words) → NoStep A words
-no_issue A words e none = record { none = λ s said. no_issue_in words s e none said }
+abbrev order : {A : Type 0} → Step A → Order
+order (step.Happens (event.Issue client instance request)) = issue
+order (step.Happens (event.WhoIs client limits)) = whois
+order (step.Happens (event.Tick n)) = tick
+order (step.Happens (event.Wake name)) = wake
+order (step.Happens (event.Deliver item)) = deliver
+order (step.Happens (event.Hear network station octets)) = hear
+order (step.Happens (event.Register name)) = register
+order (step.Happens (event.Restart name)) = restart
+order (step.Flow n) = flow
 
-no_whois_in : {A : Type 0} (words : List ℕ) (s : Step A) → before space words ≡ codes "whois" → NoWhoIs (behind space words) → SaysStep words s → ⊥
-no_whois_in words (step.Issue client instance request) e none s = apart (before space words) (codes "issue") (codes "whois") s.0.kind_is e (λ n. absurd (omega (arith, n)))
-no_whois_in words (step.WhoIs client limits) e none s = none.none client limits s.1
-no_whois_in words (step.Tick n) e none s = apart (before space words) (codes "tick") (codes "whois") s.0.kind_is e (λ n. absurd (omega (arith, n)))
-no_whois_in words (step.Wake name) e none s = apart (before space words) (codes "wake") (codes "whois") s.0.kind_is e (λ n. absurd (omega (arith, n)))
-no_whois_in words (step.Deliver item) e none s = apart (before space words) (codes "deliver") (codes "whois") s.0.kind_is e (λ n. absurd (omega (arith, n)))
-no_whois_in words (step.Hear network station octets) e none s = apart (before space words) (codes "hear") (codes "whois") s.0.kind_is e (λ n. absurd (omega (arith, n)))
-no_whois_in words (step.Register name) e none s = apart (before space words) (codes "register") (codes "whois") s.0.kind_is e (λ n. absurd (omega (arith, n)))
-no_whois_in words (step.Restart name) e none s = apart (before space words) (codes "restart") (codes "whois") s.0.kind_is e (λ n. absurd (omega (arith, n)))
-no_whois_in words (step.Flow n) e none s = apart (before space words) (codes "flow") (codes "whois") s.0.kind_is e (λ n. absurd (omega (arith, n)))
+-- such a word is known by its first character and its length
+abbrev order_by : ℕ → Order
+order_by n = if n == 1385 then issue else if n == 1399 then whois else if n == 1140 then tick else if n == 1143 then wake
+    else if n == 1892 then deliver else if n == 1128 then hear else if n == 2162 then register
+    else if n == 1906 then restart else flow
 
-pub no_whois : (A : Type 0) (words : List ℕ) → before space words ≡ codes "whois" → NoWhoIs (behind space words) → NoStep A words
-no_whois A words e none = record { none = λ s said. no_whois_in words s e none said }
+abbrev known_by : List ℕ → Order
+known_by word = order_by (slice_index word 0 + 256 * length word)
 
-no_tick_in : {A : Type 0} (words : List ℕ) (s : Step A) → before space words ≡ codes "tick" → NoUnsigned 64 (behind space words) → SaysStep words s → ⊥
-no_tick_in words (step.Issue client instance request) e none s = apart (before space words) (codes "issue") (codes "tick") s.0.kind_is e (λ n. absurd (omega (arith, n)))
-no_tick_in words (step.WhoIs client limits) e none s = apart (before space words) (codes "whois") (codes "tick") s.0.kind_is e (λ n. absurd (omega (arith, n)))
-no_tick_in words (step.Tick n) e none s = none.none n s.1
-no_tick_in words (step.Wake name) e none s = apart (before space words) (codes "wake") (codes "tick") s.0.kind_is e (λ n. absurd (omega (arith, n)))
-no_tick_in words (step.Deliver item) e none s = apart (before space words) (codes "deliver") (codes "tick") s.0.kind_is e (λ n. absurd (omega (arith, n)))
-no_tick_in words (step.Hear network station octets) e none s = apart (before space words) (codes "hear") (codes "tick") s.0.kind_is e (λ n. absurd (omega (arith, n)))
-no_tick_in words (step.Register name) e none s = apart (before space words) (codes "register") (codes "tick") s.0.kind_is e (λ n. absurd (omega (arith, n)))
-no_tick_in words (step.Restart name) e none s = apart (before space words) (codes "restart") (codes "tick") s.0.kind_is e (λ n. absurd (omega (arith, n)))
-no_tick_in words (step.Flow n) e none s = apart (before space words) (codes "flow") (codes "tick") s.0.kind_is e (λ n. absurd (omega (arith, n)))
+known : (o : Order) → known_by (word_of o) ≡ o
+known issue = refl
+known whois = refl
+known tick = refl
+known wake = refl
+known deliver = refl
+known hear = refl
+known register = refl
+known restart = refl
+known flow = refl
 
-pub no_tick : (A : Type 0) (words : List ℕ) → before space words ≡ codes "tick" → NoUnsigned 64 (behind space words) → NoStep A words
-no_tick A words e none = record { none = λ s said. no_tick_in words s e none said }
+word_is : {A : Type 0} (s : Step A) → order_of s ≡ word_of (order s)
+word_is (step.Happens (event.Issue client instance request)) = refl
+word_is (step.Happens (event.WhoIs client limits)) = refl
+word_is (step.Happens (event.Tick n)) = refl
+word_is (step.Happens (event.Wake name)) = refl
+word_is (step.Happens (event.Deliver item)) = refl
+word_is (step.Happens (event.Hear network station octets)) = refl
+word_is (step.Happens (event.Register name)) = refl
+word_is (step.Happens (event.Restart name)) = refl
+word_is (step.Flow n) = refl
 
-no_wake_in : {A : Type 0} (words : List ℕ) (s : Step A) → before space words ≡ codes "wake" → NoName (behind space words) → SaysStep words s → ⊥
-no_wake_in words (step.Issue client instance request) e none s = apart (before space words) (codes "issue") (codes "wake") s.0.kind_is e (λ n. absurd (omega (arith, n)))
-no_wake_in words (step.WhoIs client limits) e none s = apart (before space words) (codes "whois") (codes "wake") s.0.kind_is e (λ n. absurd (omega (arith, n)))
-no_wake_in words (step.Tick n) e none s = apart (before space words) (codes "tick") (codes "wake") s.0.kind_is e (λ n. absurd (omega (arith, n)))
-no_wake_in words (step.Wake name) e none s = none.none name s.1
-no_wake_in words (step.Deliver item) e none s = apart (before space words) (codes "deliver") (codes "wake") s.0.kind_is e (λ n. absurd (omega (arith, n)))
-no_wake_in words (step.Hear network station octets) e none s = apart (before space words) (codes "hear") (codes "wake") s.0.kind_is e (λ n. absurd (omega (arith, n)))
-no_wake_in words (step.Register name) e none s = apart (before space words) (codes "register") (codes "wake") s.0.kind_is e (λ n. absurd (omega (arith, n)))
-no_wake_in words (step.Restart name) e none s = apart (before space words) (codes "restart") (codes "wake") s.0.kind_is e (λ n. absurd (omega (arith, n)))
-no_wake_in words (step.Flow n) e none s = apart (before space words) (codes "flow") (codes "wake") s.0.kind_is e (λ n. absurd (omega (arith, n)))
+-- words that say nothing which may stand behind this one
+abbrev NoRest : (A : Type 0) → List ℕ → Order → Type 0
+NoRest A words issue = NoIssue A words
+NoRest A words whois = NoWhoIs words
+NoRest A words tick = NoUnsigned 64 words
+NoRest A words wake = NoName words
+NoRest A words deliver = NoUnsigned 64 words
+NoRest A words hear = NoHear words
+NoRest A words register = NoName words
+NoRest A words restart = NoName words
+NoRest A words flow = NoUnsigned 64 words
 
-pub no_wake : (A : Type 0) (words : List ℕ) → before space words ≡ codes "wake" → NoName (behind space words) → NoStep A words
-no_wake A words e none = record { none = λ s said. no_wake_in words s e none said }
+unsaid : {A : Type 0} (words : List ℕ) (s : Step A) → NoRest A words (order s) → SaysRest words s → ⊥
+unsaid words (step.Happens (event.Issue client instance request)) none s = none.none client instance request s
+unsaid words (step.Happens (event.WhoIs client limits)) none s = none.none client limits s
+unsaid words (step.Happens (event.Tick n)) none s = none.none n s
+unsaid words (step.Happens (event.Wake name)) none s = none.none name s
+unsaid words (step.Happens (event.Deliver item)) none s = none.none item s
+unsaid words (step.Happens (event.Hear network station octets)) none s = none.none network station octets s
+unsaid words (step.Happens (event.Register name)) none s = none.none name s
+unsaid words (step.Happens (event.Restart name)) none s = none.none name s
+unsaid words (step.Flow n) none s = none.none n s
 
-no_deliver_in : {A : Type 0} (words : List ℕ) (s : Step A) → before space words ≡ codes "deliver" → NoUnsigned 64 (behind space words) → SaysStep words s → ⊥
-no_deliver_in words (step.Issue client instance request) e none s = apart (before space words) (codes "issue") (codes "deliver") s.0.kind_is e (λ n. absurd (omega (arith, n)))
-no_deliver_in words (step.WhoIs client limits) e none s = apart (before space words) (codes "whois") (codes "deliver") s.0.kind_is e (λ n. absurd (omega (arith, n)))
-no_deliver_in words (step.Tick n) e none s = apart (before space words) (codes "tick") (codes "deliver") s.0.kind_is e (λ n. absurd (omega (arith, n)))
-no_deliver_in words (step.Wake name) e none s = apart (before space words) (codes "wake") (codes "deliver") s.0.kind_is e (λ n. absurd (omega (arith, n)))
-no_deliver_in words (step.Deliver item) e none s = none.none item s.1
-no_deliver_in words (step.Hear network station octets) e none s = apart (before space words) (codes "hear") (codes "deliver") s.0.kind_is e (λ n. absurd (omega (arith, n)))
-no_deliver_in words (step.Register name) e none s = apart (before space words) (codes "register") (codes "deliver") s.0.kind_is e (λ n. absurd (omega (arith, n)))
-no_deliver_in words (step.Restart name) e none s = apart (before space words) (codes "restart") (codes "deliver") s.0.kind_is e (λ n. absurd (omega (arith, n)))
-no_deliver_in words (step.Flow n) e none s = apart (before space words) (codes "flow") (codes "deliver") s.0.kind_is e (λ n. absurd (omega (arith, n)))
+-- where nothing that may stand behind a word does, no step is said
+no_step : (A : Type 0) (o : Order) (words : List ℕ) → before space words ≡ word_of o →
+    NoRest A (behind space words) o → NoStep A words
+no_step A o words e none = record {
+  none = λ s said.
+      let same : o ≡ order s = sym (known o) ∙ ap (λ (w : List ℕ). known_by w) (sym e ∙ said.0.kind_is ∙ word_is s)
+      ∙ known (order s) in
+      unsaid (behind space words) s (subst (λ (p : Order). NoRest A (behind space words) p) same none) said.1;
+}
 
-pub no_deliver : (A : Type 0) (words : List ℕ) → before space words ≡ codes "deliver" → NoUnsigned 64 (behind space words) → NoStep A words
-no_deliver A words e none = record { none = λ s said. no_deliver_in words s e none said }
+pub no_issue : (A : Type 0) (words : List ℕ) → before space words ≡ codes "issue" → NoIssue A (behind space words) →
+    NoStep A words
+no_issue A words e none = no_step A issue words e none
 
-no_hear_in : {A : Type 0} (words : List ℕ) (s : Step A) → before space words ≡ codes "hear" → NoHear (behind space words) → SaysStep words s → ⊥
-no_hear_in words (step.Issue client instance request) e none s = apart (before space words) (codes "issue") (codes "hear") s.0.kind_is e (λ n. absurd (omega (arith, n)))
-no_hear_in words (step.WhoIs client limits) e none s = apart (before space words) (codes "whois") (codes "hear") s.0.kind_is e (λ n. absurd (omega (arith, n)))
-no_hear_in words (step.Tick n) e none s = apart (before space words) (codes "tick") (codes "hear") s.0.kind_is e (λ n. absurd (omega (arith, n)))
-no_hear_in words (step.Wake name) e none s = apart (before space words) (codes "wake") (codes "hear") s.0.kind_is e (λ n. absurd (omega (arith, n)))
-no_hear_in words (step.Deliver item) e none s = apart (before space words) (codes "deliver") (codes "hear") s.0.kind_is e (λ n. absurd (omega (arith, n)))
-no_hear_in words (step.Hear network station octets) e none s = none.none network station octets s.1
-no_hear_in words (step.Register name) e none s = apart (before space words) (codes "register") (codes "hear") s.0.kind_is e (λ n. absurd (omega (arith, n)))
-no_hear_in words (step.Restart name) e none s = apart (before space words) (codes "restart") (codes "hear") s.0.kind_is e (λ n. absurd (omega (arith, n)))
-no_hear_in words (step.Flow n) e none s = apart (before space words) (codes "flow") (codes "hear") s.0.kind_is e (λ n. absurd (omega (arith, n)))
+pub no_whois : (A : Type 0) (words : List ℕ) → before space words ≡ codes "whois" → NoWhoIs (behind space words) →
+    NoStep A words
+no_whois A words e none = no_step A whois words e none
 
-pub no_hear : (A : Type 0) (words : List ℕ) → before space words ≡ codes "hear" → NoHear (behind space words) → NoStep A words
-no_hear A words e none = record { none = λ s said. no_hear_in words s e none said }
+pub no_tick : (A : Type 0) (words : List ℕ) → before space words ≡ codes "tick" → NoUnsigned 64 (behind space words) →
+    NoStep A words
+no_tick A words e none = no_step A tick words e none
 
-no_register_in : {A : Type 0} (words : List ℕ) (s : Step A) → before space words ≡ codes "register" → NoName (behind space words) → SaysStep words s → ⊥
-no_register_in words (step.Issue client instance request) e none s = apart (before space words) (codes "issue") (codes "register") s.0.kind_is e (λ n. absurd (omega (arith, n)))
-no_register_in words (step.WhoIs client limits) e none s = apart (before space words) (codes "whois") (codes "register") s.0.kind_is e (λ n. absurd (omega (arith, n)))
-no_register_in words (step.Tick n) e none s = apart (before space words) (codes "tick") (codes "register") s.0.kind_is e (λ n. absurd (omega (arith, n)))
-no_register_in words (step.Wake name) e none s = apart (before space words) (codes "wake") (codes "register") s.0.kind_is e (λ n. absurd (omega (arith, n)))
-no_register_in words (step.Deliver item) e none s = apart (before space words) (codes "deliver") (codes "register") s.0.kind_is e (λ n. absurd (omega (arith, n)))
-no_register_in words (step.Hear network station octets) e none s = apart (before space words) (codes "hear") (codes "register") s.0.kind_is e (λ n. absurd (omega (arith, n)))
-no_register_in words (step.Register name) e none s = none.none name s.1
-no_register_in words (step.Restart name) e none s = apart (before space words) (codes "restart") (codes "register") s.0.kind_is e (λ n. absurd (omega (arith, n)))
-no_register_in words (step.Flow n) e none s = apart (before space words) (codes "flow") (codes "register") s.0.kind_is e (λ n. absurd (omega (arith, n)))
+pub no_wake : (A : Type 0) (words : List ℕ) → before space words ≡ codes "wake" → NoName (behind space words) →
+    NoStep A words
+no_wake A words e none = no_step A wake words e none
 
-pub no_register : (A : Type 0) (words : List ℕ) → before space words ≡ codes "register" → NoName (behind space words) → NoStep A words
-no_register A words e none = record { none = λ s said. no_register_in words s e none said }
+pub no_deliver : (A : Type 0) (words : List ℕ) → before space words ≡ codes "deliver" →
+    NoUnsigned 64 (behind space words) → NoStep A words
+no_deliver A words e none = no_step A deliver words e none
 
-no_restart_in : {A : Type 0} (words : List ℕ) (s : Step A) → before space words ≡ codes "restart" → NoName (behind space words) → SaysStep words s → ⊥
-no_restart_in words (step.Issue client instance request) e none s = apart (before space words) (codes "issue") (codes "restart") s.0.kind_is e (λ n. absurd (omega (arith, n)))
-no_restart_in words (step.WhoIs client limits) e none s = apart (before space words) (codes "whois") (codes "restart") s.0.kind_is e (λ n. absurd (omega (arith, n)))
-no_restart_in words (step.Tick n) e none s = apart (before space words) (codes "tick") (codes "restart") s.0.kind_is e (λ n. absurd (omega (arith, n)))
-no_restart_in words (step.Wake name) e none s = apart (before space words) (codes "wake") (codes "restart") s.0.kind_is e (λ n. absurd (omega (arith, n)))
-no_restart_in words (step.Deliver item) e none s = apart (before space words) (codes "deliver") (codes "restart") s.0.kind_is e (λ n. absurd (omega (arith, n)))
-no_restart_in words (step.Hear network station octets) e none s = apart (before space words) (codes "hear") (codes "restart") s.0.kind_is e (λ n. absurd (omega (arith, n)))
-no_restart_in words (step.Register name) e none s = apart (before space words) (codes "register") (codes "restart") s.0.kind_is e (λ n. absurd (omega (arith, n)))
-no_restart_in words (step.Restart name) e none s = none.none name s.1
-no_restart_in words (step.Flow n) e none s = apart (before space words) (codes "flow") (codes "restart") s.0.kind_is e (λ n. absurd (omega (arith, n)))
+pub no_hear : (A : Type 0) (words : List ℕ) → before space words ≡ codes "hear" → NoHear (behind space words) →
+    NoStep A words
+no_hear A words e none = no_step A hear words e none
 
-pub no_restart : (A : Type 0) (words : List ℕ) → before space words ≡ codes "restart" → NoName (behind space words) → NoStep A words
-no_restart A words e none = record { none = λ s said. no_restart_in words s e none said }
+pub no_register : (A : Type 0) (words : List ℕ) → before space words ≡ codes "register" →
+    NoName (behind space words) → NoStep A words
+no_register A words e none = no_step A register words e none
 
-no_flow_in : {A : Type 0} (words : List ℕ) (s : Step A) → before space words ≡ codes "flow" → NoUnsigned 64 (behind space words) → SaysStep words s → ⊥
-no_flow_in words (step.Issue client instance request) e none s = apart (before space words) (codes "issue") (codes "flow") s.0.kind_is e (λ n. absurd (omega (arith, n)))
-no_flow_in words (step.WhoIs client limits) e none s = apart (before space words) (codes "whois") (codes "flow") s.0.kind_is e (λ n. absurd (omega (arith, n)))
-no_flow_in words (step.Tick n) e none s = apart (before space words) (codes "tick") (codes "flow") s.0.kind_is e (λ n. absurd (omega (arith, n)))
-no_flow_in words (step.Wake name) e none s = apart (before space words) (codes "wake") (codes "flow") s.0.kind_is e (λ n. absurd (omega (arith, n)))
-no_flow_in words (step.Deliver item) e none s = apart (before space words) (codes "deliver") (codes "flow") s.0.kind_is e (λ n. absurd (omega (arith, n)))
-no_flow_in words (step.Hear network station octets) e none s = apart (before space words) (codes "hear") (codes "flow") s.0.kind_is e (λ n. absurd (omega (arith, n)))
-no_flow_in words (step.Register name) e none s = apart (before space words) (codes "register") (codes "flow") s.0.kind_is e (λ n. absurd (omega (arith, n)))
-no_flow_in words (step.Restart name) e none s = apart (before space words) (codes "restart") (codes "flow") s.0.kind_is e (λ n. absurd (omega (arith, n)))
-no_flow_in words (step.Flow n) e none s = none.none n s.1
+pub no_restart : (A : Type 0) (words : List ℕ) → before space words ≡ codes "restart" → NoName (behind space words) →
+    NoStep A words
+no_restart A words e none = no_step A restart words e none
 
-pub no_flow : (A : Type 0) (words : List ℕ) → before space words ≡ codes "flow" → NoUnsigned 64 (behind space words) → NoStep A words
-no_flow A words e none = record { none = λ s said. no_flow_in words s e none said }
+pub no_flow : (A : Type 0) (words : List ℕ) → before space words ≡ codes "flow" → NoUnsigned 64 (behind space words) →
+    NoStep A words
+no_flow A words e none = no_step A flow words e none
 
 pub unfit_issue : (A : Type 0) (words : List ℕ) → Has space words → before space words ≡ codes "issue" → SaysUnfitIssue A (behind space words) → SaysUnfitStep A words
 unfit_issue A words parted e h = record {
-  step = step.Issue h.client h.instance h.request;
+  step = step.Happens (event.Issue h.client h.instance h.request);
   said = (record { parted = parted; kind_is = e }, h.said);
   unfit = h.unfit;
 }
@@ -295,18 +300,20 @@ pub record IsNoOrder (word : List ℕ) : Type 0 where
   pub not_restart : word ≢ codes "restart"
   pub not_flow : word ≢ codes "flow"
 
-no_order_in : {A : Type 0} (words : List ℕ) (s : Step A) → IsNoOrder (before space words) → SaysStep words s → ⊥
-no_order_in words (step.Issue client instance request) other s = other.not_issue s.0.kind_is
-no_order_in words (step.WhoIs client limits) other s = other.not_whois s.0.kind_is
-no_order_in words (step.Tick n) other s = other.not_tick s.0.kind_is
-no_order_in words (step.Wake name) other s = other.not_wake s.0.kind_is
-no_order_in words (step.Deliver item) other s = other.not_deliver s.0.kind_is
-no_order_in words (step.Hear network station octets) other s = other.not_hear s.0.kind_is
-no_order_in words (step.Register name) other s = other.not_register s.0.kind_is
-no_order_in words (step.Restart name) other s = other.not_restart s.0.kind_is
-no_order_in words (step.Flow n) other s = other.not_flow s.0.kind_is
+not_ordered : (word : List ℕ) (o : Order) → IsNoOrder word → word ≡ word_of o → ⊥
+not_ordered word issue other e = other.not_issue e
+not_ordered word whois other e = other.not_whois e
+not_ordered word tick other e = other.not_tick e
+not_ordered word wake other e = other.not_wake e
+not_ordered word deliver other e = other.not_deliver e
+not_ordered word hear other e = other.not_hear e
+not_ordered word register other e = other.not_register e
+not_ordered word restart other e = other.not_restart e
+not_ordered word flow other e = other.not_flow e
 
 pub no_order : (A : Type 0) (words : List ℕ) → IsNoOrder (before space words) → NoStep A words
-no_order A words other = record { none = λ s said. no_order_in words s other said }
+no_order A words other = record {
+  none = λ s said. not_ordered (before space words) (order s) other (said.0.kind_is ∙ word_is s);
+}
 
 pub ruleset step_laws = (step_whole, no_order, unfit_issue, no_issue, no_whois, no_tick, no_wake, no_deliver, no_hear, no_register, no_restart, no_flow)

@@ -5,6 +5,8 @@ use Rattle.primitives.specs.declared.plain_data.Request.{Request}
 use Rattle.primitives.specs.Sound.{IsSoundRequest}
 use Rattle.script.specs.declared.step.Step.{Step}
 use Rattle.script.specs.declared.step.Step.TheVariants as step
+use Rattle.site_events.specs.Sound.{IsSoundEvent}
+use Rattle.site_events.specs.declared.event.Event.TheVariants as event
 use Rattle.site_parts.specs.Names.{IsName}
 use Rattle.words.specs.HexText.{SpellsHex}
 use Rattle.words.specs.NoRequests.{HasSingleValues}
@@ -51,26 +53,26 @@ pub record SaysHear (words : List ℕ) (network : ℕ) (station octets : List �
 
 -- the word that a step begins with
 abbrev pub order_of : {A : Type 0} → Step A → List ℕ
-order_of (step.Issue client instance request) = codes "issue"
-order_of (step.WhoIs client limits) = codes "whois"
-order_of (step.Tick n) = codes "tick"
-order_of (step.Wake name) = codes "wake"
-order_of (step.Deliver item) = codes "deliver"
-order_of (step.Hear network station octets) = codes "hear"
-order_of (step.Register name) = codes "register"
-order_of (step.Restart name) = codes "restart"
+order_of (step.Happens (event.Issue client instance request)) = codes "issue"
+order_of (step.Happens (event.WhoIs client limits)) = codes "whois"
+order_of (step.Happens (event.Tick n)) = codes "tick"
+order_of (step.Happens (event.Wake name)) = codes "wake"
+order_of (step.Happens (event.Deliver item)) = codes "deliver"
+order_of (step.Happens (event.Hear network station octets)) = codes "hear"
+order_of (step.Happens (event.Register name)) = codes "register"
+order_of (step.Happens (event.Restart name)) = codes "restart"
 order_of (step.Flow n) = codes "flow"
 
 -- what stands behind that word
 abbrev pub SaysRest : {A : Type 0} → List ℕ → Step A → Type 0
-SaysRest words (step.Issue client instance request) = SaysIssue words client instance request
-SaysRest words (step.WhoIs client limits) = SaysWhoIs words client limits
-SaysRest words (step.Tick n) = SaysUnsigned 64 words n
-SaysRest words (step.Wake name) = SaysName words name
-SaysRest words (step.Deliver item) = SaysUnsigned 64 words item
-SaysRest words (step.Hear network station octets) = SaysHear words network station octets
-SaysRest words (step.Register name) = SaysName words name
-SaysRest words (step.Restart name) = SaysName words name
+SaysRest words (step.Happens (event.Issue client instance request)) = SaysIssue words client instance request
+SaysRest words (step.Happens (event.WhoIs client limits)) = SaysWhoIs words client limits
+SaysRest words (step.Happens (event.Tick n)) = SaysUnsigned 64 words n
+SaysRest words (step.Happens (event.Wake name)) = SaysName words name
+SaysRest words (step.Happens (event.Deliver item)) = SaysUnsigned 64 words item
+SaysRest words (step.Happens (event.Hear network station octets)) = SaysHear words network station octets
+SaysRest words (step.Happens (event.Register name)) = SaysName words name
+SaysRest words (step.Happens (event.Restart name)) = SaysName words name
 SaysRest words (step.Flow n) = SaysUnsigned 64 words n
 
 -- the words say the step
@@ -84,10 +86,10 @@ pub record IsFit {A : Type 0} (request : Request A) : Type 0 where
 
 -- the request of an issue does
 abbrev pub IsFitStep : {A : Type 0} → Step A → Type 0
-IsFitStep (step.Issue client instance request) = IsFit request
+IsFitStep (step.Happens (event.Issue client instance request)) = IsFit request
 IsFitStep s = Unit {0}
 
--- the request of an issue has a spelling, as whoever makes a step has to know (15)
+-- the request of an event has a spelling, as whoever makes a step has to know (15)
 abbrev pub IsSoundStep : {A : Type 0} → Step A → Type 0
-IsSoundStep (step.Issue client instance request) = IsSoundRequest request
-IsSoundStep s = Unit {0}
+IsSoundStep (step.Happens e) = IsSoundEvent e
+IsSoundStep (step.Flow n) = Unit {0}

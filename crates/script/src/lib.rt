@@ -18,4 +18,5 @@ mod step;
 pub use line::step_of;
 pub use numbers::LineNumbers;
 pub use script::{BadScript, script_of};
+pub use site_events::Event;
 pub use step::Step;

@@ -10,6 +10,7 @@ ghost use Rattle.script.specs.NoSteps.{SaysUnfitIssue};
 use crate::step::Step;
 use apdu::Limits;
 use primitives::Request;
+use site_events::Event;
 use site_parts::is_name;
 use std::alloc::Allocator;
 use tags::{Items, Octets};
@@ -31,35 +32,36 @@ pub fn step_of<A: Allocator + Copy>(alloc: A, line: &str) -> Result<Step<A>, Unr
     let Some((order, words)) = line.split_once(' ') else {
         return Err(Unread::Step);
     };
-    match order {
+    let event = match order {
+        "flow" => return Ok(Step::Flow(parse_u64(words)?)),
         "issue" => {
             let (client, instance, request) = issue(alloc, words)?;
-            Ok(Step::Issue {
+            Event::Issue {
                 client,
                 instance,
                 request,
-            })
+            }
         }
         "whois" => {
             let (client, limits) = who_is(alloc, words)?;
-            Ok(Step::WhoIs { client, limits })
+            Event::WhoIs { client, limits }
         }
         "hear" => {
             let (network, station, octets) = hear(alloc, words)?;
-            Ok(Step::Hear {
+            Event::Hear {
                 network,
                 station,
                 octets,
-            })
+            }
         }
-        "tick" => Ok(Step::Tick(parse_u64(words)?)),
-        "flow" => Ok(Step::Flow(parse_u64(words)?)),
-        "deliver" => Ok(Step::Deliver(parse_u64(words)?)),
-        "wake" => Ok(Step::Wake(name(alloc, words)?)),
-        "register" => Ok(Step::Register(name(alloc, words)?)),
-        "restart" => Ok(Step::Restart(name(alloc, words)?)),
-        _ => Err(Unread::Step),
-    }
+        "tick" => Event::Tick(parse_u64(words)?),
+        "deliver" => Event::Deliver(parse_u64(words)?),
+        "wake" => Event::Wake(name(alloc, words)?),
+        "register" => Event::Register(name(alloc, words)?),
+        "restart" => Event::Restart(name(alloc, words)?),
+        _ => return Err(Unread::Step),
+    };
+    Ok(Step::Happens(event))
 }
 
 /// A client, an instance and a request, as `c 10 read 5:1 85`.

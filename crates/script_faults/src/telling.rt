@@ -9,7 +9,7 @@ use crate::layout::layout_fault;
 use crate::step::{offline_fault, step_fault};
 use messages::{Excerpt, Nearest, Report, nearest_in};
 use names::{object_types, properties};
-use script::{BadScript, Step, script_of, step_of};
+use script::{BadScript, Event, Step, script_of, step_of};
 use std::alloc::{AllocError, Allocator};
 use std::io;
 use std::io::{ErrorKind, Write};
@@ -91,13 +91,15 @@ fn are_live<A: Allocator>(steps: &[Step<A>]) -> bool {
 /// Whether a live run takes a step.
 fn is_live<A: Allocator>(step: &Step<A>) -> bool {
     match step {
-        Step::Wake(_) | Step::Deliver(_) | Step::Hear { .. } => false,
-        Step::Issue { .. }
-        | Step::WhoIs { .. }
-        | Step::Tick(_)
-        | Step::Flow(_)
-        | Step::Register(_)
-        | Step::Restart(_) => true,
+        Step::Happens(Event::Wake(_) | Event::Deliver(_) | Event::Hear { .. }) => false,
+        Step::Happens(
+            Event::Issue { .. }
+            | Event::WhoIs { .. }
+            | Event::Tick(_)
+            | Event::Register(_)
+            | Event::Restart(_),
+        ) => true,
+        Step::Flow(_) => true,
     }
 }
 

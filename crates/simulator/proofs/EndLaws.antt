@@ -25,9 +25,9 @@ use Rattle.tags.specs.declared.fault.Fault.{Fault}
 use Rattle.world.proofs.Standing.{some_same}
 use Rattle.world.specs.Step.{AtName, Happens, Steps, Wakes}
 use Rattle.world.specs.World.{WorldState, plain}
-use Rattle.world.specs.declared.event.Event.{Event}
-use Rattle.world.specs.declared.event.Event.TheVariants as event
-use Rattle.world.specs.declared.event.Happening.TheVariants as happening
+use Rattle.world.specs.site_events.declared.event.Event.{Event}
+use Rattle.world.specs.site_events.declared.event.Event.TheVariants as event
+use Rattle.world.specs.declared.happening.Happening.TheVariants as happening
 use Rattle.world.specs.world_log.Growing.{WorldHistory}
 use Rattle.world.specs.world_sites.Finding.{IsNamed}
 use Rattle.world.specs.world_sites.Opening.{object_site}

@@ -8,9 +8,9 @@ use Rattle.simulator.specs.Flows.{IsLess, left_to_tell, ticks_of}
 use Rattle.simulator.specs.declared.flow.Flow.{Flow}
 use Rattle.world.specs.Step.{Steps}
 use Rattle.world.specs.World.{WorldState}
-use Rattle.world.specs.declared.event.Event.{Event}
-use Rattle.world.specs.declared.event.Event.TheVariants as event
-use Rattle.world.specs.declared.event.Happening.TheVariants as happening
+use Rattle.world.specs.site_events.declared.event.Event.{Event}
+use Rattle.world.specs.site_events.declared.event.Event.TheVariants as event
+use Rattle.world.specs.declared.happening.Happening.TheVariants as happening
 
 -- less than this is less than more
 pub less_more : {A : Type 0} (n k : ℕ) (f : Flow) (o : Option (Event A)) → IsLess (n + 2 ^ 64) f o →

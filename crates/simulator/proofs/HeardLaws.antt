@@ -49,10 +49,10 @@ use Rattle.world.proofs.Standing.{some_same}
 use Rattle.world.specs.Hearing.{Hears, TakesEach}
 use Rattle.world.specs.Laws.{Stands}
 use Rattle.world.specs.World.{WorldState, plain}
-use Rattle.world.specs.declared.event.Event.{Event}
-use Rattle.world.specs.declared.event.Event.TheVariants as event
-use Rattle.world.specs.declared.event.Happening.{Happening}
-use Rattle.world.specs.declared.event.Happening.TheVariants as happening
+use Rattle.world.specs.site_events.declared.event.Event.{Event}
+use Rattle.world.specs.site_events.declared.event.Event.TheVariants as event
+use Rattle.world.specs.declared.happening.Happening.{Happening}
+use Rattle.world.specs.declared.happening.Happening.TheVariants as happening
 use Rattle.world.specs.declared.listener.Listener.{Listener}
 use Rattle.world.specs.headline_bacnet.Protocol.{bacnet}
 use Rattle.world.specs.headline_bacnet.Refined.{ObjectSite}

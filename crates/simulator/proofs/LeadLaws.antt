@@ -47,10 +47,10 @@ use Rattle.world.specs.Step.{Asks, Delivers as Delivery, Happens, IsSoundEvent, 
 use Rattle.world.specs.Step.{Steps, Ticks, Wakes}
 use Rattle.world.specs.Step.{addressee_of, deafened, deafened_at, delivered, issued, restart_entry, restarted}
 use Rattle.world.specs.World.{WorldState, frames_on, plain, thing_of, things_of, waits_in}
-use Rattle.world.specs.declared.event.Event.{Event}
-use Rattle.world.specs.declared.event.Event.TheVariants as event
-use Rattle.world.specs.declared.event.Happening.{Happening}
-use Rattle.world.specs.declared.event.Happening.TheVariants as happening
+use Rattle.world.specs.site_events.declared.event.Event.{Event}
+use Rattle.world.specs.site_events.declared.event.Event.TheVariants as event
+use Rattle.world.specs.declared.happening.Happening.{Happening}
+use Rattle.world.specs.declared.happening.Happening.TheVariants as happening
 use Rattle.world.specs.headline_bacnet.Refined.{ObjectSite}
 use Rattle.world.specs.world_sites.Nodes.{clients_of, devices_of}
 use Rattle.world.specs.world_sites.Opening.{object_site}

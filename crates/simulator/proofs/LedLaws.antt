@@ -27,9 +27,9 @@ use Rattle.world.specs.Refusals.{Comes, IsRefused}
 use Rattle.world.specs.Step as step
 use Rattle.world.specs.Step.{IsSoundEvent, Steps}
 use Rattle.world.specs.World.{WorldState, plain}
-use Rattle.world.specs.declared.event.Event.{Event}
-use Rattle.world.specs.declared.event.Happening.{Happening}
-use Rattle.world.specs.declared.event.Happening.TheVariants as happening
+use Rattle.world.specs.site_events.declared.event.Event.{Event}
+use Rattle.world.specs.declared.happening.Happening.{Happening}
+use Rattle.world.specs.declared.happening.Happening.TheVariants as happening
 use Rattle.world.specs.declared.listener.Listener.{Listener}
 use Rattle.world.specs.headline_bacnet.Protocol.{bacnet}
 use Rattle.world.specs.world_log.Growing.{WorldHistory}

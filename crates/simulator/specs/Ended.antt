@@ -9,8 +9,8 @@ use Rattle.world.specs.client.Client.{ClientState}
 use Rattle.world.specs.site_node.Node.{NodeState, home_of}
 use Rattle.world.specs.site_node.declared.part.Part.TheVariants.{Client}
 use Rattle.world.specs.World.{WorldState}
-use Rattle.world.specs.declared.event.Event.{Event}
-use Rattle.world.specs.declared.event.Event.TheVariants as event
+use Rattle.world.specs.site_events.declared.event.Event.{Event}
+use Rattle.world.specs.site_events.declared.event.Event.TheVariants as event
 use Rattle.world.specs.world_sites.Finding.{IsNamed}
 
 -- once the client of a name has woken, each of its issues that is DEADLINE_MS old was answered or ended, once, whatever

@@ -4,8 +4,8 @@ use Rattle.bus_traffic.specs.declared.telling.Telling.{Telling}
 use Rattle.simulator.specs.declared.flow.Flow.{Flow}
 use Rattle.simulator.specs.declared.flow.Part.{Part}
 use Rattle.simulator.specs.declared.flow.Part.TheVariants.{Ticks, Delivers, Wakes}
-use Rattle.world.specs.declared.event.Event.{Event}
-use Rattle.world.specs.declared.event.Event.TheVariants as event
+use Rattle.world.specs.site_events.declared.event.Event.{Event}
+use Rattle.world.specs.site_events.declared.event.Event.TheVariants as event
 
 -- an event of a flow: a millisecond passes, what was put out is delivered or heard, or a station wakes
 abbrev pub IsOfFlow : {A : Type 0} → Event A → Type 0

@@ -22,10 +22,10 @@ use Rattle.unitdata.specs.Hearing.{Brings, Heard, says}
 use Rattle.world.specs.Hearing.{Hears, TakesEach}
 use Rattle.world.specs.Step.{Delivers, HasName, Wakes}
 use Rattle.world.specs.World.{WorldState, plain}
-use Rattle.world.specs.declared.event.Event.{Event}
-use Rattle.world.specs.declared.event.Event.TheVariants as event
-use Rattle.world.specs.declared.event.Happening.{Happening}
-use Rattle.world.specs.declared.event.Happening.TheVariants as happening
+use Rattle.world.specs.site_events.declared.event.Event.{Event}
+use Rattle.world.specs.site_events.declared.event.Event.TheVariants as event
+use Rattle.world.specs.declared.happening.Happening.{Happening}
+use Rattle.world.specs.declared.happening.Happening.TheVariants as happening
 use Rattle.world.specs.declared.listener.Listener.{Listener}
 
 -- what comes up to a part was said, octet for octet, by the station that is named as its source, for a destination that

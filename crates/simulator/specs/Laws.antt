@@ -6,8 +6,8 @@ use Rattle.headline.specs.Protocol.{IsSite}
 use Rattle.world.specs.Laws.{Stands}
 use Rattle.world.specs.Step.{Happens, IsSoundEvent, IsSoundHappening, Steps}
 use Rattle.world.specs.World.{WorldState, plain}
-use Rattle.world.specs.declared.event.Event.{Event}
-use Rattle.world.specs.declared.event.Happening.{Happening}
+use Rattle.world.specs.site_events.declared.event.Event.{Event}
+use Rattle.world.specs.declared.happening.Happening.{Happening}
 use Rattle.world.specs.headline_bacnet.Protocol.{bacnet}
 use Rattle.world.specs.world_sites.Laws.{OpenAs}
 use Rattle.world.specs.world_sites.Opening.{devices_in, object_site}

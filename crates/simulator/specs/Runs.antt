@@ -4,7 +4,7 @@ use Rattle.simulator.specs.Heard.{HasBrought}
 use Rattle.world.specs.site_ports.Ports.{Then}
 use Rattle.world.specs.Refusals.{Comes}
 use Rattle.world.specs.World.{WorldState}
-use Rattle.world.specs.declared.event.Event.{Event}
+use Rattle.world.specs.site_events.declared.event.Event.{Event}
 
 -- an event leaves what it leaves, or is refused; and what is heard by it was said, what is executed was issued, what is
 -- told is of its issue, and what comes whole is the whole of one

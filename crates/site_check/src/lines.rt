@@ -4,7 +4,7 @@ ghost use Rattle.std.specs.Prelude.{IfOk};
 ghost use Rattle.site_check.specs.Judged.{AreStepsIfAny};
 
 use crate::told::{Told, tell};
-use script::{BadScript, Step, script_of};
+use script::{BadScript, Event, Step, script_of};
 use site_parts::Parts;
 use std::alloc::Allocator;
 use std::io;
@@ -69,10 +69,13 @@ fn tell_step<A: Allocator, W: Write>(
     parts: &Parts<A>,
     out: &mut W,
 ) -> io::Result<()> {
-    let name = match step {
-        Step::Issue { client, .. } | Step::WhoIs { client, .. } => client,
-        Step::Wake(name) | Step::Register(name) | Step::Restart(name) => name,
-        Step::Hear {
+    let Step::Happens(event) = step else {
+        return Ok(());
+    };
+    let name = match event {
+        Event::Issue { client, .. } | Event::WhoIs { client, .. } => client,
+        Event::Wake(name) | Event::Register(name) | Event::Restart(name) => name,
+        Event::Hear {
             network,
             station,
             ..
@@ -80,7 +83,7 @@ fn tell_step<A: Allocator, W: Write>(
             tell_network(number, *network, parts, out)?;
             station
         }
-        Step::Tick(_) | Step::Deliver(_) | Step::Flow(_) => return Ok(()),
+        Event::Tick(_) | Event::Deliver(_) => return Ok(()),
     };
     tell_name(number, name.as_slice(), parts, out)
 }

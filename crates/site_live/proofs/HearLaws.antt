@@ -4,7 +4,7 @@ use Rattle.runner.proofs.HearingLaws.{next_less, passed_less}
 use Rattle.runner.specs.Hearing.{HearsNext, IsNextHear}
 use Rattle.runner.specs.declared.hearing.Heard.{Heard}
 use Rattle.runner.specs.world.World.{WorldState}
-use Rattle.runner.specs.world.declared.event.Event.{Event}
+use Rattle.runner.specs.world.site_events.declared.event.Event.{Event}
 use Rattle.runner.specs.Runner.{RunnerState}
 use Rattle.site_history.specs.Printed.{Known, refused_text}
 use Rattle.site_live.proofs.LiveLaws.{lives_none, lives_on, memory_refused, one_refusal}

@@ -7,7 +7,7 @@ use Rattle.std.specs.Io.KnownBytes.{Appends}
 use Rattle.profile.specs.Times.{MAX_TICK_MS}
 use Rattle.runner.specs.world.Step.{IsSoundIfAny}
 use Rattle.runner.specs.world.World.{WorldState}
-use Rattle.runner.specs.world.declared.event.Event.{Event}
+use Rattle.runner.specs.world.site_events.declared.event.Event.{Event}
 use Rattle.runner.proofs.TurnLaws.{turns_lead}
 use Rattle.runner.specs.Laws.{Turn, Turns}
 use Rattle.runner.specs.Runner.{RunnerState}
@@ -17,8 +17,8 @@ use Rattle.site_live.specs.Printed.{turn_text}
 use Rattle.site_live.specs.Running.{AreEventsIfLed, Cause, IsThere, IsToldOf, Lives, PrintsNothing, PrintsTurns, asked_among, asked_for, cause_text, has_no_time, wants_memory}
 use Rattle.site_live.specs.Runs.{IsLegalIfLed, PrintsLiveRun, begun}
 use Rattle.site_live.specs.Steps.{IsNoTime, asked_at, asked_in, asked_of, refused_at}
-use Rattle.site_live.specs.declared.step.LiveStep.{LiveStep}
-use Rattle.site_live.specs.declared.step.LiveStep.TheVariants.{Passes}
+use Rattle.script.specs.declared.step.Step.{Step}
+use Rattle.script.specs.declared.step.Step.TheVariants.{Flow}
 use Rattle.site_history.specs.Asked.{Asked, refused_time_text}
 use Rattle.site_history.specs.Counting.{counts_of}
 use Rattle.site_history.specs.Printed.{Known, end_text, line, refused_text}
@@ -34,7 +34,7 @@ none_left (x ∷ xs) e = absurd (omega (arith, e))
 
 module _ {A : Type 0} where
   -- a time that doesn't pass for a step is refused, and no other
-  none_refused : (n : ℕ) → IsNoTime n → refused_at {A = A} n ≡ Passes n ∷ []
+  none_refused : (n : ℕ) → IsNoTime n → refused_at {A = A} n ≡ Flow n ∷ []
   none_refused n none = elim none [
     | inl few ↦ grind (arith, common_steps)
     | inr many ↦ grind (arith, common_steps)
@@ -58,10 +58,10 @@ module _ {A : Type 0} where
   among_both : (ts us : List (Result (Turn A) Cause)) → asked_among (ts ++ us) ≡ asked_among ts ++ asked_among us
   among_both [] us = refl
   among_both (Ok t ∷ ts) us =
-      ap (λ (l : List (LiveStep A)). asked_in t.next ++ l) (among_both ts us)
+      ap (λ (l : List (Step A)). asked_in t.next ++ l) (among_both ts us)
       ∙ sym (append_assoc (asked_in t.next) (asked_among ts) (asked_among us))
   among_both (Err c ∷ ts) us =
-      ap (λ (l : List (LiveStep A)). asked_for c ++ l) (among_both ts us)
+      ap (λ (l : List (Step A)). asked_for c ++ l) (among_both ts us)
       ∙ sym (append_assoc (asked_for c) (asked_among ts) (asked_among us))
 
   -- a refusal is printed, and nothing else
@@ -105,13 +105,13 @@ module _ {A : Type 0} {spelling : Spelling} where
   lives_none r k = record { turns = []; printed = (refl, refl); just_these = refl }
 
   -- some turns, and others
-  pub lives_both : (es fs : List (LiveStep A)) (old mid new : RunnerState A) (before at after : Known) →
+  pub lives_both : (es fs : List (Step A)) (old mid new : RunnerState A) (before at after : Known) →
       Lives spelling es old mid before at → Lives spelling fs mid new at after → Lives spelling (es ++ fs) old new before after
   lives_both es fs old mid new before at after p q = record {
     turns = p.turns ++ q.turns;
     printed = join spelling p.turns q.turns old mid new before at after p.printed q.printed;
-    just_these = among_both p.turns q.turns ∙ ap (λ (l : List (LiveStep A)). l ++ asked_among q.turns) p.just_these
-        ∙ ap (λ (l : List (LiveStep A)). es ++ l) q.just_these;
+    just_these = among_both p.turns q.turns ∙ ap (λ (l : List (Step A)). l ++ asked_among q.turns) p.just_these
+        ∙ ap (λ (l : List (Step A)). es ++ l) q.just_these;
   }
 
   -- some turns that nobody asked for, and others
@@ -120,7 +120,7 @@ module _ {A : Type 0} {spelling : Spelling} where
   lives_on old mid new before at after p q = lives_both [] [] old mid new before at after p q
 
   -- a step before others
-  pub step_before : (s : LiveStep A) (ss : List (LiveStep A)) (old mid new : RunnerState A) (before at after : Known) →
+  pub step_before : (s : Step A) (ss : List (Step A)) (old mid new : RunnerState A) (before at after : Known) →
       Lives spelling (asked_at s) old mid before at → Lives spelling (asked_of ss) mid new at after →
       Lives spelling (asked_of (s ∷ ss)) old new before after
   step_before s ss old mid new before at after p q =
@@ -172,35 +172,35 @@ module _ {A : Type 0} {spelling : Spelling} where
   -- .. and a time that doesn't pass for a step
   pub time_refused : (n : ℕ) (l : Option ℕ) (old new : RunnerState A) (before after : Known) → IsNoTime n →
       PrintsNothing (refused_time_text spelling l n NoSuch old.world.moment) old new before after →
-      Lives spelling (asked_at (Passes n)) old new before after
+      Lives spelling (asked_at (Flow n)) old new before after
   time_refused n l old new before after none p =
-      subst (λ (l : List (LiveStep A)). Lives spelling l old new before after) (sym (none_refused n none))
+      subst (λ (l : List (Step A)). Lives spelling l old new before after) (sym (none_refused n none))
       (one_refusal (has_no_time n) l old new before after none p)
 
   -- another passes
   pub time_passes : (n : ℕ) (old new : RunnerState A) (before after : Known) → 1 ≤ n → n ≤ MAX_TICK_MS →
-      Lives spelling [] old new before after → Lives spelling (asked_at (Passes n)) old new before after
+      Lives spelling [] old new before after → Lives spelling (asked_at (Flow n)) old new before after
   time_passes n old new before after least most p =
-      subst (λ (l : List (LiveStep A)). Lives spelling l old new before after) (sym (time_unrefused n least most)) p
+      subst (λ (l : List (Step A)). Lives spelling l old new before after) (sym (time_unrefused n least most)) p
 
   -- what they leave is what events leave
-  pub lives_led : (es : List (LiveStep A)) (old new : RunnerState A) (before after : Known) →
+  pub lives_led : (es : List (Step A)) (old new : RunnerState A) (before after : Known) →
       Lives spelling es old new before after → AreEventsIfLed old new
   lives_led es old new before after p led =
       let all = are_turns spelling p.turns old new before after p.printed in
       turns_lead (taken p.turns) old new (all.0) (all.1) led
 
   -- some turns, those that were asked for, and some more
-  pub three_times : {T E : Type 0} (r : Result T E) (es : List (LiveStep A)) (old mid next new : RunnerState A)
+  pub three_times : {T E : Type 0} (r : Result T E) (es : List (Step A)) (old mid next new : RunnerState A)
       (k0 k1 k2 k3 : Known) → Lives spelling [] old mid k0 k1 → Lives spelling es mid next k1 k2 → OnOk r (Lives spelling [] next new k2 k3) →
       OnOk r (Lives spelling es old new k0 k3)
   three_times (Ok x) es old mid next new k0 k1 k2 k3 p q s =
-      subst (λ (l : List (LiveStep A)). Lives spelling l old new k0 k3) (append-nil es)
+      subst (λ (l : List (Step A)). Lives spelling l old new k0 k3) (append-nil es)
       (lives_both es [] old next new k0 k2 k3 (lives_both [] es old mid next k0 k1 k2 p q) s)
   three_times (Err e) es old mid next new k0 k1 k2 k3 p q s = tt
 
   -- the end of a run is printed
-  pub run_printed : {T E : Type 0} (r : Result T E) (is_open : Bool) (steps : List (LiveStep A)) (fresh : WorldState A)
+  pub run_printed : {T E : Type 0} (r : Result T E) (is_open : Bool) (steps : List (Step A)) (fresh : WorldState A)
       (first left last : RunnerState A) (before at after : Known) → first ≡ begun is_open fresh → last ≡ left →
       Lives spelling (asked_of steps) first left before at → AreEventsIfLed first left →
       OnOk r (Appends at after (line (end_text (counts_of last.world.history) last.world.moment))) → IsLegalIfLed last →
@@ -231,7 +231,7 @@ module _ {A : Type 0} where
   told_turn (Err e) spelling next asked told latest answer entries first old new before after begins sound may turned count is p = tt
 
   -- what they leave is what events leave
-  pub led_on_ok : {T E : Type 0} (spelling : Spelling) (r : Result T E) (es : List (LiveStep A)) (old new : RunnerState A)
+  pub led_on_ok : {T E : Type 0} (spelling : Spelling) (r : Result T E) (es : List (Step A)) (old new : RunnerState A)
       (before after : Known) → OnOk r (Lives spelling es old new before after) → OnOk r (AreEventsIfLed old new)
   led_on_ok spelling (Ok x) es old new before after p = lives_led es old new before after p
   led_on_ok spelling (Err e) es old new before after p = tt

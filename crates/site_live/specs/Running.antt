@@ -3,7 +3,7 @@ use Rattle.std.specs.Prelude.{◌≡◌, ◌++◌, ℕ, true, List, [], ◌∷�
 use Rattle.std.specs.Io.KnownBytes.{Appends}
 use Rattle.runner.specs.world.Step.{IsSoundIfAny}
 use Rattle.runner.specs.world.World.{WorldState}
-use Rattle.runner.specs.world.declared.event.Event.{Event}
+use Rattle.runner.specs.world.site_events.declared.event.Event.{Event}
 use Rattle.runner.specs.Hearing.{MeetsNobody}
 use Rattle.runner.specs.Laws.{AreEvents, Turn}
 use Rattle.runner.specs.Runner.{RunnerState}
@@ -13,8 +13,8 @@ use Rattle.site_history.specs.Asked.{Asked, asked_in_line, refused_time_text}
 use Rattle.site_history.specs.Printed.{Known, line, refused_text}
 use Rattle.site_live.specs.Printed.{turn_text}
 use Rattle.site_live.specs.Steps.{IsNoTime, asked_in}
-use Rattle.site_live.specs.declared.step.LiveStep.{LiveStep}
-use Rattle.site_live.specs.declared.step.LiveStep.TheVariants.{Passes}
+use Rattle.script.specs.declared.step.Step.{Step}
+use Rattle.script.specs.declared.step.Step.TheVariants.{Flow}
 use Rattle.tags.specs.declared.fault.Fault.TheVariants.{Memory, NoSuch}
 use Rattle.words.specs.printing.declared.spelling.Spelling.{Spelling}
 use Rattle.words.specs.printing.declared.spelling.Spelling.TheVariants.{Names}
@@ -97,20 +97,20 @@ PrintsTurns s (t ∷ ts) old new before after =
     Then (λ r at. PrintsOne s t old r before at) (λ r at. PrintsTurns s ts r new at after)
 
 -- the step that is refused for this cause, if it is one of a script
-abbrev pub asked_for : {A : Type 0} → Cause → List (LiveStep A)
+abbrev pub asked_for : {A : Type 0} → Cause → List (Step A)
 asked_for wants_memory = []
 asked_for meets_nobody = []
-asked_for (has_no_time n) = Passes n ∷ []
+asked_for (has_no_time n) = Flow n ∷ []
 
 -- the steps that a live run takes or refuses only where its script asks for them, in their order
-abbrev pub asked_among : {A : Type 0} → List (Result (Turn A) Cause) → List (LiveStep A)
+abbrev pub asked_among : {A : Type 0} → List (Result (Turn A) Cause) → List (Step A)
 asked_among [] = []
 asked_among (Ok t ∷ ts) = asked_in t.next ++ asked_among ts
 asked_among (Err c ∷ ts) = asked_for c ++ asked_among ts
 
 -- turns were taken or not, one after another, each is printed, and nothing else; just these steps among them were asked
 -- for
-pub record Lives {A : Type 0} (s : Spelling) (asked : List (LiveStep A)) (old new : RunnerState A)
+pub record Lives {A : Type 0} (s : Spelling) (asked : List (Step A)) (old new : RunnerState A)
     (before after : Known) : Type 0 where
   pub turns : List (Result (Turn A) Cause)
   pub printed : PrintsTurns s turns old new before after

@@ -12,7 +12,7 @@ use Rattle.site_history.specs.Counting.{counts_of}
 use Rattle.site_history.specs.Printed.{Known, end_text, line}
 use Rattle.site_live.specs.Running.{AreEventsIfLed, Lives}
 use Rattle.site_live.specs.Steps.{SaysLive, asked_of}
-use Rattle.site_live.specs.declared.step.LiveStep.{LiveStep}
+use Rattle.script.specs.declared.step.Step.{Step}
 use Rattle.words.specs.printing.declared.spelling.Spelling.{Spelling}
 
 -- a world opens at the site that a document describes
@@ -33,7 +33,7 @@ IsLegalIfLed r = r.is_led ≡ true → IsLegal (instances_of r.world.site) r.wor
 -- turns were taken from a world on, with just the requests, Who-Is and restarts that the steps ask for, in their order,
 -- and just those of their times refused that can't pass; each is printed, and at last what there was of all; as long as
 -- no stray was heard, what they leave is what events leave, and the history that was printed is legal
-pub record PrintsLiveRun {A : Type 0} (s : Spelling) (is_open : Bool) (steps : List (LiveStep A)) (fresh : WorldState A)
+pub record PrintsLiveRun {A : Type 0} (s : Spelling) (is_open : Bool) (steps : List (Step A)) (fresh : WorldState A)
     (old new : Known) : Type 0 where
   pub left : RunnerState A
   pub at_end : Known
@@ -45,7 +45,7 @@ pub record PrintsLiveRun {A : Type 0} (s : Spelling) (is_open : Bool) (steps : L
 -- the texts are those of a sound site and of a script, which was run live there
 pub record RunsLive (A : Type 0) (s : Spelling) (is_open : Bool) (site script : List ℕ) (old new : Known) : Type 0 where
   pub fresh : WorldState A
-  pub steps : List (LiveStep A)
+  pub steps : List (Step A)
   pub opened : IsOpened site fresh
   pub said : SaysLive script steps
   pub run : PrintsLiveRun s is_open steps fresh old new

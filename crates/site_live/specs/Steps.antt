@@ -2,55 +2,47 @@
 use Rattle.std.specs.Prelude.{◌≡◌, ◌⊎◌, ◌<◌, ℕ, List, [], ◌∷◌, ◌++◌, Option, None, Some, ◌||◌, nat_lt}
 use Rattle.std.specs.Prelude.{if◌then◌else◌}
 use Rattle.profile.specs.Times.{MAX_TICK_MS}
-use Rattle.runner.specs.world.Step.{IsSoundEvent}
-use Rattle.runner.specs.world.declared.event.Event.{Event}
-use Rattle.runner.specs.world.declared.event.Event.TheVariants as event
+use Rattle.runner.specs.world.site_events.declared.event.Event.{Event}
+use Rattle.runner.specs.world.site_events.declared.event.Event.TheVariants as event
 use Rattle.script.specs.Lines.{SaysSteps}
 use Rattle.script.specs.declared.step.Step.{Step}
 use Rattle.script.specs.declared.step.Step.TheVariants as step
-use Rattle.site_live.specs.declared.step.LiveStep.{LiveStep}
-use Rattle.site_live.specs.declared.step.LiveStep.TheVariants.{Happens, Passes}
 
 -- a step as a live run takes it: the events that it makes of itself, a script can't ask for
-abbrev pub IsLive : {A : Type 0} → Step A → LiveStep A → Type 0
-IsLive (step.Issue client instance request) s = s ≡ Happens (event.Issue client instance request)
-IsLive (step.WhoIs client limits) s = s ≡ Happens (event.WhoIs client limits)
-IsLive (step.Register station) s = s ≡ Happens (event.Register station)
-IsLive (step.Restart station) s = s ≡ Happens (event.Restart station)
-IsLive (step.Tick n) s = s ≡ Passes n
-IsLive (step.Flow n) s = s ≡ Passes n
-IsLive (step.Wake station) s = ⊥
-IsLive (step.Deliver number) s = ⊥
-IsLive (step.Hear network station octets) s = ⊥
+abbrev pub IsLive : {A : Type 0} → Step A → Step A → Type 0
+IsLive (step.Happens (event.Issue client instance request)) s = s ≡ step.Happens (event.Issue client instance request)
+IsLive (step.Happens (event.WhoIs client limits)) s = s ≡ step.Happens (event.WhoIs client limits)
+IsLive (step.Happens (event.Register station)) s = s ≡ step.Happens (event.Register station)
+IsLive (step.Happens (event.Restart station)) s = s ≡ step.Happens (event.Restart station)
+IsLive (step.Happens (event.Tick n)) s = s ≡ step.Flow n
+IsLive (step.Flow n) s = s ≡ step.Flow n
+IsLive (step.Happens (event.Wake station)) s = ⊥
+IsLive (step.Happens (event.Deliver number)) s = ⊥
+IsLive (step.Happens (event.Hear network station octets)) s = ⊥
 
--- the request of an event has a spelling
-abbrev pub IsSoundLiveStep : {A : Type 0} → LiveStep A → Type 0
-IsSoundLiveStep (Happens e) = IsSoundEvent e
-IsSoundLiveStep (Passes n) = Unit {0}
-
--- so does each of these steps, in their order
-abbrev pub AreLive : {A : Type 0} → List (Step A) → List (LiveStep A) → Type 0
+-- so is each of these steps, in their order
+abbrev pub AreLive : {A : Type 0} → List (Step A) → List (Step A) → Type 0
 AreLive [] [] = Unit {0}
 AreLive [] (s ∷ ss) = ⊥
 AreLive (l ∷ ls) [] = ⊥
 AreLive (l ∷ ls) (s ∷ ss) = IsLive l s × AreLive ls ss
 
 -- the text is a script that asks for these steps
-pub record SaysLive {A : Type 0} (script : List ℕ) (steps : List (LiveStep A)) : Type 0 where
+pub record SaysLive {A : Type 0} (script : List ℕ) (steps : List (Step A)) : Type 0 where
   pub said : List (Step A)
   pub says : SaysSteps script said
   pub live : AreLive said steps
 
 -- an event that a live run makes only where its script asks for it: a request, a Who-Is or a restart (5.4.4, 16.4,
 -- 16.10). Time passes, stations wake, hear and register besides
-abbrev pub asked_by : {A : Type 0} → Event A → List (LiveStep A)
-asked_by (event.Issue client instance request) = Happens (event.Issue client instance request) ∷ []
-asked_by (event.WhoIs client limits) = Happens (event.WhoIs client limits) ∷ []
-asked_by (event.Restart name) = Happens (event.Restart name) ∷ []
+abbrev pub asked_by : {A : Type 0} → Event A → List (Step A)
+asked_by (event.Issue client instance request) = step.Happens (event.Issue client instance request) ∷ []
+asked_by (event.WhoIs client limits) = step.Happens (event.WhoIs client limits) ∷ []
+asked_by (event.Restart name) = step.Happens (event.Restart name) ∷ []
 asked_by e = []
 
 -- .. if there is one
-abbrev pub asked_in : {A : Type 0} → Option (Event A) → List (LiveStep A)
+abbrev pub asked_in : {A : Type 0} → Option (Event A) → List (Step A)
 asked_in (Some e) = asked_by e
 asked_in None = []
 
@@ -59,15 +51,15 @@ abbrev pub IsNoTime : ℕ → Type 0
 IsNoTime n = (n < 1) ⊎ (MAX_TICK_MS < n)
 
 -- .. which a live run refuses only where its script asks for them
-abbrev pub refused_at : {A : Type 0} → ℕ → List (LiveStep A)
-refused_at n = if nat_lt n 1 || nat_lt MAX_TICK_MS n then Passes n ∷ [] else []
+abbrev pub refused_at : {A : Type 0} → ℕ → List (Step A)
+refused_at n = if nat_lt n 1 || nat_lt MAX_TICK_MS n then step.Flow n ∷ [] else []
 
 -- a step that a live run takes or refuses only where its script asks for it
-abbrev pub asked_at : {A : Type 0} → LiveStep A → List (LiveStep A)
-asked_at (Happens e) = asked_by e
-asked_at (Passes n) = refused_at n
+abbrev pub asked_at : {A : Type 0} → Step A → List (Step A)
+asked_at (step.Happens e) = asked_by e
+asked_at (step.Flow n) = refused_at n
 
 -- those among steps, in their order
-abbrev pub asked_of : {A : Type 0} → List (LiveStep A) → List (LiveStep A)
+abbrev pub asked_of : {A : Type 0} → List (Step A) → List (Step A)
 asked_of [] = []
 asked_of (s ∷ ss) = asked_at s ++ asked_of ss

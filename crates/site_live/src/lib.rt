@@ -7,7 +7,7 @@
 //! is legal. Which events come, and when, is the network's and the clock's to say.
 //!
 //! - `timer`: what tells the time.
-//! - `step`: what a line of a script asks of a live run.
+//! - `step`: a step of a script as a live run takes it.
 //! - `reading`: the lines of a script.
 //! - `turning`: a turn, and what is printed of it.
 //! - `observer`: who looks on at a live run, as a capture does.
@@ -29,7 +29,6 @@ pub use reading::live_steps_of;
 pub use runner::Internetwork;
 pub use running::{Ending, Opened, Settings, open, run, run_over_udp, run_over_udp_observed};
 pub use site_history::{Stop, say_stop};
-pub use step::LiveStep;
 pub use timer::{SystemTimer, Timer};
 pub use wire::Got;
 pub use words::Spelling;

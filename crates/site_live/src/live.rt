@@ -4,11 +4,11 @@ ghost use Rattle.std.specs.Prelude.{◌≡◌, OnOk};
 ghost use Rattle.runner.specs.world.Step.{IsSoundIfAny};
 
 use crate::observer::Observer;
-use crate::step::LiveStep;
 use crate::timer::Timer;
 use crate::turning::print_turn;
 use profile::MAX_TICK_MS;
 use runner::{Event, Heard, Internetwork, Runner, World, next_hear};
+use script::Step;
 use site_history::{AskedFor, print_refusal, print_refused_time};
 use std::alloc::{AllocError, Allocator};
 use std::io;
@@ -82,7 +82,8 @@ impl<W: Wire + Drop, T: Timer + Drop, S: Observer<A> + Drop, A: Allocator + Copy
     ghost use Rattle.site_history.specs.Asked.{refused_time_text};
     ghost use Rattle.site_history.specs.Printed.{refused_text};
     ghost use Rattle.site_live.specs.Running.{IsToldOf, Lives, PrintsNothing};
-    ghost use Rattle.site_live.specs.Steps.{IsSoundLiveStep, asked_at, asked_by, asked_in};
+    ghost use Rattle.script.specs.Steps.{IsSoundStep};
+    ghost use Rattle.site_live.specs.Steps.{asked_at, asked_by, asked_in};
 
     /// A world at a wire, which is open or not. The clock begins with it, and the observer sees each turn.
     ///
@@ -410,18 +411,18 @@ impl<W: Wire + Drop, T: Timer + Drop, S: Observer<A> + Drop, A: Allocator + Copy
     #[tactic(auto, using(crate::proofs::LiveLaws::live_laws))]
     pub fn take_step<O: Write>(
         &mut self,
-        step: LiveStep<A>,
+        step: Step<A>,
         script_line: Option<u64>,
         spelling: Spelling,
         out: &mut O,
     ) -> io::Result<()>
-        requires sound { IsSoundLiveStep step }
+        requires sound { IsSoundStep step }
         ensures lives { OnOk result
             (Lives spelling (asked_at step) self.old self.new (O.contents out.old) (O.contents out.new)) }
     {
         match step {
-            LiveStep::Happens(event) => self.take_asked(event, script_line, spelling, out),
-            LiveStep::Passes(n) => {
+            Step::Happens(event) => self.take_asked(event, script_line, spelling, out),
+            Step::Flow(n) => {
                 if n == 0 || n > MAX_TICK_MS {
                     return self.refuse_time(n, script_line, spelling, out);
                 }

@@ -4,9 +4,9 @@ ghost use Rattle.std.specs.Prelude.{◌≤◌, IfOk, IfSome, length, option_map}
 ghost use Rattle.std.specs.List.{AllByRecursion};
 ghost use Rattle.script.specs.Lines.{size_left};
 ghost use Rattle.script.specs.Steps.{IsSoundStep};
-ghost use Rattle.site_live.specs.Steps.{AreLive, IsSoundLiveStep, SaysLive};
+ghost use Rattle.site_live.specs.Steps.{AreLive, SaysLive};
 
-use crate::step::{LiveStep, live_step};
+use crate::step::live_step;
 use script::{BadScript, Step, script_of};
 use std::alloc::{AllocError, Allocator};
 use tags::Items;
@@ -20,9 +20,9 @@ use words::Unread;
 pub fn live_steps_of<A: Allocator + Copy>(
     alloc: A,
     text: &[u8],
-) -> Result<Items<LiveStep<A>, A>, BadScript>
+) -> Result<Items<Step<A>, A>, BadScript>
     ensures said { IfOk result (SaysLive text.now) }
-    ensures sound { IfOk result (λ steps. AllByRecursion IsSoundLiveStep steps) }
+    ensures sound { IfOk result (λ steps. AllByRecursion IsSoundStep steps) }
 {
     match script_of(alloc, text) {
         Ok(said) => match all_live(alloc, said) {
@@ -40,10 +40,10 @@ pub fn live_steps_of<A: Allocator + Copy>(
 fn all_live<A: Allocator + Copy>(
     alloc: A,
     said: Items<Step<A>, A>,
-) -> Result<Option<Items<LiveStep<A>, A>>, AllocError>
+) -> Result<Option<Items<Step<A>, A>>, AllocError>
     requires sound { AllByRecursion IsSoundStep said }
     ensures live { IfOk result (λ o. IfSome o (AreLive said)) }
-    ensures sound { IfOk result (λ o. IfSome o (λ steps. AllByRecursion IsSoundLiveStep steps)) }
+    ensures sound { IfOk result (λ o. IfSome o (λ steps. AllByRecursion IsSoundStep steps)) }
 {
     let mut steps = Items::new(alloc);
     for step in said.into_vec() {

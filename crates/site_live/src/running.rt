@@ -5,20 +5,20 @@ ghost use Rattle.std.specs.Io.KnownBytes.{Appends};
 ghost use Rattle.std.specs.List.{AllByRecursion};
 ghost use Rattle.site_live.specs.Running.{AreEventsIfLed, Lives};
 ghost use Rattle.site_live.specs.Runs.{IsLegalIfLed, IsOpened, PrintsLiveRun, RunsLive, begun};
-ghost use Rattle.site_live.specs.Steps.{IsSoundLiveStep, SaysLive, asked_of};
+ghost use Rattle.script.specs.Steps.{IsSoundStep};
+ghost use Rattle.site_live.specs.Steps.{SaysLive, asked_of};
 ghost use Rattle.site_history.specs.Counting.{counts_of};
 ghost use Rattle.site_history.specs.Printed.{end_text, line};
 
 use crate::live::Live;
 use crate::observer::{Nobody, Observer};
 use crate::reading::live_steps_of;
-use crate::step::LiveStep;
 use crate::timer::{SystemTimer, Timer};
 use bvll::Address;
 use console::{say_failed, say_refused};
 use npdu::Mac;
 use runner::{Runner, World};
-use script::LineNumbers;
+use script::{LineNumbers, Step};
 use site_history::{EndLine, Stop, counted, say_stop};
 use site_parts::Station;
 use site_text::site_of;
@@ -57,7 +57,7 @@ pub struct Settings {
 /// world is closed.
 pub struct Opened<'s, A: Allocator + Copy> {
     pub world: World<A>,
-    pub steps: Items<LiveStep<A>, A>,
+    pub steps: Items<Step<A>, A>,
     /// The numbers of the lines that ask for the steps.
     pub lines: LineNumbers<'s>,
     pub addresses: Items<Address, A>,
@@ -89,7 +89,7 @@ pub fn open<'s, A: Allocator + Copy>(
 ) -> Result<Opened<'s, A>, Stop>
     ensures opened { IfOk result (λ o. IsOpened site.now o.world) }
     ensures said { IfOk result (λ o. SaysLive script.now o.steps) }
-    ensures sound { IfOk result (λ o. AllByRecursion IsSoundLiveStep o.steps) }
+    ensures sound { IfOk result (λ o. AllByRecursion IsSoundStep o.steps) }
 {
     let site = site_of(reading, alloc, site)?;
     let addresses = addresses_of(alloc, site.stations())?;
@@ -137,7 +137,7 @@ pub fn run<W: Wire + Drop, T: Timer + Drop, S: Observer<A> + Drop, A: Allocator 
     observer: S,
     out: &mut O,
 ) -> io::Result<()>
-    requires sound { AllByRecursion IsSoundLiveStep opened.steps }
+    requires sound { AllByRecursion IsSoundStep opened.steps }
     ensures { OnOk result (PrintsLiveRun settings.spelling settings.is_open opened.entry.steps opened.entry.world
         (O.contents out.old) (O.contents out.new)) }
 {
@@ -157,12 +157,12 @@ pub fn run<W: Wire + Drop, T: Timer + Drop, S: Observer<A> + Drop, A: Allocator 
 #[tactic(auto, using(crate::proofs::LiveLaws::run_laws))]
 fn print_all<W: Wire + Drop, T: Timer + Drop, S: Observer<A> + Drop, A: Allocator + Copy, O: Write>(
     live: &mut Live<W, T, S, A>,
-    steps: Items<LiveStep<A>, A>,
+    steps: Items<Step<A>, A>,
     lines: LineNumbers<'_>,
     settings: Settings,
     out: &mut O,
 ) -> io::Result<()>
-    requires sound { AllByRecursion IsSoundLiveStep steps }
+    requires sound { AllByRecursion IsSoundStep steps }
     requires begins { live.old ≡ begun live.old.is_open live.old.world }
     ensures { OnOk result (PrintsLiveRun settings.spelling live.old.is_open steps live.old.world
         (O.contents out.old) (O.contents out.new)) }
@@ -174,12 +174,12 @@ fn print_all<W: Wire + Drop, T: Timer + Drop, S: Observer<A> + Drop, A: Allocato
 /// The first round, the steps of a script, and what comes behind them.
 fn take_all<W: Wire + Drop, T: Timer + Drop, S: Observer<A> + Drop, A: Allocator + Copy, O: Write>(
     live: &mut Live<W, T, S, A>,
-    steps: Items<LiveStep<A>, A>,
+    steps: Items<Step<A>, A>,
     lines: LineNumbers<'_>,
     settings: Settings,
     out: &mut O,
 ) -> io::Result<()>
-    requires sound { AllByRecursion IsSoundLiveStep steps }
+    requires sound { AllByRecursion IsSoundStep steps }
     ensures lives { OnOk result
         (Lives settings.spelling (asked_of steps) live.old live.new (O.contents out.old) (O.contents out.new)) }
     ensures events { OnOk result (AreEventsIfLed live.old live.new) }
@@ -199,12 +199,12 @@ fn take_steps<
     O: Write,
 >(
     live: &mut Live<W, T, S, A>,
-    steps: Items<LiveStep<A>, A>,
+    steps: Items<Step<A>, A>,
     lines: LineNumbers<'_>,
     spelling: Spelling,
     out: &mut O,
 ) -> io::Result<()>
-    requires sound { AllByRecursion IsSoundLiveStep steps }
+    requires sound { AllByRecursion IsSoundStep steps }
     ensures { OnOk result
         (Lives spelling (asked_of steps) live.old live.new (O.contents out.old) (O.contents out.new)) }
 {
@@ -316,7 +316,7 @@ fn run_opened<R: Net + Clock, S: Observer<A> + Drop, A: Allocator + Copy, O: Wri
     out: &mut O,
     err: &mut E,
 ) -> u8
-    requires sound { AllByRecursion IsSoundLiveStep opened.steps }
+    requires sound { AllByRecursion IsSoundStep opened.steps }
     ensures status { result ≤ 1 }
     ensures runs { result ≡ 0
         → PrintsLiveRun settings.spelling settings.is_open opened.entry.steps opened.entry.world (O.contents out.old)

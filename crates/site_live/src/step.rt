@@ -2,46 +2,21 @@
 
 ghost use Rattle.std.specs.Prelude.{IfSome};
 ghost use Rattle.script.specs.Steps.{IsSoundStep};
-ghost use Rattle.site_live.specs.Steps.{IsLive, IsSoundLiveStep};
+ghost use Rattle.site_live.specs.Steps.{IsLive};
 
-use runner::Event;
-use script::Step;
+use script::{Event, Step};
 use std::alloc::Allocator;
 
-/// What a line of a script asks of a live run.
-#[derive(Drop)]
-pub enum LiveStep<A: Allocator> {
-    /// This event happens.
-    Happens(Event<A>),
-    /// So many milliseconds pass.
-    Passes(u64),
-}
-
-/// What a step asks of a live run: nothing where it is an event that the run makes of itself.
-pub(crate) fn live_step<A: Allocator>(step: Step<A>) -> Option<LiveStep<A>>
+/// Returns a step as a live run takes it: nothing where it is an event that the run makes of itself. Time that passes
+/// at once passes there as a flow does.
+pub(crate) fn live_step<A: Allocator>(step: Step<A>) -> Option<Step<A>>
     requires sound { IsSoundStep step }
     ensures live { IfSome result (IsLive step) }
-    ensures sound { IfSome result IsSoundLiveStep }
+    ensures sound { IfSome result IsSoundStep }
 {
     match step {
-        Step::Issue {
-            client,
-            instance,
-            request,
-        } => {
-            let event = Event::Issue {
-                client,
-                instance,
-                request,
-            };
-            Some(LiveStep::Happens(event))
-        }
-        Step::WhoIs { client, limits } => {
-            Some(LiveStep::Happens(Event::WhoIs { client, limits }))
-        }
-        Step::Register(station) => Some(LiveStep::Happens(Event::Register(station))),
-        Step::Restart(station) => Some(LiveStep::Happens(Event::Restart(station))),
-        Step::Tick(n) | Step::Flow(n) => Some(LiveStep::Passes(n)),
-        Step::Wake(_) | Step::Deliver(_) | Step::Hear { .. } => None,
+        Step::Happens(Event::Wake(_) | Event::Deliver(_) | Event::Hear { .. }) => None,
+        Step::Happens(Event::Tick(n)) | Step::Flow(n) => Some(Step::Flow(n)),
+        Step::Happens(event) => Some(Step::Happens(event)),
     }
 }

@@ -3,7 +3,7 @@
 use crate::note::{LineNote, tell_line};
 use crate::ways::is_over_bus;
 use apdu::Limits;
-use script::Step;
+use script::{Event, Step};
 use site_parts::{Parts, Role, Station};
 use std::alloc::{AllocError, Allocator};
 use std::io;
@@ -54,8 +54,12 @@ impl<'p, A: Allocator + Copy> Reader<'p, A> {
         step: &Step<A>,
         out: &mut W,
     ) -> io::Result<()> {
-        match step {
-            Step::Issue {
+        let event = match step {
+            Step::Happens(event) => event,
+            Step::Flow(n) => return self.tell_milliseconds(number, *n, out),
+        };
+        match event {
+            Event::Issue {
                 client,
                 instance,
                 ..
@@ -63,16 +67,16 @@ impl<'p, A: Allocator + Copy> Reader<'p, A> {
                 self.tell_client(number, client.as_slice(), out)?;
                 self.tell_issue(number, client.as_slice(), *instance, out)
             }
-            Step::WhoIs { client, limits } => {
+            Event::WhoIs { client, limits } => {
                 self.tell_client(number, client.as_slice(), out)?;
                 self.put_asked(*limits)
             }
-            Step::Tick(n) | Step::Flow(n) => self.tell_milliseconds(number, *n, out),
-            Step::Restart(name) => self.tell_restart(number, name.as_slice(), out),
-            Step::Register(name) => self.tell_register(number, name.as_slice(), out),
-            Step::Wake(_) => self.tell_offline(number, "wake", out),
-            Step::Deliver(_) => self.tell_offline(number, "deliver", out),
-            Step::Hear { .. } => self.tell_offline(number, "hear", out),
+            Event::Tick(n) => self.tell_milliseconds(number, *n, out),
+            Event::Restart(name) => self.tell_restart(number, name.as_slice(), out),
+            Event::Register(name) => self.tell_register(number, name.as_slice(), out),
+            Event::Wake(_) => self.tell_offline(number, "wake", out),
+            Event::Deliver(_) => self.tell_offline(number, "deliver", out),
+            Event::Hear { .. } => self.tell_offline(number, "hear", out),
         }
     }
 

@@ -28,7 +28,7 @@ use Rattle.site_reach.specs.Tables.{HasAddress, HasItsTableIfAny, HasItsTables, 
 use Rattle.site_views.specs.Views.{host, managed_at}
 use Rattle.world.specs.Refusals.{Comes, Runs}
 use Rattle.world.specs.World.{WorldState, fresh_world}
-use Rattle.world.specs.declared.event.Event.{Event}
+use Rattle.world.specs.site_events.declared.event.Event.{Event}
 use Rattle.world_sites.proofs.ListLaws.{all_flat}
 use Rattle.world_sites.specs.Opening.{client_at, foreign_port, manager_at, node_at, opens, place_port, port_at, ports_at}
 

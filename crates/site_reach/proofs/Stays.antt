@@ -35,7 +35,7 @@ use Rattle.world.specs.Acting.{Acts}
 use Rattle.world.specs.Hearing.{Hears, IsTold, Keeps, Takes, TakesEach}
 use Rattle.world.specs.Step.{Asks, Delivers, Issues, Registers, Restarts, Ticks, Wakes, addressee_of, delivered, issued, restarted}
 use Rattle.world.specs.World.{WorldState}
-use Rattle.world.specs.declared.event.Event.TheVariants as event
+use Rattle.world.specs.site_events.declared.event.Event.TheVariants as event
 use Rattle.world.specs.declared.listener.Listener.{Listener}
 use Rattle.world_log.specs.Growing.{items_at}
 use Rattle.world_sites.specs.Finding.{place_of}

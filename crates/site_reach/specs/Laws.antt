@@ -11,7 +11,7 @@ use Rattle.site_reach.specs.Tables.{AreServed, HasItsTables, HaveAddresses, subn
 use Rattle.world.specs.Refusals.{Runs}
 use Rattle.world.specs.Step.{Steps}
 use Rattle.world.specs.World.{WorldState, fresh_world}
-use Rattle.world.specs.declared.event.Event.{Event}
+use Rattle.world.specs.site_events.declared.event.Event.{Event}
 
 -- an event leaves the tables such
 abbrev pub TablesStay : Type 0 → Type 0

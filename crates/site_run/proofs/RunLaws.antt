@@ -13,8 +13,8 @@ use Rattle.site_history.proofs.simulator.FlowLaws.{steps_pass}
 use Rattle.site_history.specs.simulator.Flows.{Gives, IsOfFlow, left_of, ticks_in, ticks_of}
 use Rattle.site_history.specs.simulator.declared.flow.Flow.{Flow}
 use Rattle.site_history.specs.simulator.world.World.{WorldState}
-use Rattle.site_history.specs.simulator.world.declared.event.Event.{Event}
-use Rattle.site_history.specs.simulator.world.declared.event.Event.TheVariants as event
+use Rattle.site_history.specs.simulator.world.site_events.declared.event.Event.{Event}
+use Rattle.site_history.specs.simulator.world.site_events.declared.event.Event.TheVariants as event
 use Rattle.site_parts.specs.declared.parts.Station.{Station}
 use Rattle.site_history.specs.Asked.{refused_time_text}
 use Rattle.site_history.specs.Printed.{entries_text, line}

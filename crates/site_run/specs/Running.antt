@@ -9,8 +9,7 @@ use Rattle.site_history.specs.simulator.Flows.{IsOfFlow, ticks_in}
 use Rattle.site_history.specs.simulator.world.Refusals.{IsRefused}
 use Rattle.site_history.specs.simulator.world.Step.{Steps}
 use Rattle.site_history.specs.simulator.world.World.{WorldState}
-use Rattle.site_history.specs.simulator.world.declared.event.Event.{Event}
-use Rattle.site_history.specs.simulator.world.declared.event.Event.TheVariants as event
+use Rattle.site_history.specs.simulator.world.site_events.declared.event.Event.{Event}
 pub use Rattle.site_history.specs.Printed.{Known}
 use Rattle.site_history.specs.Asked.{refused_asked_text, refused_time_text, told_of}
 use Rattle.site_history.specs.Printed.{entries_text, line}
@@ -120,16 +119,7 @@ pub record PrintsNoFlow {A : Type 0} (t : Telling) (n : ℕ) (w v : WorldState A
 
 -- a step of a script was taken
 abbrev pub PrintsStep : {A : Type 0} → Telling → Step A → WorldState A → WorldState A → Known → Known → Type 0
-PrintsStep t (step.Issue client instance request) w v old new =
-    PrintsEvent t (event.Issue client instance request) w v old new
-PrintsStep t (step.WhoIs client limits) w v old new = PrintsEvent t (event.WhoIs client limits) w v old new
-PrintsStep t (step.Tick n) w v old new = PrintsEvent t (event.Tick n) w v old new
-PrintsStep t (step.Wake name) w v old new = PrintsEvent t (event.Wake name) w v old new
-PrintsStep t (step.Deliver number) w v old new = PrintsEvent t (event.Deliver number) w v old new
-PrintsStep t (step.Hear network station octets) w v old new =
-    PrintsEvent t (event.Hear network station octets) w v old new
-PrintsStep t (step.Register name) w v old new = PrintsEvent t (event.Register name) w v old new
-PrintsStep t (step.Restart name) w v old new = PrintsEvent t (event.Restart name) w v old new
+PrintsStep t (step.Happens e) w v old new = PrintsEvent t e w v old new
 PrintsStep t (step.Flow n) w v old new = PrintsFlow t n w v old new ⊎ PrintsNoFlow t n w v old new
 
 -- so were these steps, one after another, which lines of a script ask for that have these numbers

@@ -109,41 +109,7 @@ fn take_step<A: Allocator + Copy, W: Write>(
     ensures { OnOk result (PrintsStep telling step world.old world.new (W.contents out.old) (W.contents out.new)) }
 {
     match step {
-        Step::Issue {
-            client,
-            instance,
-            request,
-        } => {
-            let event = Event::Issue {
-                client,
-                instance,
-                request,
-            };
-            make(world, &event, telling, out)
-        }
-        Step::WhoIs { client, limits } => make(
-            world,
-            &Event::WhoIs { client, limits },
-            telling,
-            out,
-        ),
-        Step::Tick(n) => make(world, &Event::Tick(n), telling, out),
-        Step::Wake(station) => make(world, &Event::Wake(station), telling, out),
-        Step::Deliver(number) => make(world, &Event::Deliver(number), telling, out),
-        Step::Hear {
-            network,
-            station,
-            octets,
-        } => {
-            let event = Event::Hear {
-                network,
-                station,
-                octets,
-            };
-            make(world, &event, telling, out)
-        }
-        Step::Register(station) => make(world, &Event::Register(station), telling, out),
-        Step::Restart(station) => make(world, &Event::Restart(station), telling, out),
+        Step::Happens(event) => make(world, &event, telling, out),
         Step::Flow(n) => flow(world, n, telling, out),
     }
 }

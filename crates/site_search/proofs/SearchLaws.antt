@@ -2,7 +2,7 @@
 use Rattle.std.proofs.Common.{List, ◌∷◌}
 use Rattle.site_storm.specs.site_run.simulator.world.Step.{Steps}
 use Rattle.site_storm.specs.site_run.simulator.world.World.{WorldState}
-use Rattle.site_storm.specs.site_run.simulator.world.declared.event.Event.{Event}
+use Rattle.site_storm.specs.site_run.simulator.world.site_events.declared.event.Event.{Event}
 use Rattle.site_search.specs.Searching.{Happen}
 pub use Rattle.site_trace.proofs.TraceLaws.{appends_more, appends_nothing}
 

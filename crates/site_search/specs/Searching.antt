@@ -9,7 +9,7 @@ use Rattle.site_storm.specs.site_run.simulator.Judged.{instances_of, judged_of}
 use Rattle.site_storm.specs.site_run.simulator.world.site_ports.Ports.{Then}
 use Rattle.site_storm.specs.site_run.simulator.world.Step.{IsSoundEvent, Steps}
 use Rattle.site_storm.specs.site_run.simulator.world.World.{WorldState}
-use Rattle.site_storm.specs.site_run.simulator.world.declared.event.Event.{Event}
+use Rattle.site_storm.specs.site_run.simulator.world.site_events.declared.event.Event.{Event}
 use Rattle.site_storm.specs.site_run.site_history.Printed.{Known}
 use Rattle.site_storm.specs.site_run.Running.{PrintsSteps, entries_in}
 use Rattle.site_storm.specs.site_run.Simulate.{IsOpened}

@@ -1,6 +1,5 @@
 //! The steps of a script in a world, one after another, each event made by who looks at it.
 
-ghost use Rattle.std.specs.Prelude.{IfOk};
 ghost use Rattle.std.specs.List.{AllByRecursion};
 ghost use Rattle.site_run.specs.script.Steps.{IsSoundStep};
 ghost use Rattle.site_run.specs.simulator.world.Step.{IsSoundEvent};
@@ -98,43 +97,9 @@ fn take_step<A: Allocator + Copy, V: Watcher<A>>(
 ) -> Result<(), Fault>
     requires sound { IsSoundStep step }
 {
-    match event_of(step) {
-        Ok(event) => watcher.make(world, &event),
-        Err(n) => flow(world, n, watcher),
-    }
-}
-
-/// The event that a step is, or the milliseconds of a flow.
-fn event_of<A: Allocator>(step: Step<A>) -> Result<Event<A>, u64>
-    requires sound { IsSoundStep step }
-    ensures { IfOk result IsSoundEvent }
-{
     match step {
-        Step::Issue {
-            client,
-            instance,
-            request,
-        } => Ok(Event::Issue {
-            client,
-            instance,
-            request,
-        }),
-        Step::WhoIs { client, limits } => Ok(Event::WhoIs { client, limits }),
-        Step::Tick(n) => Ok(Event::Tick(n)),
-        Step::Wake(station) => Ok(Event::Wake(station)),
-        Step::Deliver(number) => Ok(Event::Deliver(number)),
-        Step::Hear {
-            network,
-            station,
-            octets,
-        } => Ok(Event::Hear {
-            network,
-            station,
-            octets,
-        }),
-        Step::Register(station) => Ok(Event::Register(station)),
-        Step::Restart(station) => Ok(Event::Restart(station)),
-        Step::Flow(n) => Err(n),
+        Step::Happens(event) => watcher.make(world, &event),
+        Step::Flow(n) => flow(world, n, watcher),
     }
 }
 

@@ -4,7 +4,7 @@ use Rattle.std.specs.Io.KnownBytes.{Appends}
 use Rattle.std.specs.List.{AllByRecursion}
 use Rattle.site_run.specs.simulator.world.Step.{IsSoundEvent}
 use Rattle.site_run.specs.simulator.world.World.{WorldState}
-use Rattle.site_run.specs.simulator.world.declared.event.Event.{Event}
+use Rattle.site_run.specs.simulator.world.site_events.declared.event.Event.{Event}
 use Rattle.site_run.specs.Running.{Known, PrintsEvents, entries_in}
 use Rattle.site_run.proofs.RunLaws.{event_before}
 use Rattle.site_trace.proofs.TraceLaws.{appends_more, appends_nothing}

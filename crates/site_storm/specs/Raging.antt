@@ -4,7 +4,7 @@ use Rattle.std.specs.Io.KnownBytes.{Appends}
 use Rattle.std.specs.List.{AllByRecursion}
 use Rattle.site_run.specs.simulator.world.Step.{IsSoundEvent}
 use Rattle.site_run.specs.simulator.world.World.{WorldState}
-use Rattle.site_run.specs.simulator.world.declared.event.Event.{Event}
+use Rattle.site_run.specs.simulator.world.site_events.declared.event.Event.{Event}
 use Rattle.site_run.specs.Running.{PrintsEvent, PrintsEvents, entries_in}
 use Rattle.site_storm.specs.Lines.{Known, event_text, events_text, line}
 use Rattle.words.specs.printing.declared.spelling.Spelling.{Spelling}

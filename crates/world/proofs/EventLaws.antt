@@ -40,7 +40,7 @@ use Rattle.world.specs.Doing.{HasRested, IsDone, MayBeDone, caused_in, told_of}
 use Rattle.world.specs.Refusals.{HappeningIsRefused, HasDue, IsForeign, Of, RefusesAt}
 use Rattle.world.specs.Step.{Asks, Delivers, IsMarked, Issues, Registers, Restarts, Wakes, addressee_of, deafened, delivered, issued, restart_entry, restarted}
 use Rattle.world.specs.World.{WorldState}
-use Rattle.world.specs.declared.event.Happening.TheVariants as happening
+use Rattle.world.specs.declared.happening.Happening.TheVariants as happening
 use Rattle.world_log.specs.Growing.{WorldHistory, frames_at, items_at, told_in}
 use Rattle.world_log.specs.Log.{LogState}
 use Rattle.world_log.specs.carry_world.headline_bacnet.Refined.{ObjectSite}

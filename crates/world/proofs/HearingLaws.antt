@@ -27,7 +27,7 @@ use Rattle.world.specs.Doing.{IsDone, told_of}
 use Rattle.world.specs.Hearing.{HasListener, HasNoListener, IsOne, IsTold, IsToldOf, Listens, RefusesFrame, RefusesHeard, RefusesOne, Takes, TakesAll, TakesEach}
 use Rattle.world.specs.Refusals.{HappeningIsRefused, Of}
 use Rattle.world.specs.World.{WorldState}
-use Rattle.world.specs.declared.event.Happening.TheVariants as happening
+use Rattle.world.specs.declared.happening.Happening.TheVariants as happening
 use Rattle.world.specs.declared.listener.Listener.{Listener}
 use Rattle.world_log.specs.Growing.{frames_at}
 use Rattle.world_log.specs.declared.log.Cause.TheVariants as cause

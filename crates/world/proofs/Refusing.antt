@@ -14,8 +14,8 @@ use Rattle.world.specs.Refusals.{HappeningIsRefused, HasDue, IsForeign, IsRefuse
 use Rattle.world.specs.Step.{AtName, HasName, addressee_of}
 use Rattle.world.specs.Straying.{StrayIsRefused}
 use Rattle.world.specs.World.{WorldState}
-use Rattle.world.specs.declared.event.Happening.{Happening}
-use Rattle.world.specs.declared.event.Happening.TheVariants as happening
+use Rattle.world.specs.declared.happening.Happening.{Happening}
+use Rattle.world.specs.declared.happening.Happening.TheVariants as happening
 use Rattle.world_sites.specs.Finding.{IsNobody, IsNobodyAt, IsNodeAt}
 
 -- no node is at the place

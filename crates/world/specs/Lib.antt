@@ -8,6 +8,7 @@ pub mod Laws
 pub mod Straying
 pub mod Tables
 -- What the layers above cite of those below.
+pub use Rattle.site_events.specs as site_events
 pub use Rattle.world_log.specs as world_log
 pub use Rattle.world_log.specs.carry_world as carry_world
 pub use Rattle.world_sites.specs as world_sites

@@ -15,10 +15,10 @@ use Rattle.traffic.specs.declared.item.Item.{Item}
 use Rattle.world.specs.Hearing.{HasListener, HasNoListener, RefusesOctets}
 use Rattle.world.specs.Step.{AtName, Steps, Happens, addressee_of}
 use Rattle.world.specs.World.{WorldState}
-use Rattle.world.specs.declared.event.Event.{Event}
-use Rattle.world.specs.declared.event.Event.TheVariants as event
-use Rattle.world.specs.declared.event.Happening.{Happening}
-use Rattle.world.specs.declared.event.Happening.TheVariants as happening
+use Rattle.site_events.specs.declared.event.Event.{Event}
+use Rattle.site_events.specs.declared.event.Event.TheVariants as event
+use Rattle.world.specs.declared.happening.Happening.{Happening}
+use Rattle.world.specs.declared.happening.Happening.TheVariants as happening
 use Rattle.world_sites.specs.Finding.{IsNobody, IsNodeAt}
 
 -- the node at a place is so, or refuses so

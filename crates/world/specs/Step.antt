@@ -21,13 +21,14 @@ use Rattle.traffic.specs.declared.item.Item.{Item}
 use Rattle.world.specs.Acting.{Acts}
 use Rattle.world.specs.Hearing.{Hears}
 use Rattle.world.specs.World.{WorldState}
-use Rattle.world.specs.declared.event.Event.{Event}
-use Rattle.world.specs.declared.event.Event.TheVariants as event
-use Rattle.world.specs.declared.event.Happening.{Happening}
-use Rattle.world.specs.declared.event.Happening.TheVariants as happening
+use Rattle.site_events.specs.declared.event.Event.{Event}
+use Rattle.site_events.specs.declared.event.Event.TheVariants as event
+use Rattle.world.specs.declared.happening.Happening.{Happening}
+use Rattle.world.specs.declared.happening.Happening.TheVariants as happening
 use Rattle.world_log.specs.Growing.{WorldHistory}
 use Rattle.world_sites.specs.Finding.{IsNamed, IsNodeAt}
 use Rattle.world_sites.specs.Opening.{object_site}
+pub use Rattle.site_events.specs.Sound.{IsSoundEvent, IsSoundIfAny}
 
 -- the station that an item goes to (6.1)
 abbrev pub addressee_of : {A : Type 0} → Item A → Station
@@ -171,15 +172,7 @@ Steps (event.Hear network station octets) w v =
     AtName station w (λ place. Happens (happening.Hear network place octets) w v)
 Steps (event.Register station) w v = AtName station w (λ place. Happens (happening.Register place) w v)
 
--- the requests of these events are sound (12, 15)
-abbrev pub IsSoundEvent : {A : Type 0} → Event A → Type 0
-IsSoundEvent (event.Issue client instance request) = IsSoundRequest request
-IsSoundEvent e = Unit {0}
-
+-- the request of what happens has a spelling, if it has one (12, 15)
 abbrev pub IsSoundHappening : {A : Type 0} → Happening A → Type 0
 IsSoundHappening (happening.Issue client instance request) = IsSoundRequest request
 IsSoundHappening h = Unit {0}
-
-abbrev pub IsSoundIfAny : {A : Type 0} → Option (Event A) → Type 0
-IsSoundIfAny None = Unit {0}
-IsSoundIfAny (Some e) = IsSoundEvent e

@@ -6,13 +6,47 @@ ghost use Rattle.world.specs.Refusals.{HappeningIsRefused, IsRefused};
 ghost use Rattle.world.specs.Step.{Happens, HasName, IsSoundEvent, IsSoundHappening, Steps};
 ghost use Rattle.world_sites.specs.Finding.{IsNobody};
 
-use crate::event::{Event, Happening};
 use crate::internetwork::Internetwork;
+use apdu::Limits;
+use primitives::Request;
+use site_events::Event;
 use std::alloc::Allocator;
 use std::mem;
-use tags::Fault;
+use tags::{Fault, Octets};
 use world_log::Draft;
-use world_sites::NamedNode;
+use world_sites::{NamedNode, NodeId};
+
+/// What can happen in a world, each node by its place: what is looked up once is not looked up again.
+#[derive(Drop)]
+pub enum Happening<A: Allocator> {
+    /// A client is asked to make a sound request of the device of this instance (5.4.4.1).
+    Issue {
+        client: NodeId,
+        instance: u32,
+        request: Request<A>,
+    },
+    /// A client asks all devices, or those with an instance within limits, who they are (16.10.1).
+    WhoIs {
+        client: NodeId,
+        limits: Option<Limits>,
+    },
+    /// So many milliseconds pass: 1 to 60000.
+    Tick(u64),
+    /// A node wakes: its timers have expired (5.4.1).
+    Wake(NodeId),
+    /// The item of this number, counted from 0, is handed to its addressee.
+    Deliver(u64),
+    /// A device restarts with the objects that the site gives it.
+    Restart(NodeId),
+    /// A node on a bus hears octets (9.5).
+    Hear {
+        network: u16,
+        node: NodeId,
+        octets: Octets<A>,
+    },
+    /// A foreign node registers at its broadcast manager (J.5.2).
+    Register(NodeId),
+}
 
 impl<A: Allocator + Copy> Internetwork<A> {
     /// Something happens at a place, or is refused.

@@ -6,7 +6,7 @@ ghost use Rattle.world_log.specs.site_ports.Ports.{Then};
 ghost use Rattle.world.specs.Hearing.{HasNoListener, Hears, IsOne, IsTold, Keeps, Listens, RefusesFrame};
 ghost use Rattle.world.specs.Hearing.{RefusesHeard, RefusesOne, Settles, Takes, TakesAll, TakesEach};
 ghost use Rattle.world.specs.Refusals.{HappeningIsRefused};
-ghost use Rattle.world.specs.declared.event.Happening.TheVariants as happening;
+ghost use Rattle.world.specs.declared.happening.Happening.TheVariants as happening;
 
 use crate::internetwork::Internetwork;
 use crate::listener::Listener;

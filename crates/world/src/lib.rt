@@ -5,11 +5,10 @@
 //! and nothing else changes; each refusal has its cause, and then nothing has changed. It says so of every state,
 //! however that came about; what is true of whatever came about by events alone is the layer above's to say.
 //!
-//! - `event`: what can happen, by names and by places.
 //! - `internetwork`: the nodes of a site, what is on its way between them, and what happened.
 //! - `finding`: which node an event is for.
 //! - `acting`: it does so, and all grows by what comes of it.
-//! - `stepping`, `hearing`: what each event does; `happening`: all of them.
+//! - `stepping`, `hearing`: what each event does; `happening`: all of them, by places and by names.
 //! - `straying`: what a datagram from outside does.
 //! - `macs`: that nodes are at link addresses, for the proofs.
 //! - `copying`: copies of it.
@@ -17,7 +16,6 @@
 
 mod acting;
 mod copying;
-mod event;
 mod finding;
 mod happening;
 mod hearing;
@@ -27,8 +25,9 @@ mod macs;
 mod stepping;
 mod straying;
 
-pub use event::{Event, Happening};
+pub use happening::Happening;
 pub use internetwork::Internetwork;
 pub use listener::Listener;
+pub use site_events::Event;
 pub use world_log::{SaidMessage, WorldEntry};
 pub use world_sites::{NodeId, Site, at_address};

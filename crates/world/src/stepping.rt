@@ -12,7 +12,7 @@ ghost use Rattle.world.specs.Refusals.{HappeningIsRefused, IsForeign, IsNoTick, 
 ghost use Rattle.world.specs.Step as spec;
 ghost use Rattle.world.specs.Step.{Asks, Delivers, Issues, PassesNow, Registers, Restarts, Ticks, Wakes};
 ghost use Rattle.world.specs.Step.{deafened, restart_entry};
-ghost use Rattle.world.specs.declared.event.Happening.TheVariants as happening;
+ghost use Rattle.world.specs.declared.happening.Happening.TheVariants as happening;
 ghost use Rattle.world_sites.specs.Opening.{object_site};
 
 use crate::finding::Recipient;

@@ -19,7 +19,7 @@ use Rattle.world.specs.Laws.{Stands}
 use Rattle.world.specs.Step.{Steps, addressee_of}
 use Rattle.world.specs.World.{WorldState}
 use Rattle.world.specs.client.Client.{ClientState}
-use Rattle.world.specs.declared.event.Event.TheVariants as event
+use Rattle.world.specs.site_events.declared.event.Event.TheVariants as event
 use Rattle.world.specs.device.Device.{DeviceState}
 use Rattle.world.specs.headline_bacnet.services.Asked.{replied}
 use Rattle.world.specs.site_node.Node.{home_of}

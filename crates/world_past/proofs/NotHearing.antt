@@ -12,7 +12,7 @@ use Rattle.tags.specs.declared.fault.Fault.{Fault}
 use Rattle.tags.specs.declared.fault.Fault.TheVariants.{Expired, Forged}
 use Rattle.world.specs.Hearing.{HasListener, HasNoListener, Listens, RefusesFrame, RefusesHeard, RefusesOctets, RefusesOne, Takes, TakesEach}
 use Rattle.world.specs.World.{WorldState}
-use Rattle.world.specs.declared.event.Happening.TheVariants as happening
+use Rattle.world.specs.declared.happening.Happening.TheVariants as happening
 use Rattle.world.specs.declared.listener.Listener.{Listener}
 use Rattle.world.specs.site_ports.Ports.{Then}
 use Rattle.world.specs.world_log.Growing.{WorldHistory}

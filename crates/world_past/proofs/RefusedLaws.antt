@@ -3,9 +3,9 @@ use Rattle.std.proofs.Common.{◌≡◌, ◌⊎◌, inl, inr, refl, subst, ℕ, 
 use Rattle.tags.specs.declared.fault.Fault.{Fault}
 use Rattle.world.specs.Refusals.{HappeningIsRefused, Of, RefusesAt, RefusesNamed}
 use Rattle.world.specs.World.{WorldState}
-use Rattle.world.specs.declared.event.Event.TheVariants as event
-use Rattle.world.specs.declared.event.Happening.{Happening}
-use Rattle.world.specs.declared.event.Happening.TheVariants as happening
+use Rattle.world.specs.site_events.declared.event.Event.TheVariants as event
+use Rattle.world.specs.declared.happening.Happening.{Happening}
+use Rattle.world.specs.declared.happening.Happening.TheVariants as happening
 use Rattle.world.specs.site_node.Node.{NodeState}
 use Rattle.world.specs.world_log.Growing.{WorldHistory}
 use Rattle.world.specs.world_sites.Finding.{IsNobody}

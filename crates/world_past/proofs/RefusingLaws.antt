@@ -10,7 +10,7 @@ use Rattle.world.proofs.FindingLaws.{nowhere_at, nowhere_missing, too_old}
 use Rattle.world.specs.Refusals.{IsNowhere, IsTooOld, MayBeHeard, RefusesItem}
 use Rattle.world.specs.Step.{addressee_of}
 use Rattle.world.specs.World.{WorldState}
-use Rattle.world.specs.declared.event.Happening.TheVariants as happening
+use Rattle.world.specs.declared.happening.Happening.TheVariants as happening
 use Rattle.world.specs.site_node.Node.{NodeState}
 use Rattle.world.specs.world_log.Growing.{WorldHistory}
 use Rattle.world.specs.world_sites.Finding.{IsNobodyAt, IsNodeAt, is_there, place_from, port_at}

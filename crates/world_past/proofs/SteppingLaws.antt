@@ -3,9 +3,9 @@ use Rattle.std.proofs.Common.{subst, ℕ, List}
 use Rattle.world.specs.Laws.{Stands}
 use Rattle.world.specs.Step.{AtName, Happens, HasName}
 use Rattle.world.specs.World.{WorldState}
-use Rattle.world.specs.declared.event.Event.TheVariants as event
-use Rattle.world.specs.declared.event.Happening.{Happening}
-use Rattle.world.specs.declared.event.Happening.TheVariants as happening
+use Rattle.world.specs.site_events.declared.event.Event.TheVariants as event
+use Rattle.world.specs.declared.happening.Happening.{Happening}
+use Rattle.world.specs.declared.happening.Happening.TheVariants as happening
 use Rattle.world.specs.site_ports.Ports.{Then}
 use Rattle.world.specs.world_log.Growing.{WorldHistory}
 use Rattle.world_past.proofs.EventLaws.{ask_over, deliver_over, issue_over, register_over, restart_over, tick_over, wake_over}

@@ -3,8 +3,8 @@ use Rattle.std.specs.Prelude.{[]}
 use Rattle.world.specs.Laws.{Stands}
 use Rattle.world.specs.Step.{Happens, Steps}
 use Rattle.world.specs.World.{WorldState}
-use Rattle.world.specs.declared.event.Event.{Event}
-use Rattle.world.specs.declared.event.Happening.{Happening}
+use Rattle.world.specs.site_events.declared.event.Event.{Event}
+use Rattle.world.specs.declared.happening.Happening.{Happening}
 use Rattle.world.specs.site_ports.Ports.{Then}
 use Rattle.world.specs.world_log.Growing.{WorldHistory}
 use Rattle.world_past.specs.Keeping.{Keeps}

@@ -6,10 +6,10 @@ use Rattle.traffic.specs.Seeking.{is_young}
 use Rattle.traffic.specs.declared.item.Item.{Item}
 use Rattle.world.specs.Refusals.{HappeningIsRefused, IsRefused}
 use Rattle.world.specs.World.{WorldState}
-use Rattle.world.specs.declared.event.Event.{Event}
-use Rattle.world.specs.declared.event.Event.TheVariants as event
-use Rattle.world.specs.declared.event.Happening.{Happening}
-use Rattle.world.specs.declared.event.Happening.TheVariants as happening
+use Rattle.world.specs.site_events.declared.event.Event.{Event}
+use Rattle.world.specs.site_events.declared.event.Event.TheVariants as event
+use Rattle.world.specs.declared.happening.Happening.{Happening}
+use Rattle.world.specs.declared.happening.Happening.TheVariants as happening
 use Rattle.world.specs.world_log.Growing.{WorldHistory}
 use Rattle.world_past.specs.Keeping.{Keeps}
 

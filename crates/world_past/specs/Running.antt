@@ -4,7 +4,7 @@ use Rattle.std.specs.Prelude.{◌++◌, ℕ, List, [], map}
 use Rattle.world.specs.Refusals.{Comes, Runs}
 use Rattle.world.specs.World.{WorldState}
 use Rattle.world.specs.carry_world.Laws.{IsLegal, judged_at}
-use Rattle.world.specs.declared.event.Event.{Event}
+use Rattle.world.specs.site_events.declared.event.Event.{Event}
 use Rattle.world.specs.site_ports.Ports.{Then}
 use Rattle.world.specs.world_log.Growing.{WorldHistory}
 use Rattle.world.specs.world_sites.Nodes.{devices_of}

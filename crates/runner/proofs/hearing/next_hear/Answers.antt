@@ -3,7 +3,7 @@ use Rattle.bus_traffic.specs.declared.telling.Telling.{Telling}
 use Rattle.runner.proofs.HearingLaws.{hears_next, meets_nobody}
 use Rattle.runner.proofs.hearing.next_hear.Goals as goal
 use Rattle.runner.specs.Hearing.{HearsThemIfAny}
-use Rattle.simulator.specs.world.declared.event.Event.{Event}
+use Rattle.simulator.specs.world.site_events.declared.event.Event.{Event}
 
 pub returns-in-Some-event-clause-next : goal.returns-in-Some-event-clause-next
 returns-in-Some-event-clause-next g c =

@@ -6,19 +6,18 @@ use Rattle.script.specs.declared.step.Step.{Step}
 use Rattle.site_live.proofs.LiveLaws.{none_left}
 use Rattle.site_live.proofs.StepLaws.{all_and_one, live_before}
 use Rattle.site_live.proofs.reading.all_live.Goals as goal
-use Rattle.site_live.specs.Steps.{AreLive, IsSoundLiveStep}
-use Rattle.site_live.specs.declared.step.LiveStep.{LiveStep}
+use Rattle.site_live.specs.Steps.{AreLive}
 
 -- the step that was put, and then what the rest asks for
 pub loop-step-preserved : goal.loop-step-preserved
 loop-step-preserved g c = (
   (subst (λ (ss : List (Step _)). AllByRecursion IsSoundStep ss) c.in-Some.ensures.steps.0 c.loop-step.invariant.0).1,
-  subst (λ (l : List (LiveStep _)). AllByRecursion IsSoundLiveStep l) (sym c.in_ok-push.ensures.pushed)
-      (all_and_one IsSoundLiveStep c.loop-step.steps c.in-Some-live_step.step c.loop-step.invariant.1
+  subst (λ (l : List (Step _)). AllByRecursion IsSoundStep l) (sym c.in_ok-push.ensures.pushed)
+      (all_and_one IsSoundStep c.loop-step.steps c.in-Some-live_step.step c.loop-step.invariant.1
       c.in-Some-live_step.ensures.sound),
   λ more rest. live_before c.in-Some.step c.next.new.self.rest.items c.args.said c.in-Some-live_step.step
       c.loop-step.steps c.push.new.self more c.in-Some-live_step.ensures.live c.in_ok-push.ensures.pushed
-      (subst (λ (ss : List (Step _)). (m : List (LiveStep _)) → AreLive ss m →
+      (subst (λ (ss : List (Step _)). (m : List (Step _)) → AreLive ss m →
       AreLive c.args.said (c.loop-step.steps ++ m)) c.in-Some.ensures.steps.0 c.loop-step.invariant.2) rest,
 )
 
@@ -27,5 +26,5 @@ returns-clause-live g c =
     let none : c.loop-step.step-iterator.rest.items ≡ [] =
     none_left c.loop-step.step-iterator.rest.items
     (omega (arith, c.loop-step.step-iterator.rest.ok.0, c.in-None.ensures.steps.0)) in
-    subst (λ (l : List (LiveStep _)). AreLive c.args.said l) (append-nil c.loop-step.steps)
+    subst (λ (l : List (Step _)). AreLive c.args.said l) (append-nil c.loop-step.steps)
     (c.loop-step.invariant.2 [] (subst (λ (ss : List (Step _)). AreLive ss []) (sym none) tt))

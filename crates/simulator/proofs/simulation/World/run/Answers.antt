@@ -1,7 +1,7 @@
 use Rattle.std.proofs.Common.{arith, ◌≡◌, ◌+◌, ◌++◌, ◌∷◌, [], subst, take, List}
 use Rattle.std.proofs.lemmas.Grind.{common_steps}
 use Rattle.simulator.proofs.LedLaws.{comes_of, runs_more}
-use Rattle.world.specs.declared.event.Event.{Event}
+use Rattle.world.specs.site_events.declared.event.Event.{Event}
 use Rattle.simulator.proofs.simulation.World.run.Goals as goal
 use Rattle.simulator.specs.Runs.{Runs}
 
