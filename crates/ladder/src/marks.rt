@@ -1,12 +1,13 @@
 //! What is written of a row.
 
 use crate::broadcast::write_broadcast;
+use crate::classes::{ClassesOf, ClassesOfNote};
 use crate::escaped::Escaped;
 use crate::label::write_label;
 use crate::layout::{Layout, MOMENTS, MOST_OF_NOTE, STUB};
 use crate::picture::{Arrow, Kind, Mark, Note, Reach, Row, Station, lane_of};
-use crate::row_text::RowText;
-use crate::svg::Links;
+use crate::row_text::{Receivers, RowText, Sender};
+use crate::svg::Piece;
 use std::alloc::Allocator;
 use std::io;
 use std::io::Write;
@@ -14,57 +15,100 @@ use std::io::Write;
 /// From the line of a row down to the texts that stand beside it.
 const BESIDE: usize = 4;
 
-/// Writes the row at a place: what it says in words as its title, its moment and its mark.
+/// Writes the row at a place, or a piece of it.
 pub(crate) fn write_row<A: Allocator, W: Write>(
     layout: Layout,
     stations: &[Station<A>],
     place: usize,
     row: &Row<A>,
-    links: Links,
+    piece: Piece,
     out: &mut W,
 ) -> io::Result<()> {
     let y = layout.row(place);
-    let text = RowText { row, stations };
-    match &row.mark {
-        Mark::Arrow(arrow) => write_link(arrow, links, out)?,
-        Mark::Note(_) => write!(out, "<g class=\"note\">")?,
-        Mark::Gap(_) => write!(out, "<g class=\"gap\">")?,
+    match piece {
+        Piece::Whole => {
+            write_group(row, out)?;
+            let text = RowText { row, stations };
+            writeln!(out, "<title>{text}</title>")?;
+            write_moment(row, y, out)?;
+            write_mark(layout, stations, &row.mark, y, out)?;
+            writeln!(out, "</g>")
+        }
+        Piece::Moment => write_moment(row, y, out),
+        Piece::Mark => write_linked(layout, stations, place, row, out),
     }
-    writeln!(out, "<title>{text}</title>")?;
+}
+
+/// Writes what a row begins with in a picture that stands alone.
+fn write_group<A: Allocator, W: Write>(row: &Row<A>, out: &mut W) -> io::Result<()> {
     match &row.mark {
         Mark::Arrow(arrow) => {
-            write_moment(row.moment, y, out)?;
-            write_arrow(layout, stations, arrow, y, out)?;
+            let kind = class_of(arrow.kind);
+            let lost = lost_of(arrow);
+            write!(out, "<g class=\"{kind}{lost}\">")
         }
-        Mark::Note(note) => {
-            write_moment(row.moment, y, out)?;
-            write_note(layout, stations, note, y, out)?;
-        }
-        Mark::Gap(length) => write_gap(layout, *length, y, out)?,
+        Mark::Note(_) => write!(out, "<g class=\"note\">"),
+        Mark::Gap(_) => write!(out, "<g class=\"gap\">"),
     }
-    write_end(&row.mark, links, out)
 }
 
-/// Writes what an arrow begins with: where it leads, in a page.
-fn write_link<A: Allocator, W: Write>(
-    arrow: &Arrow<A>,
-    links: Links,
+/// Writes the mark of the row at a place, in a page: an arrow leads to its anchor, and by its name `a17` others lead to
+/// it. Its classes are the request and the stations that it is of, by which it can be chosen.
+fn write_linked<A: Allocator, W: Write>(
+    layout: Layout,
+    stations: &[Station<A>],
+    place: usize,
+    row: &Row<A>,
     out: &mut W,
 ) -> io::Result<()> {
-    let kind = class_of(arrow.kind);
-    let lost = if arrow.is_heard { "" } else { " lost" };
-    match links {
-        Links::Anchors => write!(out, "<a href=\"#{}\" class=\"{kind}{lost}\">", arrow.anchor),
-        Links::None => write!(out, "<g class=\"{kind}{lost}\">"),
+    let y = layout.row(place);
+    match &row.mark {
+        Mark::Arrow(arrow) => {
+            let kind = class_of(arrow.kind);
+            let lost = lost_of(arrow);
+            let anchor = arrow.anchor;
+            let of = ClassesOf { arrow };
+            let sender = Sender { arrow, stations };
+            let receivers = Receivers { arrow, stations };
+            writeln!(
+                out,
+                "<a id=\"a{place}\" href=\"#{anchor}\" class=\"{kind}{lost}{of}\"><title>{sender} to {receivers}</title>"
+            )?;
+            write_arrow(layout, stations, arrow, y, out)?;
+            writeln!(out, "</a>")
+        }
+        Mark::Note(note) => {
+            let of = ClassesOfNote { note };
+            writeln!(out, "<g id=\"a{place}\" class=\"note{of}\">")?;
+            write_note(layout, stations, note, y, out)?;
+            writeln!(out, "</g>")
+        }
+        Mark::Gap(length) => {
+            writeln!(out, "<g class=\"gap\">")?;
+            write_gap(layout, *length, y, out)?;
+            writeln!(out, "</g>")
+        }
     }
 }
 
-/// Writes what a mark ends with.
-fn write_end<A: Allocator, W: Write>(mark: &Mark<A>, links: Links, out: &mut W) -> io::Result<()> {
-    match (mark, links) {
-        (Mark::Arrow(_), Links::Anchors) => writeln!(out, "</a>"),
-        (Mark::Arrow(_), Links::None) | (Mark::Note(_) | Mark::Gap(_), _) => writeln!(out, "</g>"),
+/// Writes a mark.
+fn write_mark<A: Allocator, W: Write>(
+    layout: Layout,
+    stations: &[Station<A>],
+    mark: &Mark<A>,
+    y: usize,
+    out: &mut W,
+) -> io::Result<()> {
+    match mark {
+        Mark::Arrow(arrow) => write_arrow(layout, stations, arrow, y, out),
+        Mark::Note(note) => write_note(layout, stations, note, y, out),
+        Mark::Gap(length) => write_gap(layout, *length, y, out),
     }
+}
+
+/// The class of a message that nobody receives, behind another.
+fn lost_of<A: Allocator>(arrow: &Arrow<A>) -> &'static str {
+    if arrow.is_heard { "" } else { " lost" }
 }
 
 /// The class of a kind of message.
@@ -78,10 +122,14 @@ fn class_of(kind: Kind) -> &'static str {
     }
 }
 
-/// Writes a moment, in milliseconds.
-fn write_moment<W: Write>(moment: u64, y: usize, out: &mut W) -> io::Result<()> {
+/// Writes the moment of a row, in milliseconds; a pause has none.
+fn write_moment<A: Allocator, W: Write>(row: &Row<A>, y: usize, out: &mut W) -> io::Result<()> {
+    if let Mark::Gap(_) = row.mark {
+        return Ok(());
+    }
     let x = MOMENTS - 8;
     let y = y.saturating_add(BESIDE);
+    let moment = row.moment;
     writeln!(
         out,
         "<text class=\"moment\" x=\"{x}\" y=\"{y}\">{moment}</text>"

@@ -9,17 +9,19 @@ use std::alloc::Allocator;
 use std::io;
 use std::io::Write;
 
-/// Whether a picture stands in a page that tells of each message.
+/// What is written of a row.
 #[derive(Clone, Copy, Debug, PartialEq, Eq)]
-pub enum Links {
-    /// It stands alone.
-    None,
-    /// Each arrow leads to its anchor.
-    Anchors,
+pub(crate) enum Piece {
+    /// All of it, in a picture that stands alone.
+    Whole,
+    /// Its moment, in the column of a page that stays.
+    Moment,
+    /// Its mark, which leads to what the page tells of it.
+    Mark,
 }
 
 /// How the picture looks. Each rule names the class of the picture, as it may stand in a page.
-const STYLE: &str = "\
+pub(crate) const STYLE: &str = "\
 .ladder{background:#fff;font:12px system-ui,sans-serif}
 .ladder .paper{fill:#fff}
 .ladder text{fill:#222;paint-order:stroke;stroke:#fff;stroke-width:3px;stroke-linejoin:round}
@@ -49,6 +51,8 @@ const STYLE: &str = "\
 .ladder .note{color:#222}
 .ladder .legend tspan{fill:currentColor}
 .ladder a:hover .label{text-decoration:underline}
+.ladder a:target .label{font-weight:700}
+.ladder .off{opacity:.12}
 @media (prefers-color-scheme:dark){
 .ladder{background:#16191d}
 .ladder .paper,.ladder circle{fill:#16191d}
@@ -74,27 +78,48 @@ const STYLE: &str = "\
 ///
 /// # Errors
 /// Those of writing.
-pub fn write_svg<A: Allocator, W: Write>(
+pub fn write_svg<A: Allocator, W: Write>(ladder: &Ladder<A>, out: &mut W) -> io::Result<()> {
+    let layout = layout_of(ladder);
+    write_start(layout, out)?;
+    write_behind(layout, ladder, out)?;
+    write_rows(layout, ladder, Piece::Whole, out)?;
+    write_legend(layout, ladder.remark.as_str(), out)?;
+    writeln!(out, "</svg>")
+}
+
+/// Where everything stands in the picture of a ladder.
+pub(crate) fn layout_of<A: Allocator>(ladder: &Ladder<A>) -> Layout {
+    Layout {
+        lanes: ladder.lanes(),
+        rows: ladder.rows.len(),
+    }
+}
+
+/// Writes what stands behind the rows: bands, shades and lanes.
+pub(crate) fn write_behind<A: Allocator, W: Write>(
+    layout: Layout,
     ladder: &Ladder<A>,
-    links: Links,
     out: &mut W,
 ) -> io::Result<()> {
     let stations = ladder.stations.as_slice();
-    let layout = Layout {
-        lanes: ladder.lanes(),
-        rows: ladder.rows.len(),
-    };
-    write_start(layout, out)?;
     write_bands(layout, ladder.bands.as_slice(), out)?;
     write_shades(layout, stations, ladder.shades.as_slice(), out)?;
-    write_lanes(layout, stations, out)?;
+    write_lanes(layout, stations, out)
+}
+
+/// Writes all rows, or a piece of each.
+pub(crate) fn write_rows<A: Allocator, W: Write>(
+    layout: Layout,
+    ladder: &Ladder<A>,
+    piece: Piece,
+    out: &mut W,
+) -> io::Result<()> {
     let mut place = 0usize;
     for row in &ladder.rows {
-        write_row(layout, stations, place, row, links, out)?;
+        write_row(layout, ladder.stations.as_slice(), place, row, piece, out)?;
         place = place.saturating_add(1);
     }
-    write_legend(layout, ladder.remark.as_str(), out)?;
-    writeln!(out, "</svg>")
+    Ok(())
 }
 
 /// Writes what the picture begins with.
@@ -119,25 +144,40 @@ fn write_start<W: Write>(layout: Layout, out: &mut W) -> io::Result<()> {
 }
 
 /// What the picture says of its marks.
-const LEGEND: &str = "\
+pub(crate) const LEGEND: &str = "\
 An arrow is a message at the time it is received, a line with dots a broadcast; one with a cross was sent then, and is \
 never received. A dot alone is an event.";
 
 /// Which colour is what.
-const COLOURS: &str = "\
-<tspan class=\"request\">request</tspan> · <tspan class=\"answer\">answer</tspan> · \
-<tspan class=\"refusal\">Error, Reject, Abort</tspan> · <tspan class=\"unconfirmed\">unconfirmed request</tspan> · \
-<tspan class=\"other\">network and link messages</tspan>";
+const COLOURS: [(&str, &str); 5] = [
+    ("request", "request"),
+    ("answer", "answer"),
+    ("refusal", "Error, Reject, Abort"),
+    ("unconfirmed", "unconfirmed request"),
+    ("other", "network and link messages"),
+];
+
+/// Writes which colour is what, each in an element.
+pub(crate) fn write_colours<W: Write>(element: &str, out: &mut W) -> io::Result<()> {
+    let mut before = "";
+    for (class, words) in COLOURS {
+        write!(
+            out,
+            "{before}<{element} class=\"{class}\">{words}</{element}>"
+        )?;
+        before = " · ";
+    }
+    Ok(())
+}
 
 /// Writes what the marks mean, and what isn't in the picture.
 fn write_legend<W: Write>(layout: Layout, remark: &str, out: &mut W) -> io::Result<()> {
     let first = layout.legend().saturating_add(20);
     let second = first.saturating_add(18);
     let third = second.saturating_add(18);
-    writeln!(
-        out,
-        "<text class=\"legend\" x=\"8\" y=\"{first}\">{COLOURS}</text>"
-    )?;
+    write!(out, "<text class=\"legend\" x=\"8\" y=\"{first}\">")?;
+    write_colours("tspan", out)?;
+    writeln!(out, "</text>")?;
     writeln!(out, "<text x=\"8\" y=\"{second}\">{LEGEND}</text>")?;
     let remark = Escaped::whole(remark);
     writeln!(out, "<text x=\"8\" y=\"{third}\">{remark}</text>")

@@ -124,32 +124,51 @@ pub(crate) fn summaries(alloc: Global, text: &str) -> Result<String, Stop> {
         if let Some(summary) = between(line, "<summary>", "</summary>") {
             said = summary;
         }
-        if let Some(id) = between(line, "<pre id=\"", "\"") {
+        if let Some(id) = between(line, "<div id=\"", "\"") {
             push_part(format!(in alloc; "{id} {said}")?.as_str(), &mut out)?;
         }
     }
     Ok(out)
 }
 
-/// The lines that a page has of the octets of the message at a place.
+/// What a page says of the octets of the message at a place: the lines of each branch, the first one behind its name, or
+/// that another has the same.
 pub(crate) fn explained(alloc: Global, place: &str, text: &str) -> Result<String, Stop> {
     let mut out = String::new(alloc);
-    let begin = format!(in alloc; "<pre id=\"{place}\">")?;
-    if let Some(lines) = between(text, begin.as_str(), "</pre>") {
+    let begin = format!(in alloc; "<div id=\"{place}\">")?;
+    if let Some(lines) = between(text, begin.as_str(), "</div>") {
         for line in lines.lines() {
-            push_part(line, &mut out)?;
+            push_line(alloc, line, &mut out)?;
         }
     }
     Ok(out)
 }
 
-/// The rows of a page's history: `4 d executed 0 values enum 0`.
+/// Appends what a line of a tree says, if it says anything: not where the message is found in the ladder.
+fn push_line(alloc: Global, line: &str, out: &mut String) -> Result<(), Stop> {
+    if let Some(name) = between(line, "<summary>", "</summary><pre>") {
+        let (_, first) = line.split_once("<pre>").unwrap_or(("", ""));
+        return push_part(format!(in alloc; "{name}: {first}")?.as_str(), out);
+    }
+    if let Some(number) = between(line, "the octets of <a href=\"#", "</a>") {
+        let (place, said) = number.split_once("\">").unwrap_or((number, ""));
+        return push_part(format!(in alloc; "as {place}, {said}")?.as_str(), out);
+    }
+    if line.is_empty() || line.starts_with("<") {
+        return Ok(());
+    }
+    push_part(line, out)
+}
+
+/// The rows of a page's history: `4 d executed 0 values enum inactive`.
 pub(crate) fn history(alloc: Global, text: &str) -> Result<String, Stop> {
     let mut out = String::new(alloc);
     for line in text.lines() {
-        if let Some(moment) = between(line, "<td class=\"moment\">", "<") {
+        if line.starts_with("<tr class=\"note") {
+            let moment = between(line, "<td class=\"moment\">", "<").unwrap_or("");
             let station = between(line, "</td><td>", "<").unwrap_or("");
             let entry = between(line, "<td class=\"entry\">", "</td>").unwrap_or("");
+            let entry = linked(entry);
             push_part(
                 format!(in alloc; "{moment} {station} {entry}")?.as_str(),
                 &mut out,
@@ -159,14 +178,56 @@ pub(crate) fn history(alloc: Global, text: &str) -> Result<String, Stop> {
     Ok(out)
 }
 
+/// A text without the link around it, if there is one.
+fn linked(text: &str) -> &str {
+    match text.strip_suffix("</a>") {
+        Some(front) => match front.split_once("\">") {
+            Some((_, inner)) => inner,
+            None => front,
+        },
+        None => text,
+    }
+}
+
+/// The requests of a page: `0 3 c 10 read binary-value,1 present-value: values enum inactive, 2`, with the time of each,
+/// what it came to, and after how many milliseconds.
+pub(crate) fn requests(alloc: Global, text: &str) -> Result<String, Stop> {
+    let mut out = String::new(alloc);
+    for line in text.lines() {
+        if line.starts_with("<tr id=\"q") {
+            let (front, behind) = line
+                .split_once("</td><td class=\"entry\">")
+                .unwrap_or((line, ""));
+            let (asked, end) = behind
+                .split_once("</td><td class=\"entry\">")
+                .unwrap_or((behind, ""));
+            let number = linked(between(front, "<td>", "</td>").unwrap_or(""));
+            let (_, moment) = front
+                .split_once("<td class=\"moment\">")
+                .unwrap_or(("", ""));
+            let (came_to, rest) = end.split_once("</td>").unwrap_or((end, ""));
+            let after = between(rest, ">", "<").unwrap_or("");
+            let comma = if after.is_empty() { "" } else { ", " };
+            push_part(
+                format!(in alloc; "{number} {moment} {asked}: {came_to}{comma}{after}")?.as_str(),
+                &mut out,
+            )?;
+        }
+    }
+    Ok(out)
+}
+
 /// Whether each link of a page leads to a place of it.
 pub(crate) fn are_links_there(alloc: Global, text: &str) -> Result<bool, Stop> {
-    for line in text.lines() {
-        if let Some(place) = between(line, "<a href=\"#", "\"") {
-            let id = format!(in alloc; " id=\"{place}\"")?;
-            if !text.contains(id.as_str()) {
-                return Ok(false);
-            }
+    let (_, links) = text.split_once(" href=\"#").unwrap_or(("", ""));
+    if links.is_empty() {
+        return Ok(true);
+    }
+    for link in links.split(" href=\"#") {
+        let (place, _) = link.split_once('"').unwrap_or((link, ""));
+        let id = format!(in alloc; " id=\"{place}\"")?;
+        if !text.contains(id.as_str()) {
+            return Ok(false);
         }
     }
     Ok(true)

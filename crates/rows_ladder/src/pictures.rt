@@ -12,8 +12,8 @@
 use crate::drawn::{shapes, titles};
 use crate::nesting::is_nested;
 use ladder::{
-    Anchor, Arrow, Band, Escaped, Kind, Ladder, Links, Mark, Note, Reach, Repeat, Row, Segment,
-    Shade, Station, write_svg,
+    Anchor, Arrow, Band, Escaped, Kind, Ladder, Mark, Note, Reach, Repeat, Row, Segment, Shade,
+    Station, write_svg,
 };
 use sheets::{Counts, Given, Part, Stop, Trial, differs, number, run_text, try_row, two_words};
 use std::alloc::{Allocator, Global};
@@ -63,7 +63,7 @@ impl<'a> Trial<'a> for Picture<'_> {
     fn answer(&self, given: Given<'a>, _octets: &[u8]) -> Result<String, Stop> {
         let ladder = ladder_in(given.memory, self.words)?;
         let mut out = Vec::new(given.memory);
-        if write_svg(&ladder, Links::None, &mut out).is_err() {
+        if write_svg(&ladder, &mut out).is_err() {
             return Err(Stop::Memory);
         }
         let text = std::str::from_utf8(out.as_slice()).unwrap_or("");

@@ -283,7 +283,7 @@ impl<'p, A: Allocator + Copy> Gathering<'p, A> {
             entry,
             history: world.history(),
             stations,
-            spelling: Spelling::Numbers,
+            spelling: Spelling::Names,
         };
         let line = format!(in self.alloc; "{shown}")?;
         let (_, text) = line.split_once(' ').unwrap_or(("", line.as_str()));

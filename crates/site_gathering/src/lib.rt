@@ -20,4 +20,6 @@ mod requests;
 pub use gathering::{Datagram, Facts, Gathering, PutFrame, Restart};
 pub use part::Part;
 pub use places::{name_of, network_of, place_named};
-pub use site_steps::{EndLine, Event, Stop, Watcher, World, counted, watch};
+pub use site_steps::{
+    EndLine, EntryLine, Event, Spelling, Stop, Watcher, World, WorldEntry, counted, watch,
+};

@@ -3,7 +3,7 @@
 use crate::folding::{folded, shades_of, with_pauses};
 use crate::lanes::{bands_of, stations_of};
 use crate::page::write_page;
-use ladder::{Ladder, Links, write_svg};
+use ladder::{Ladder, write_svg};
 use site_gathering::{Event, Gathering, Part, Stop, Watcher, World, place_named, watch};
 use std::alloc::{AllocError, Allocator, Global};
 use tags::Fault;
@@ -46,7 +46,7 @@ impl<A: Allocator + Copy> Watcher<A> for Drawing<'_, A> {
     fn end(&mut self, world: &World<A>) -> Result<(), Fault> {
         let ladder = ladder_of(world, &mut self.gathering)?;
         let written = match self.form {
-            Form::Picture => write_svg(&ladder, Links::None, &mut self.drawn),
+            Form::Picture => write_svg(&ladder, &mut self.drawn),
             Form::Page => write_page(world, &self.gathering, &ladder, &mut self.drawn),
         };
         match written {

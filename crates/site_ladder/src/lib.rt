@@ -6,14 +6,19 @@
 //!
 //! - `drawing`: the two calls.
 //! - `lanes`: which stations have lanes, and where. `folding`: what becomes one row, pauses and shades.
-//! - `page`, `page_messages`: the page, and what it says of each message.
+//! - `page`, `page_requests`, `page_messages`: the page, and what it says of each request and of each message, whose
+//!   octets `tree` tells and `equal` tells once. `found`: where it leads into the picture.
 #![tactic(auto)]
 
 mod drawing;
+mod equal;
 mod folding;
+mod found;
 mod lanes;
 mod page;
 mod page_messages;
+mod page_requests;
+mod tree;
 
 pub use drawing::{ladder, report};
 pub use site_gathering::{Part, Stop};

@@ -1,7 +1,9 @@
-//! The page of a run: HTML that needs no other file and no script.
+//! The page of a run: HTML that needs no other file.
 
+use crate::found::Found;
 use crate::page_messages::{write_datagrams, write_frames};
-use ladder::{Escaped, Ladder, Links, Mark, Note, Row, Station, write_svg};
+use crate::page_requests::write_requests;
+use ladder::{Escaped, Ladder, Mark, Note, Row, Station, write_html};
 use site_gathering::{EndLine, Gathering, Part, World, counted};
 use std::alloc::Allocator;
 use std::io;
@@ -11,19 +13,32 @@ use std::io::Write;
 const STYLE: &str = "\
 :root{color-scheme:light dark}
 body{font:15px/1.5 system-ui,sans-serif;color:#222;background:#fff;margin:24px auto;padding:0 20px}
-h1{font-size:24px}h2{font-size:18px;margin-top:32px}
-.picture{overflow:auto;max-height:90vh;border:1px solid #ddd}.picture svg{display:block}
+h1{font-size:24px}h2{font-size:18px;margin-top:32px}a{color:#1452a8}
 table{border-collapse:collapse}th,td{text-align:left;padding:2px 16px 2px 0;border-bottom:1px solid #ddd}
 td.moment,th.moment{text-align:right}td.entry,pre{font-family:ui-monospace,monospace;font-size:13px}
 details{border-bottom:1px solid #ddd;padding:3px 0}summary{cursor:pointer}
-pre{margin:4px 0 8px 20px}pre:target{background:#fff6d6}
-.lost{color:#b3261e}
+details details{border:0;padding:0 0 0 20px}pre{margin:0 0 4px 20px}
+:target{background:#fff6d6}
+.lost{color:#b3261e}tr.off{display:none}
 @media (prefers-color-scheme:dark){
-body{color:#e4e6e8;background:#16191d}
-.picture,th,td,details{border-color:#3a4047}
-pre:target{background:#4a4320}
+body{color:#e4e6e8;background:#16191d}a{color:#7db4ff}
+th,td,details{border-color:#3a4047}
+:target{background:#4a4320}
 .lost{color:#ff8f86}
 }
+";
+
+/// What the page does by itself: it fades the marks that aren't of the chosen station and request, and leaves out the
+/// lines of tables.
+const SCRIPT: &str = "\
+const station=document.getElementById('station'),request=document.getElementById('request');
+const marks=document.querySelectorAll('.rows a,.rows .note,#requests tr[id],#history tr[class]');
+function choose(){
+const s=station.value,r=request.value?'r'+request.value:'';
+marks.forEach(m=>m.classList.toggle('off',!(!s||m.classList.contains('all')||m.classList.contains(s))||
+!(!r||m.classList.contains(r))));
+}
+station.onchange=request.oninput=choose;
 ";
 
 /// Writes the page of a run with its picture.
@@ -33,14 +48,37 @@ pub(crate) fn write_page<A: Allocator + Copy, W: Write>(
     ladder: &Ladder<A>,
     out: &mut W,
 ) -> io::Result<()> {
+    let alloc = gathering.alloc;
+    let found = Found::of(alloc, ladder)?;
     write_head(world, gathering.part, out)?;
-    writeln!(out, "<h2>Ladder</h2>\n<div class=\"picture\">")?;
-    write_svg(ladder, Links::Anchors, out)?;
-    writeln!(out, "</div>")?;
+    write_requests(alloc, world, &found, out)?;
+    writeln!(out, "<h2>Ladder</h2>")?;
+    write_choice(ladder.stations.as_slice(), out)?;
+    write_html(ladder, out)?;
     write_history(ladder, out)?;
-    write_datagrams(world, gathering, out)?;
-    write_frames(world, gathering, out)?;
-    writeln!(out, "</body>\n</html>")
+    write_datagrams(world, gathering, &found, out)?;
+    write_frames(world, gathering, &found, out)?;
+    writeln!(out, "<script>\n{SCRIPT}</script>\n</body>\n</html>")
+}
+
+/// Writes where a station and a request are chosen.
+fn write_choice<A: Allocator, W: Write>(stations: &[Station<A>], out: &mut W) -> io::Result<()> {
+    write!(
+        out,
+        "<p>Only station <select id=\"station\"><option value=\"\">all</option>"
+    )?;
+    let mut place = 0usize;
+    for station in stations {
+        if station.lane.is_some() {
+            let name = Escaped::whole(station.name.as_str());
+            write!(out, "<option value=\"s{place}\">{name}</option>")?;
+        }
+        place = place.saturating_add(1);
+    }
+    writeln!(
+        out,
+        "</select> and request <input id=\"request\" size=\"6\"/></p>"
+    )
 }
 
 /// Writes what the page begins with: which part of the run it shows, and what there was of all in the whole run.
@@ -73,7 +111,7 @@ fn write_head<A: Allocator + Copy, W: Write>(
 
 /// Writes the entries of the history and the refusals, as a table.
 fn write_history<A: Allocator, W: Write>(ladder: &Ladder<A>, out: &mut W) -> io::Result<()> {
-    writeln!(out, "<h2>History</h2>\n<table>")?;
+    writeln!(out, "<h2>History</h2>\n<table id=\"history\">")?;
     writeln!(
         out,
         "<tr><th class=\"moment\">Time (ms)</th><th>Station</th><th>Event</th></tr>"
@@ -84,22 +122,33 @@ fn write_history<A: Allocator, W: Write>(ladder: &Ladder<A>, out: &mut W) -> io:
     writeln!(out, "</table>")
 }
 
-/// Writes the row of an entry or of a refusal.
+/// Writes the row of an entry or of a refusal. An entry leads to its request.
 fn write_entry<A: Allocator, W: Write>(
     row: &Row<A>,
     stations: &[Station<A>],
     out: &mut W,
 ) -> io::Result<()> {
-    let Mark::Note(Note { station, text, .. }) = &row.mark else {
+    let Mark::Note(note) = &row.mark else {
         return Ok(());
     };
+    let Note {
+        station,
+        text,
+        request,
+    } = note;
     let moment = row.moment;
+    let of = note.classes();
     let station = Escaped::whole(station_name(*station, stations));
     let text = Escaped::whole(text.as_str());
-    writeln!(
+    write!(
         out,
-        "<tr><td class=\"moment\">{moment}</td><td>{station}</td><td class=\"entry\">{text}</td></tr>"
-    )
+        "<tr class=\"note{of}\"><td class=\"moment\">{moment}</td><td>{station}</td><td class=\"entry\">"
+    )?;
+    match request {
+        Some(number) => write!(out, "<a href=\"#q{number}\">{text}</a>")?,
+        None => write!(out, "{text}")?,
+    }
+    writeln!(out, "</td></tr>")
 }
 
 /// The name of a station, if it is one.

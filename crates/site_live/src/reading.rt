@@ -7,7 +7,7 @@ ghost use Rattle.script.specs.Steps.{IsSoundStep};
 ghost use Rattle.site_live.specs.Steps.{AreLive, SaysLive};
 
 use crate::step::live_step;
-use script::{BadScript, Step, script_of};
+use script::{BadScript, Event, Step, script_of};
 use std::alloc::{AllocError, Allocator};
 use tags::Items;
 use words::Unread;
@@ -86,10 +86,12 @@ fn cut_line(text: &[u8]) -> (&[u8], Option<&[u8]>)
 fn fault_of<A: Allocator + Copy>(alloc: A, line: &[u8], number: usize) -> Option<BadScript> {
     match script_of(alloc, line) {
         Ok(said) => match said.as_slice() {
-            [Step::Wake(_) | Step::Deliver(_) | Step::Hear { .. }] => Some(BadScript::Line {
-                number,
-                unread: Unread::Step,
-            }),
+            [Step::Happens(Event::Wake(_) | Event::Deliver(_) | Event::Hear { .. })] => {
+                Some(BadScript::Line {
+                    number,
+                    unread: Unread::Step,
+                })
+            }
             _ => None,
         },
         Err(BadScript::Memory) => Some(BadScript::Memory),
