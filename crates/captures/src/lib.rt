@@ -33,4 +33,4 @@ pub use files::MAX_BLOCK_OCTETS;
 pub use internet::Datagram;
 pub use link::LinkType;
 pub use reading::{Carried, Packet};
-pub use writing::{MAX_OCTETS, write_datagram, write_frame, write_start};
+pub use writing::{MAX_OCTETS, MAX_WORDS, write_datagram, write_frame, write_name, write_start};

@@ -1,4 +1,4 @@
-//! A pcapng file that is written: its section and its interfaces, and packet behind packet. The first interface is IP,
+//! A pcapng file that is written: its section, its interfaces and names of hosts, and packet behind packet. The first interface is IP,
 //! on which each datagram stands in a packet of IP and UDP; then comes one for each bus. Stamps are milliseconds, so
 //! that datagrams and frames have one time.
 
@@ -16,6 +16,15 @@ pub const MAX_OCTETS: usize = 65_507;
 
 /// The octets in front of a datagram.
 const FRONT_OCTETS: usize = IP_HEADER_OCTETS + UDP_HEADER_OCTETS;
+
+/// The most octets of a name or a comment that is written.
+pub const MAX_WORDS: usize = 255;
+
+/// The option `opt_comment` of a packet.
+const COMMENT: u16 = 1;
+
+/// The record `nrb_record_ipv4` of a name.
+const HOST: u16 = 1;
 
 /// The option `if_name` of an interface.
 const NAME: u16 = 2;
@@ -38,46 +47,69 @@ pub fn write_start<B: Allocator>(buses: &[u16], out: &mut Vec<u8, B>) -> Result<
     all_or_none(put, start, out)
 }
 
-/// Appends a datagram at a moment, in milliseconds. After an `Err` the buffer is as it was.
+/// Appends a name for an address of IP, in UTF-8. After an `Err` the buffer is as it was.
 ///
 /// # Errors
-/// `TooLong` for over 65507 octets, `Memory`.
-pub fn write_datagram<B: Allocator>(
-    datagram: &Datagram<'_>,
-    moment: u64,
+/// `TooLong` for over 255 octets, `Memory`.
+pub fn write_name<B: Allocator>(
+    address: [u8; 4],
+    name: &[u8],
     out: &mut Vec<u8, B>,
 ) -> Result<(), Fault>
     ensures fault { IfErr result (λ fault. (fault ≡ Fault.Memory) ⊎ (fault ≡ Fault.TooLong)) }
     ensures unchanged { OnErr result (out.new.items ≡ out.old.items) }
 {
-    if datagram.octets.len() > MAX_OCTETS {
+    if name.len() > MAX_WORDS {
+        return Err(Fault::TooLong);
+    }
+    let start = out.len();
+    let put = put_name(&address, name, out);
+    all_or_none(put, start, out)
+}
+
+/// Appends a datagram at a moment, in milliseconds, with a comment in UTF-8, unless that is empty. After an `Err` the
+/// buffer is as it was.
+///
+/// # Errors
+/// `TooLong` for over 65507 octets or a comment of over 255, `Memory`.
+pub fn write_datagram<B: Allocator>(
+    datagram: &Datagram<'_>,
+    moment: u64,
+    comment: &[u8],
+    out: &mut Vec<u8, B>,
+) -> Result<(), Fault>
+    ensures fault { IfErr result (λ fault. (fault ≡ Fault.Memory) ⊎ (fault ≡ Fault.TooLong)) }
+    ensures unchanged { OnErr result (out.new.items ≡ out.old.items) }
+{
+    if datagram.octets.len() > MAX_OCTETS || comment.len() > MAX_WORDS {
         return Err(Fault::TooLong);
     }
     let start = out.len();
     let front = front_of(datagram);
-    let put = put_packet(0, moment, &front, datagram.octets, out);
+    let put = put_packet(0, moment, &front, datagram.octets, comment, out);
     all_or_none(put, start, out)
 }
 
-/// Appends what is put out on a bus at a moment, in milliseconds. The bus is named by its place among those that the
-/// file begins with, from 0. After an `Err` the buffer is as it was.
+/// Appends what is put out on a bus at a moment, in milliseconds, with a comment in UTF-8, unless that is empty. The bus
+/// is named by its place among those that the file begins with, from 0. After an `Err` the buffer is as it was.
 ///
 /// # Errors
-/// `TooLong` for over 65507 octets, `Memory`.
+/// `TooLong` for over 65507 octets or a comment of over 255, `Memory`.
 pub fn write_frame<B: Allocator>(
     bus: u16,
     octets: &[u8],
     moment: u64,
+    comment: &[u8],
     out: &mut Vec<u8, B>,
 ) -> Result<(), Fault>
     ensures fault { IfErr result (λ fault. (fault ≡ Fault.Memory) ⊎ (fault ≡ Fault.TooLong)) }
     ensures unchanged { OnErr result (out.new.items ≡ out.old.items) }
 {
-    if octets.len() > MAX_OCTETS {
+    if octets.len() > MAX_OCTETS || comment.len() > MAX_WORDS {
         return Err(Fault::TooLong);
     }
     let start = out.len();
-    let put = put_packet(u32::from(bus) + 1, moment, &[], octets, out);
+    let put = put_packet(u32::from(bus) + 1, moment, &[], octets, comment, out);
     all_or_none(put, start, out)
 }
 
@@ -167,6 +199,62 @@ fn put_interface<B: Allocator>(
     put_numbers(&[count], out)
 }
 
+/// Appends a Name Resolution Block of one name.
+#[tactic(auto, using(crate::proofs::Extending::extending))]
+fn put_name<B: Allocator>(
+    address: &[u8; 4],
+    name: &[u8],
+    out: &mut Vec<u8, B>,
+) -> Result<(), AllocError>
+    requires { length name.now ≤ 255 }
+    ensures ok { OnOk result (Extends out.old.items out.new.items) }
+    ensures err { OnErr result (Extends out.old.items out.new.items) }
+{
+    let end = ending(name.len());
+    let count = (20 + 4 + name.len() + end.len()) as u32;
+    let record = (u32::from(HOST) << 16) | (4 + name.len() + 1) as u32;
+    put_numbers(&[4, count, record], out)?;
+    put_three(address, name, end, out)?;
+    put_numbers(&[0, count], out)
+}
+
+/// The octet 0 that ends a text of so many octets, and those that fill both up to a multiple of four.
+fn ending(count: usize) -> &'static [u8]
+    ensures { length result.now ≤ 4 }
+{
+    match count % 4 {
+        0 => &[0, 0, 0, 0],
+        1 => &[0, 0, 0],
+        2 => &[0, 0],
+        _ => &[0],
+    }
+}
+
+/// How many octets the options of a packet with a comment have.
+fn options_of(comment: &[u8]) -> usize
+    requires { length comment.now ≤ 255 }
+    ensures { result ≤ 300 }
+{
+    if comment.is_empty() {
+        return 0;
+    }
+    8 + comment.len() + filling(comment.len()).len()
+}
+
+/// Appends the options of a packet with a comment: the comment, unless it is empty, and their end.
+#[tactic(auto, using(crate::proofs::Extending::extending))]
+fn put_options<B: Allocator>(comment: &[u8], out: &mut Vec<u8, B>) -> Result<(), AllocError>
+    requires { length comment.now ≤ 255 }
+    ensures ok { OnOk result (Extends out.old.items out.new.items) }
+    ensures err { OnErr result (Extends out.old.items out.new.items) }
+{
+    if comment.is_empty() {
+        return Ok(());
+    }
+    put_numbers(&[(u32::from(COMMENT) << 16) | comment.len() as u32], out)?;
+    put_three(comment, filling(comment.len()), &[0, 0, 0, 0], out)
+}
+
 /// Appends an Enhanced Packet Block, whose packet has two parts.
 #[tactic(auto, using(crate::proofs::Extending::extending))]
 fn put_packet<B: Allocator>(
@@ -174,20 +262,23 @@ fn put_packet<B: Allocator>(
     moment: u64,
     front: &[u8],
     octets: &[u8],
+    comment: &[u8],
     out: &mut Vec<u8, B>,
 ) -> Result<(), AllocError>
-    requires { length front.now + length octets.now ≤ 65535 }
+    requires octets { length front.now + length octets.now ≤ 65535 }
+    requires words { length comment.now ≤ 255 }
     ensures ok { OnOk result (Extends out.old.items out.new.items) }
     ensures err { OnErr result (Extends out.old.items out.new.items) }
 {
     let length = front.len() + octets.len();
     let fill = filling(length);
-    let count = (32 + length + fill.len()) as u32;
+    let count = (32 + length + fill.len() + options_of(comment)) as u32;
     let length = length as u32;
     let high = (moment >> 32) as u32;
     let low = (moment & 0xFFFF_FFFF) as u32;
     put_numbers(&[6, count, interface, high, low, length, length], out)?;
     put_three(front, octets, fill, out)?;
+    put_options(comment, out)?;
     put_numbers(&[count], out)
 }
 

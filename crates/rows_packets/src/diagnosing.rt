@@ -173,7 +173,7 @@ fn write_packet(
     let (first, words) = two_words(words);
     if first == "frame" {
         let octets = octets_of(alloc, rows, words)?;
-        write_frame(0, octets.as_slice(), moment, file)?;
+        write_frame(0, octets.as_slice(), moment, &[], file)?;
         return Ok(());
     }
     let (second, words) = two_words(words);
@@ -183,7 +183,7 @@ fn write_packet(
         to: address(alloc, rows, second)?,
         octets: octets.as_slice(),
     };
-    write_datagram(&datagram, moment, file)?;
+    write_datagram(&datagram, moment, &[], file)?;
     Ok(())
 }
 

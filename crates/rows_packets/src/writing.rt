@@ -1,13 +1,13 @@
-//! What is written: `write 2 3; datagram 7F000001BAC1 7F000001BAC0 810A00.. @5; frame 0 55FF.. @7 -> FILE`, the
-//! networks of the buses first (`-` for none), then a datagram with its ends and its moment, or a frame on the bus at a
-//! place; and `back .. -> ..`, what is read of that again, as rows of `reading` have it.
+//! What is written: `write 2 3; name 7F000001 c; datagram 7F000001BAC1 7F000001BAC0 810A00.. @5; frame 0 55FF.. @7 ~c to
+//! d -> FILE`, the networks of the buses first (`-` for none), then the name of an address, a datagram with its ends and
+//! its moment, or a frame on the bus at a place, either with a comment or without; and `back .. -> ..`, what is read of that again, as rows of `reading` have it.
 //!
 //! Each row runs again with each allocation refused in turn: the buffer is then as it was.
 
 use crate::pieces::octets_of;
 use crate::reading::Reading;
 use bvll::{ADDRESS_OCTETS, Address};
-use captures::{Datagram, write_datagram, write_frame, write_start};
+use captures::{Datagram, write_datagram, write_frame, write_name, write_start};
 use sheets::{
     Counts, Given, Part, Row, Stop, Trial, differs, octets, octets_in_words, refusal, run_text,
     try_row, two_words,
@@ -141,10 +141,15 @@ fn write_one<B: Allocator>(
     step: &str,
     file: &mut Vec<u8, B>,
 ) -> Result<Result<(), Fault>, Stop> {
+    if let Some(words) = step.strip_prefix("name ") {
+        return write_host(alloc, words, file);
+    }
     let Some((words, moment)) = step.split_once(" @") else {
         return Err(Stop::Unread(Part::Asked));
     };
+    let (moment, comment) = moment.split_once(" ~").unwrap_or((moment, ""));
     let moment: u64 = parse_number(moment)?;
+    let comment = comment.as_bytes();
     let (word, words) = two_words(words);
     let (first, words) = two_words(words);
     match word {
@@ -156,14 +161,37 @@ fn write_one<B: Allocator>(
                 to: address(alloc, to)?,
                 octets: octets.as_slice(),
             };
-            Ok(write_datagram(&datagram, moment, file))
+            Ok(write_datagram(&datagram, moment, comment, file))
         }
         "frame" => {
             let octets: Octets<Global> = octets(alloc, words)?;
-            Ok(write_frame(parse_u16(first)?, octets.as_slice(), moment, file))
+            Ok(write_frame(parse_u16(first)?, octets.as_slice(), moment, comment, file))
         }
         _ => Err(Stop::Unread(Part::Asked)),
     }
+}
+
+/// Appends the name of an address, or one of so many letters, as `x*256`.
+fn write_host<B: Allocator>(
+    alloc: Global,
+    words: &str,
+    file: &mut Vec<u8, B>,
+) -> Result<Result<(), Fault>, Stop> {
+    let (ip, name) = two_words(words);
+    let ip: Octets<Global> = octets(alloc, ip)?;
+    let [a, b, c, d] = ip.as_slice() else {
+        return Err(Stop::Unread(Part::Octets));
+    };
+    let address = [*a, *b, *c, *d];
+    let Some((letter, count)) = name.split_once('*') else {
+        return Ok(write_name(address, name.as_bytes(), file));
+    };
+    let count: u16 = parse_u16(count)?;
+    let mut letters = Vec::new(alloc);
+    for _ in 0..count {
+        letters.extend_from_slice(letter.as_bytes())?;
+    }
+    Ok(write_name(address, letters.as_slice(), file))
 }
 
 /// The address of six octets.

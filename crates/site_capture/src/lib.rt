@@ -6,10 +6,13 @@
 //!
 //! - `capturing`: the steps of a script, and what each puts out.
 //! - `living`: a live run, and what each of its turns puts out.
-//! - `putting`: what is written of a site's datagrams and frames.
+//! - `putting`: what is written of a site's datagrams and frames. `hosts`: the names of its stations. `fate`: what
+//!   becomes of a datagram.
 #![tactic(auto)]
 
 mod capturing;
+mod fate;
+mod hosts;
 mod living;
 mod putting;
 

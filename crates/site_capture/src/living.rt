@@ -1,5 +1,6 @@
 //! A live run, and what each of its turns puts out.
 
+use crate::hosts::put_names;
 use crate::putting::{Seen, networks, put_behind, put_datagram};
 use captures::write_start;
 use site_live::{Got, Internetwork, Observer};
@@ -48,11 +49,20 @@ impl<W: Write + Drop, A: Allocator + Copy> LiveCapture<W, A> {
         if !self.is_begun {
             let networks = networks(self.alloc, buses.buses.as_slice())?;
             write_start(networks.as_slice(), more)?;
+            put_names(self.alloc, site.site().stations(), more)?;
         }
         if let Some(Got { from, to, octets }) = stray {
-            put_datagram(from, to, octets, site.moment(), more)?;
+            put_datagram(from, to, octets, site.moment(), "", more)?;
         }
-        put_behind(self.seen, site.items(), buses, site.moment(), more)
+        put_behind(
+            self.alloc,
+            self.seen,
+            site.items(),
+            buses,
+            site.site().stations(),
+            site.moment(),
+            more,
+        )
     }
 }
 

@@ -1,10 +1,12 @@
 //! What is written of a world's datagrams and frames.
 
-use bus_traffic::{Bus, Recent};
+use crate::hosts::ends_of;
+use bus_traffic::Bus;
 use buses::Buses;
 use bvll::Address;
 use captures::{Datagram, write_datagram, write_frame};
 use npdu::Mac;
+use site_parts::Station;
 use std::alloc::{AllocError, Allocator};
 use tags::Fault;
 use traffic::Item;
@@ -48,18 +50,26 @@ impl Seen {
     }
 }
 
-/// Writes what was put out behind what stands in the file, the frames at this moment, in milliseconds.
-pub(crate) fn put_behind<A: Allocator, B: Allocator>(
+/// Writes what was put out behind what stands in the file, the frames at this moment, in milliseconds, with the names of
+/// their ends.
+pub(crate) fn put_behind<A: Allocator + Copy, B: Allocator>(
+    alloc: A,
     seen: Seen,
     items: &[Item<A>],
     buses: &Buses<A>,
+    stations: &[Station<A>],
     moment: u64,
     file: &mut Vec<u8, B>,
 ) -> Result<(), Fault> {
     if let Some(items) = items.get(seen.items..) {
         put_items(items, file)?;
     }
-    put_buses(buses.buses.as_slice(), seen.frames, moment, file)
+    let mut place = 0u16;
+    for bus in &buses.buses {
+        put_bus(alloc, place, bus, seen.frames, stations, moment, file)?;
+        place = place.saturating_add(1);
+    }
+    Ok(())
 }
 
 /// Writes datagrams.
@@ -68,14 +78,15 @@ fn put_items<A: Allocator, B: Allocator>(
     file: &mut Vec<u8, B>,
 ) -> Result<(), Fault> {
     for item in items {
-        put_item(item, file)?;
+        put_item(item, "", file)?;
     }
     Ok(())
 }
 
-/// Writes a datagram at the moment at which it was put out.
-fn put_item<A: Allocator, B: Allocator>(
+/// Writes a datagram at the moment at which it was put out, with a comment.
+pub(crate) fn put_item<A: Allocator, B: Allocator>(
     item: &Item<A>,
+    comment: &str,
     file: &mut Vec<u8, B>,
 ) -> Result<(), Fault> {
     put_datagram(
@@ -83,20 +94,27 @@ fn put_item<A: Allocator, B: Allocator>(
         item.to,
         item.octets.as_slice(),
         item.put_out,
+        comment,
         file,
     )
 }
 
-/// Writes a datagram between addresses of BACnet/IP.
+/// Writes a datagram between addresses of BACnet/IP, with a comment.
 pub(crate) fn put_datagram<B: Allocator>(
     from: Mac,
     to: Mac,
     octets: &[u8],
     moment: u64,
+    comment: &str,
     file: &mut Vec<u8, B>,
 ) -> Result<(), Fault> {
     match (address(from), address(to)) {
-        (Some(from), Some(to)) => { write_datagram(&Datagram { from, to, octets }, moment, file) }
+        (Some(from), Some(to)) => write_datagram(
+            &Datagram { from, to, octets },
+            moment,
+            comment.as_bytes(),
+            file,
+        ),
         (None, _) | (_, None) => Ok(()),
     }
 }
@@ -109,46 +127,23 @@ fn address(mac: Mac) -> Option<Address> {
     }
 }
 
-/// Writes the frames that were put out on buses behind so many, bus by bus.
-fn put_buses<A: Allocator, B: Allocator>(
-    buses: &[Bus<A>],
-    before: u64,
-    moment: u64,
-    file: &mut Vec<u8, B>,
-) -> Result<(), Fault> {
-    let mut place = 0u16;
-    for bus in buses {
-        put_bus(place, bus, before, moment, file)?;
-        place = place.saturating_add(1);
-    }
-    Ok(())
-}
-
 /// Writes the frames that were put out behind so many on the bus at this place.
-fn put_bus<A: Allocator, B: Allocator>(
+fn put_bus<A: Allocator + Copy, B: Allocator>(
+    alloc: A,
     place: u16,
     bus: &Bus<A>,
     before: u64,
+    stations: &[Station<A>],
     moment: u64,
     file: &mut Vec<u8, B>,
 ) -> Result<(), Fault> {
     for held in &bus.recent {
-        put_frame(place, held.recent(), before, moment, file)?;
+        let sending = &held.recent().sending;
+        if sending.place.frames >= before {
+            let octets = sending.octets.as_slice();
+            let ends = ends_of(alloc, bus.net, octets, stations)?;
+            write_frame(place, octets, moment, ends.as_bytes(), file)?;
+        }
     }
     Ok(())
-}
-
-/// Writes a frame, if it was put out behind so many.
-fn put_frame<A: Allocator, B: Allocator>(
-    place: u16,
-    recent: &Recent<A>,
-    before: u64,
-    moment: u64,
-    file: &mut Vec<u8, B>,
-) -> Result<(), Fault> {
-    let sending = &recent.sending;
-    if sending.place.frames < before {
-        return Ok(());
-    }
-    write_frame(place, sending.octets.as_slice(), moment, file)
 }
