@@ -3,33 +3,17 @@ use Rattle.std.proofs.Common.{◌≡◌, ◌∙◌, refl, sym, ap, subst, ℕ, �
 use Rattle.std.specs.Prelude.{◌≢◌, cond, if◌then◌else◌, Option, Some, None, drop, take, length, zero, suc, not, slice_get, slice_set}
 use Rattle.std.specs.List.{AllByRecursion}
 use Rattle.std.specs.declared.cmp.Ordering.{Ordering}
-use Rattle.std.specs.declared.cmp.Ordering.TheVariants.{Less, Equal, Greater}
-use Rattle.std.specs.Ordering.{is_eq, nat_cmp}
-use Rattle.std.proofs.lemmas.Map.Lookups.{exact_unsigned}
+use Rattle.std.specs.Ordering.{is_eq}
 use Rattle.std.specs.Prelude.{◌==◌}
 use Rattle.std.proofs.lemmas.Bool.{eqb-true, eq-eqb}
 use Rattle.std.proofs.lemmas.List.{get_or-set_other, get_or-set_same}
-use Rattle.npdu.proofs.Stations.{then_equal, station_order}
 use Rattle.npdu.specs.declared.mac.Way.{Way}
 use Rattle.segments.specs.Sender.{SenderState}
-use Rattle.npdu.specs.declared.mac.Station.{Station}
 use Rattle.remembered.specs.declared.record.Asker.{Asker}
-use Rattle.npdu.specs.Mac.{station_cmp}
 use Rattle.remembered.specs.declared.record.Record.{Record}
 use Rattle.remembered.specs.Records.{AreDistinct, asker_cmp, later_or, some_if, is_of, lives, newest, said_on, said_again, said_by, begins_dead, forgotten}
+use Rattle.remembered.proofs.Ordering.{exact_asker, is_equal, one_order}
 use Rattle.remembered.specs.Keeping.{cons_some, at, listed, is_at, key_of, IsFilled, IsKept, IsSet, IsDropped, IsForgotten, Keys, get, first}
-
--- ---- askers that compare alike are one
-pub exact_asker : (a b : Asker) → asker_cmp a b ≡ Equal → a ≡ b
-exact_asker a b e =
-    let p = then_equal (nat_cmp a.invoke_id b.invoke_id) (station_cmp a.station b.station) e in
-    ap (λ (s : Station). record { station = s; invoke_id = a.invoke_id }) (station_order.apart a.station b.station p.1)
-    ∙ ap (λ (n : ℕ). record { station = b.station; invoke_id = n }) (exact_unsigned a.invoke_id b.invoke_id p.0)
-
-pub is_equal : (o : Ordering) → is_eq o ≡ true → o ≡ Equal
-is_equal Less e = absurd (cc e)
-is_equal Equal e = refl
-is_equal Greater e = absurd (cc e)
 
 pub one_asker : (a b : Asker) → is_eq (asker_cmp a b) ≡ true → a ≡ b
 one_asker a b e = exact_asker a b (is_equal (asker_cmp a b) e)
@@ -174,7 +158,8 @@ module _ {A : Type 0} where
       record {
         filled = filled_push now ks k (filled_same held now ks same kept.filled) (record { r = r; is = up.changed });
         apart = distinct_more ks k kept.apart apart;
-        found = λ a. put a ∙ ap (cond (is_eq (asker_cmp r.asker a)) (Some k)) (kept.found a ∙ sym (key_same held now a ks same))
+        found = λ a. put a ∙ ap (λ (o : Ordering). cond (is_eq o) (Some k) (get keys a)) (one_order r.asker a)
+            ∙ ap (cond (is_eq (asker_cmp r.asker a)) (Some k)) (kept.found a ∙ sym (key_same held now a ks same))
             ∙ sym (key_push now a ks k r up.changed ∙ later_cond (is_of a r) k (key_of now a ks));
       }
 
@@ -210,7 +195,7 @@ module _ {A : Type 0} where
         filled = filled_same held now ks same kept.filled.1;
         apart = kept.apart.1;
         found = λ a.
-            removed a
+            removed a ∙ ap (λ (o : Ordering). cond (is_eq o) None (get keys a)) (one_order r.asker a)
             ∙ found_removed (key_of held a ks) (get keys a) (is_of a r) k
             (λ b. none_behind (key_of held a ks) (is_of a r) k (key_among held a k ks kept.apart.0)
             (sym (key_first held keys k ks r a kept is) ∙ ap (get keys) (sym (exact_asker r.asker a (is_equal _ b))) ∙ mine))

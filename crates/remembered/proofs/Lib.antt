@@ -1,5 +1,4 @@
 pub mod Keeping
 pub mod Ordering
-pub mod Sorted
 pub mod Living
 pub mod Places

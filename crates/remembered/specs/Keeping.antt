@@ -1,12 +1,13 @@
 -- Records in a slab, under keys in order of execution.
-use Rattle.std.specs.Prelude.{◌≡◌, ◌≢◌, ◌≤◌, ℕ, suc, Bool, false, cond, option_map, List, [], ◌∷◌, length, Option, Some}
-use Rattle.std.specs.Prelude.{None, slice_get, slice_index_or}
-use Rattle.std.specs.List.{AllByRecursion, AllWithin}
-use Rattle.std.specs.Ordering.{is_eq}
-use Rattle.std.specs.declared.cmp.Ordering.TheVariants.{Less, Greater}
+use Rattle.std.specs.Prelude.{◌≡◌, ◌≢◌, ℕ, suc, Bool, false, option_map, List, [], ◌∷◌, Option, Some, None}
+use Rattle.std.specs.Prelude.{slice_index_or}
+use Rattle.std.specs.List.{AllByRecursion}
+use Rattle.std.specs.declared.cmp.Ordering.{Ordering}
+use Rattle.sorted_map.specs.Entries as map
+use Rattle.remembered.specs.contracts.record.AskerOrd.TheImpl as asker_ord
 use Rattle.remembered.specs.declared.record.Asker.{Asker}
 use Rattle.remembered.specs.declared.record.Record.{Record}
-use Rattle.remembered.specs.Records.{AreDistinct, asker_cmp, is_of, later_or, some_if}
+use Rattle.remembered.specs.Records.{AreDistinct, is_of, later_or, some_if}
 
 -- a list with this in front, where there is one
 abbrev pub cons_some : {X : Type 0} → Option X → List X → List X
@@ -41,26 +42,13 @@ pub record IsFilled {A : Type 0} (held : List (Option (Record A))) (k : ℕ) : T
 abbrev pub Keys : Type 0
 Keys = List (Asker × ℕ)
 
+-- the order in which they stand, which is `asker_cmp`
+abbrev pub order : Asker → Asker → Ordering
+order = (asker_ord.ghosts).cmp
+
 -- the key of an asker
 abbrev pub get : Keys → Asker → Option ℕ
-get [] a = None
-get (e ∷ es) a = cond (is_eq (asker_cmp e.0 a)) (Some e.1) (get es a)
-
--- each asker comes before those behind it, so it stands once
-abbrev pub AreSorted : Keys → Type 0
-AreSorted [] = Unit {0}
-AreSorted (e ∷ es) = AllByRecursion (λ f. asker_cmp e.0 f.0 ≡ Less) es × AreSorted es
-
--- the asker is at this place
-pub record IsAt (keys : Keys) (a : Asker) (i : ℕ) : Type 0 where
-  pub key : ℕ
-  pub is : slice_get keys i ≡ Some (a, key)
-
--- the asker would go to this place: those before it are less, and those from it on greater
-pub record IsGap (keys : Keys) (a : Asker) (i : ℕ) : Type 0 where
-  pub within : i ≤ length keys
-  pub less : AllWithin (λ e. asker_cmp e.0 a ≡ Less) keys 0 i
-  pub greater : AllWithin (λ e. asker_cmp e.0 a ≡ Greater) keys i (length keys)
+get keys a = map.value_of order a keys
 
 -- each key in order has a record and stands once, and the map leads from each asker to its newest
 pub record IsKept {A : Type 0} (held : List (Option (Record A))) (keys : Keys) (order : List ℕ) :
@@ -71,8 +59,7 @@ pub record IsKept {A : Type 0} (held : List (Option (Record A))) (keys : Keys) (
 
 -- the asker has this key or none, and each other what it had
 abbrev pub HasNow : Asker → Option ℕ → Keys → Keys → Type 0
-HasNow asker key old new =
-    (q : Asker) → get new q ≡ cond (is_eq (asker_cmp asker q)) key (get old q)
+HasNow asker key old new = map.HasNow order asker key old new
 
 -- the asker has this key, and each other what it had
 abbrev pub IsSet : Asker → ℕ → Keys → Keys → Type 0

@@ -8,7 +8,7 @@
 //! - `record`: who asked, and what is remembered.
 //! - `records`: the trait of what remembers, in terms of the list.
 //! - `list`: the list itself, for tests; `slab`: the same under keys, as devices have it.
-//! - `keys`: the map from who asked to keys.
+//! - `keys`: the map from who asked to keys, and a request that is executed under one.
 //! - `laws`: what holds of lists of records, for the proofs of the layers above.
 #![tactic(auto)]
 

@@ -85,7 +85,7 @@ impl<A: Allocator + Copy> SlabRecords<A> {
         self.held.reserve(1)?;
         self.order.reserve(1)?;
         let key = self.held.vacant_key();
-        self.keys.set(entry.asker, key)?;
+        self.keys.insert(entry.asker, key)?;
         self.held.insert_reserved(entry);
         self.order.push_back(key).unwrap();
         Ok(())
@@ -109,7 +109,7 @@ impl<A: Allocator + Copy> SlabRecords<A> {
         let Some(record) = self.held.try_remove(key) else {
             return;
         };
-        self.keys.forget(record.asker, key);
+        self.keys.remove_pair(record.asker, key);
     }
 }
 

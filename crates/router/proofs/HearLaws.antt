@@ -1,5 +1,5 @@
 -- A parcel that is met on a port of a router; and what comes of it is one thing.
-use Rattle.std.proofs.Common.{◌≡◌, ◌≢◌, ◌∙◌, sym, ap, subst, inl, inr, ℕ, true, List, Some, None}
+use Rattle.std.proofs.Common.{◌≡◌, ◌≢◌, ◌∙◌, sym, ap, subst, inl, inr, ℕ, true, List, Some, None, Result, Ok, Err, IfOk, IfErr, OnErr}
 use Rattle.std.specs.Prelude.{slice_get}
 use Rattle.npdu.proofs.SpellingLaws.{one_header}
 use Rattle.npdu.specs.Header.{Header, Spells}
@@ -15,6 +15,20 @@ use Rattle.router.specs.Said.{teaches_too_many}
 use Rattle.router.specs.declared.handling.Handling.TheVariants.{Discard, Learn}
 use Rattle.router.specs.declared.plan.PortParcel.{PortParcel}
 use Rattle.router.proofs.Ports.{some_same}
+
+-- what holds of a result holds of what follows from it
+module _ {X E : Type 0} where
+  pub if_ok : {P Q : X → Type 0} (r : Result X E) → ((x : X) → P x → Q x) → IfOk r P → IfOk r Q
+  if_ok (Ok x) f p = f x p
+  if_ok (Err e) f p = tt
+
+  pub if_err : {P Q : E → Type 0} (r : Result X E) → ((e : E) → P e → Q e) → IfErr r P → IfErr r Q
+  if_err (Ok x) f p = tt
+  if_err (Err e) f p = f e p
+
+  pub on_err : {P Q : Type 0} (r : Result X E) → (P → Q) → OnErr r P → OnErr r Q
+  on_err (Ok x) f p = tt
+  on_err (Err e) f p = f p
 
 module _ {A : Type 0} (port : ℕ) (p : Parcel A) (st : RouterState) (at : Station) (h : Header) (there : slice_get st.ports port ≡ Some at)
     (spelled : Spells p.npdu h) where

@@ -2,6 +2,7 @@
 use Rattle.std.proofs.Common.{◌≡◌, ◌∙◌, refl, sym, ap, subst, inl, inr, ℕ, cond, Bool, true, false, List, [], ◌∷◌}
 use Rattle.std.specs.Prelude.{◌&&◌}
 use Rattle.std.specs.BTreeMap.{insert_entry}
+use Rattle.std.specs.List.{AllByRecursion}
 use Rattle.std.specs.Ordering.{nat_cmp}
 use Rattle.byteorder.specs.Endian.{big_number}
 use Rattle.npdu.specs.declared.mac.Station.{Station}
@@ -15,7 +16,11 @@ use Rattle.router.specs.declared.handling.Handling.{Handling}
 use Rattle.router.specs.declared.handling.Handling.TheVariants as does
 use Rattle.router.specs.declared.routes.Route.{Route}
 use Rattle.router.proofs.RouteLaws.{untaught}
-use Rattle.router.proofs.Sorted.{AllKeys, insert_keys}
+use Rattle.sorted_map.proofs.Sorted.{all_inserted}
+
+-- the network of each of these routes meets a condition
+abbrev AllKeys : (ℕ → Type 0) → List (ℕ × Route) → Type 0
+AllKeys P es = AllByRecursion (λ (r : ℕ × Route). P r.0) es
 
 module _ (ports : List Station) (route : Route) where
   abbrev May : ℕ → Type 0
@@ -23,7 +28,7 @@ module _ (ports : List Station) (route : Route) where
 
   one_learned : (net : ℕ) (may : Bool) (routes : List (ℕ × Route)) → is_learnable ports net ≡ may → AllKeys May routes →
       AllKeys May (cond may (insert_entry nat_cmp routes net route) routes)
-  one_learned net true routes e all = insert_keys May routes net route all e
+  one_learned net true routes e all = all_inserted nat_cmp May routes net route all e
   one_learned net false routes e all = all
 
   all_learned : (contents : List ℕ) (routes : List (ℕ × Route)) → AllKeys May routes → AllKeys May (learned ports route contents routes)

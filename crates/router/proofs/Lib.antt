@@ -3,4 +3,3 @@ pub mod KeepLaws
 pub mod PassLaws
 pub mod Ports
 pub mod RouteLaws
-pub mod Sorted

@@ -1,9 +1,12 @@
 -- Routes that are learned, and ports.
 use Rattle.std.proofs.Common.{◌≡◌, ◌<◌, ◌≤◌, ◌∙◌, refl, sym, ap, subst, arith, ℕ, zero, suc, true, false, List, [], ◌∷◌, length, Some}
 use Rattle.std.proofs.lemmas.Bool.{le-ltb}
-use Rattle.std.specs.Prelude.{◌&&◌, ◌||◌, Bool, cond, slice_get}
+use Rattle.std.specs.Prelude.{◌&&◌, ◌||◌, Bool, cond, Option, slice_get}
 use Rattle.std.specs.BTreeMap.{insert_entry}
-use Rattle.std.specs.Ordering.{nat_cmp}
+use Rattle.std.specs.Cmp.{nat_cmp_total}
+use Rattle.std.specs.Ordering.{is_eq, nat_cmp}
+use Rattle.std.specs.declared.cmp.Ordering.{Ordering}
+use Rattle.std.proofs.lemmas.Cmp.{tied_itself}
 use Rattle.byteorder.specs.Endian.{big_number}
 use Rattle.npdu.specs.declared.mac.Station.{Station}
 use Rattle.profile.specs.Limits.{MAX_LEARNED_ROUTES}
@@ -11,7 +14,22 @@ use Rattle.router.specs.Router.{AreNumbered, IsNumbered}
 use Rattle.router.specs.Handling.{route_to}
 use Rattle.router.specs.Routes.{IsFront, IsNews, is_learnable, is_overfull, is_too_many, learned, learned_one, teaches}
 use Rattle.router.specs.declared.routes.Route.{Route}
-use Rattle.router.proofs.Sorted.{insert_keeps, inserted_route}
+use Rattle.sorted_map.proofs.Sorted.{value_inserted}
+
+-- the route put in is the one that is there
+inserted_route : (es : List (ℕ × Route)) (net : ℕ) (route : Route) → route_to net (insert_entry nat_cmp es net route) ≡ Some route
+inserted_route es net route =
+    value_inserted nat_cmp_total es net route net
+    ∙ ap (λ (o : Ordering). cond (is_eq o) (Some route) (route_to net es)) (tied_itself nat_cmp_total net)
+
+-- .. and one that is there stays, where only such are put in
+insert_keeps : (es : List (ℕ × Route)) (n net : ℕ) (route : Route) → route_to net es ≡ Some route →
+    route_to net (insert_entry nat_cmp es n route) ≡ Some route
+insert_keeps es n net route is = value_inserted nat_cmp_total es n route net ∙ either (is_eq (nat_cmp n net)) (route_to net es) is
+  where
+    either : (b : Bool) (x : Option Route) → x ≡ Some route → cond b (Some route) x ≡ Some route
+    either true x same = refl
+    either false x same = same
 
 -- one network of the rest
 pub learned_step : (ports : List Station) (route : Route) (rest behind : List ℕ) (net : ℕ) (old new all : List (ℕ × Route)) →

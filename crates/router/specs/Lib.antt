@@ -2,7 +2,6 @@ pub mod Router
 pub mod Handling
 pub mod Sending
 pub mod Routes
-pub mod RouteMap
 pub mod Messages
 pub mod Passing
 pub mod Said

@@ -23,8 +23,8 @@ fn silence<A: Allocator + Copy>(alloc: A) -> RouterPlan<A>
 }
 
 impl<A: Allocator + Copy> Router<A> {
-    ghost use Rattle.std.specs.Prelude.{◌≡◌, ◌≢◌, ◌≤◌, ◌⊎◌, true, false, Some, IfOk, IfErr, OnOk, OnErr, slice_get};
-    ghost use Rattle.npdu.specs.Header.{IsSound, Spells, header_of};
+    ghost use Rattle.std.specs.Prelude.{◌≡◌, ◌≢◌, ◌≤◌, ◌⊎◌, true, false, Some, IfOk, IfErr, OnOk, OnErr};
+    ghost use Rattle.npdu.specs.Header.{IsSound, header_of};
     ghost use Rattle.profile.specs.Times.{MAX_MOMENT_MS};
     ghost use Rattle.router.specs.Hearing.{Comes, IsOverfull, IsTaken, RouterHears, Teaches, handling_of};
     ghost use Rattle.router.specs.Plan.{HasRoutes, changed, heard_of, left_by};
@@ -92,28 +92,7 @@ impl<A: Allocator + Copy> Router<A> {
             parcel,
             view,
         };
-        self.plan_met(&heard)
-    }
-
-    /// What it does where it hears a message on one of its ports.
-    fn plan_met(&self, heard: &Heard<'_, A>) -> Result<RouterPlan<A>, Fault>
-        requires there { slice_get self.now.ports heard.now.port ≡ Some heard.now.at }
-        requires spelled { Spells heard.now.parcel.now.npdu (header_of heard.now.view) }
-        requires numbered { IsNumbered heard.now.at }
-        ensures step { IfOk result (λ plan. RouterHears heard.now.moment heard.now.port heard.now.parcel.now self.now
-            plan.out (left_by heard.now.moment plan self.now)) }
-        ensures copied { IfOk result (λ plan. HasRoutes plan.change →
-            Teaches heard.now.port heard.now.parcel.now self.now) }
-        ensures news { IfOk result (λ plan. HasRoutes plan.change →
-            (left_by heard.now.moment plan self.now).routes ≢ self.now.routes) }
-        ensures cause { IfErr result (λ fault. (fault ≡ Fault.Memory) ⊎
-            ((fault ≡ Fault.TableFull) × IsOverfull heard.now.port heard.now.parcel.now self.now)) }
-        ensures taken { OnErr result (IsTaken heard.now.port heard.now.parcel.now self.now) }
-    {
-        match self.plan_heard(heard) {
-            Ok(plan) => Ok(plan),
-            Err(fault) => Err(fault),
-        }
+        self.plan_heard(&heard)
     }
 
     /// What it says to a message, and what changes.

@@ -9,7 +9,7 @@
 //!
 //! - `handling`: what is done with a message, by its header.
 //! - `passing`: messages passed on; `messages`: what the router says of itself; `saying`: all that it says.
-//! - `routes`: the routes that it learned; `route_map`: the list that they stand in.
+//! - `routes`: the routes that it learned.
 //! - `plan`: what it would do; `heard`: what it heard.
 //! - `router`: the router and its commit; `hearing` and `waking`: its calls.
 //! - `laws`: what holds of all that it says, for the proofs of the layers above.
@@ -22,7 +22,6 @@ mod laws;
 mod messages;
 mod passing;
 mod plan;
-mod route_map;
 mod router;
 mod routes;
 mod saying;

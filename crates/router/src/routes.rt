@@ -1,12 +1,15 @@
 //! The routes that a router learns from others (6.6.1, 6.6.3.3).
 
-ghost use Rattle.std.specs.Prelude.{◌≡◌, ◌<◌, ◌⊎◌, ◌↔◌, IsTrue, OnOk, IfSome, IfNone, length};
+ghost use Rattle.std.specs.Prelude.{◌≡◌, ◌<◌, ◌⊎◌, ◌↔◌, Some, IsTrue, OnOk, IfSome, IfNone, length};
+ghost use Rattle.std.specs.BTreeMap.{insert_entry};
+ghost use Rattle.std.specs.Ordering.{nat_cmp};
+ghost use Rattle.router.specs.Handling.{route_to};
 ghost use Rattle.router.specs.Routes as spec;
 ghost use Rattle.router.specs.Routes.{IsFront, IsNews, learned, learned_one};
 
-use crate::route_map::RouteMap;
 use npdu::{Mac, Station};
 use profile::MAX_LEARNED_ROUTES;
+use sorted_map::SortedMap;
 use std::alloc::{AllocError, Allocator};
 use std::marker::Model;
 use tags::Fault;
@@ -19,6 +22,9 @@ pub struct Route {
     /// The address of the next router there.
     pub next: Mac,
 }
+
+/// Routes under the numbers of their networks.
+type RouteMap<A> = SortedMap<u16, Route, A>;
 
 /// Learned routes, in the order of their networks.
 #[derive(Drop)]
@@ -101,6 +107,17 @@ fn learn<A: Allocator + Copy>(
     Ok(())
 }
 
+/// Whether this very route to a network is known: to put it in would change nothing.
+fn has_route<A: Allocator + Copy>(routes: &RouteMap<A>, net: u16, route: Route) -> bool
+    ensures has { IsTrue result ↔ (route_to net routes.now ≡ Some route) }
+    ensures kept { IsTrue result → insert_entry nat_cmp routes.now net route ≡ routes.now }
+{
+    match routes.get(net) {
+        Some(known) => known == route,
+        None => false,
+    }
+}
+
 /// Whether a route to one network teaches nothing: it is known already, or none may be learned.
 fn keeps_one<A: Allocator + Copy>(
     routes: &RouteMap<A>,
@@ -111,7 +128,7 @@ fn keeps_one<A: Allocator + Copy>(
     ensures kept { IsTrue result → learned_one ports.now route net routes.now ≡ routes.now }
     ensures news { IsTrue result ⊎ IsNews ports.now route net routes.now }
 {
-    !is_learnable(ports, net) || routes.has(net, route)
+    !is_learnable(ports, net) || has_route(routes, net, route)
 }
 
 /// Whether an announcement teaches nothing, of all the networks that it names.

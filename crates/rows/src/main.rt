@@ -7,6 +7,7 @@ use sheets::run_folder;
 use std::io;
 
 fn main(rt: HostRuntime) -> io::Result<()> {
+    run_folder::<rows_maps::MapRows>(&rt, "maps")?;
     run_folder::<rows_octets::Spelled>(&rt, "octets")?;
     run_folder::<rows_services::Services>(&rt, "services")?;
     run_folder::<rows_objects::Objects>(&rt, "objects")?;

@@ -13,14 +13,14 @@ invariant_of-self-2 g c =
     let order : c.push_back.new.self.items ≡ ks ++ c.vacant_key-key.result ∷ [] = grind (arith, common_steps) in
     let key : c.insert_reserved.result ≡ c.vacant_key-key.result = grind (arith, common_steps) in
     let none : at held c.vacant_key-key.result ≡ None = grind (arith, common_steps, c.insert_reserved.ensures.was_vacant) in
-    rw (order) (kept_pushed held c.insert_reserved.new.self.slots c.self.inside.keys c.set.new.self ks c.vacant_key-key.result c.args.entry c.self.invariant
+    rw (order) (kept_pushed held c.insert_reserved.new.self.slots c.self.inside.keys c.insert.new.self ks c.vacant_key-key.result c.args.entry c.self.invariant
     none
     (record {
       changed = grind (arith, common_steps, c.insert_reserved.ensures.updates.changed);
       others =
           λ j e. grind (arith, common_steps, c.insert_reserved.ensures.updates.others j);
     })
-    c.in_ok-set.ensures.set)
+    c.in_ok-insert.ensures.set)
 
 pub returns-clause-added : goal.returns-clause-added
 returns-clause-added g c =

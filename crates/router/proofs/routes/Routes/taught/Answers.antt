@@ -1,7 +1,13 @@
 use Rattle.std.proofs.Common.{◌∙◌, inl, inr}
 use Rattle.std.proofs.lemmas.Result.{err_from_is_err_and}
-use Rattle.router.proofs.RouteLaws.{few_fits, many_overfull, news_teach}
+use Rattle.router.proofs.RouteLaws.{few_fits, kept_fits, many_overfull, news_teach}
 use Rattle.router.proofs.routes.Routes.taught.Goals as goal
+
+-- the routes stay
+pub returns-then-keeps-clause-fits : goal.returns-then-keeps-clause-fits
+returns-then-keeps-clause-fits g c =
+    rw (← c.self.view_is)
+    (kept_fits c.args.ports.now c.args.route c.args.contents.now c.self.inside.held (c.keeps.ensures.0 c.if-keeps.true) c.self.invariant)
 
 -- there are no more than a router knows
 pub returns-clause-fits : goal.returns-clause-fits
