@@ -1,9 +1,7 @@
 -- What is heard goes on as it began.
-use Rattle.std.proofs.Common.{◌≡◌, ℕ, List, [], ◌∷◌, ◌++◌, length, drop, refl, ap, sym, subst}
-use Rattle.std.proofs.lemmas.List.{append-nil, nil_from_length}
+use Rattle.std.proofs.Common.{◌≡◌, ℕ, List, [], ◌∷◌, ◌++◌, length, drop, refl, ap, subst}
+use Rattle.std.proofs.lemmas.List.{append-nil}
 use Rattle.std.specs.Prelude.{Result, Ok, Err}
-use Rattle.mstp_frame.specs.Heard as frames
-use Rattle.mstp_frame.specs.Heard.{Heard}
 use Rattle.tags.specs.declared.fault.Fault.{Fault}
 use Rattle.bus_traffic.specs.declared.hearing.Ending.{Ending}
 use Rattle.bus_traffic.specs.declared.hearing.Ending.TheVariants.{Over, Refused}
@@ -47,19 +45,4 @@ is_refused {A} {judge} start octets kept left whole after used fault fs g e j =
     subst (λ xs. Hears A judge start octets xs (Refused fault)) (append-nil fs)
     (g.on [] (Refused fault) (refuses kept left whole after used fault e j))
 
--- where nothing comes, what is kept is kept
-pub stays : (kept : List ℕ) → frames.Hears kept [] → EndsNone kept [] kept
-stays kept silent = record {
-  leads = record {
-    heard = λ rest stream fs h. subst (λ xs. Heard ((xs ++ rest) ∷ stream) fs) (sym (append-nil kept)) h;
-  };
-  silent = silent;
-}
-
-pub is_ended : {A : Type 0} {judge : List ℕ → Result ℕ Fault} (start octets kept left : List ℕ) (fs : List (HeardFrame A))
-    → GoesOn A judge start octets fs kept left → length left ≡ 0 → frames.Hears kept []
-    → Hears A judge start octets fs (Over 0 kept)
-is_ended {A} {judge} start octets kept left fs g e silent = is_over start octets kept [] kept fs
-    (subst (λ xs. GoesOn A judge start octets fs kept xs) (nil_from_length left e) g) (stays kept silent)
-
-pub ruleset hearing_rules = (begins, goes_on, is_over, is_refused, is_ended)
+pub ruleset hearing_rules = (begins, goes_on, is_over, is_refused)

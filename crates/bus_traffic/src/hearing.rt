@@ -56,7 +56,7 @@ fn next_completed<A: Allocator + Copy>(
     octets: &[u8],
 ) -> Result<Option<Completed<A>>, AllocError>
     ensures ends { IfOk result (λ c. Ends deframer.old octets.now c deframer.new) }
-    ensures some { IfOk result (λ c. IfSome c (λ c. 0 < length octets.now → 0 < c.used)) }
+    ensures some { IfOk result (λ c. IfSome c (λ c. 0 < c.used)) }
     ensures used { IfOk result (λ c. IfSome c (λ c. c.used ≤ length octets.now)) }
 {
     let fed = deframer.feed(octets);
@@ -87,14 +87,7 @@ pub(crate) fn hear<A: Allocator + Copy>(
 {
     let mut frames = Items::new(alloc);
     let mut left = octets;
-    while !left.is_empty() {
-        let Some(frame) = next_completed(alloc, &mut deframer, left)? else {
-            let ending = Ending::Over {
-                rest: left.len(),
-                deframer,
-            };
-            return Ok(Hearing { frames, ending });
-        };
+    while let Some(frame) = next_completed(alloc, &mut deframer, left)? {
         match judge(known, frame.octets.as_slice(), now) {
             Ok(stamp) => {
                 let (_, rest) = left.split_at(frame.used);
@@ -111,7 +104,9 @@ pub(crate) fn hear<A: Allocator + Copy>(
             }
         }
     }
-    let _ = deframer.kept();
-    let ending = Ending::Over { rest: 0, deframer };
+    let ending = Ending::Over {
+        rest: left.len(),
+        deframer,
+    };
     Ok(Hearing { frames, ending })
 }

@@ -8,3 +8,4 @@ mod Apart
 mod Committing
 mod Joining
 mod Quiet
+mod Silent

@@ -259,6 +259,7 @@ impl<A: Allocator + Copy> Taker<'_, A> {
     }
 
     /// What an APDU comes to, that has the service of the request where it has one.
+    #[tactic(auto, using(crate::proofs::Silent::nothing_told))]
     fn asked_told(&self, apdu: &Apdu<'_>) -> Result<ClientTsmPlan<A>, AllocError>
         ensures { IfOk result (IsFinished
             (spec.asked_told (spec.taking_of self.now) (spec.message_of apdu.now))) }
@@ -291,11 +292,11 @@ impl<A: Allocator + Copy> Taker<'_, A> {
                 reason,
                 ..
             } => self.closing(Items::new(self.alloc), Outcome::Aborted(*reason)),
-            // What no server says is not for a client. An arm for each: where they join, no proof is found.
-            Apdu::SegmentAck { server: false, .. } => Ok(quiet(self.alloc, ClientTsmChange::Stays)),
-            Apdu::Abort { server: false, .. } => Ok(quiet(self.alloc, ClientTsmChange::Stays)),
-            Apdu::ConfirmedRequest { .. } => Ok(quiet(self.alloc, ClientTsmChange::Stays)),
-            Apdu::UnconfirmedRequest { .. } => Ok(quiet(self.alloc, ClientTsmChange::Stays)),
+            // what no server says is not for a client
+            Apdu::SegmentAck { server: false, .. }
+            | Apdu::Abort { server: false, .. }
+            | Apdu::ConfirmedRequest { .. }
+            | Apdu::UnconfirmedRequest { .. } => Ok(quiet(self.alloc, ClientTsmChange::Stays)),
         }
     }
 

@@ -2,7 +2,7 @@
 use Rattle.std.proofs.Common.{append_assoc, ◌≡◌, ◌≢◌, ℕ, suc, ◌+◌, ◌<◌, ◌≤◌, Bool, true, false, Option, Some, None, List, [], ◌∷◌, ◌++◌, length, take, drop}
 use Rattle.std.proofs.Common.{drop-cons, slice_index, inl, inr, ◌⊎◌, refl, ap, sym, subst, arith, ◌∙◌}
 use Rattle.std.proofs.lemmas.List.{length-append, take-append-le, take-append-drop}
-use Rattle.std.specs.Prelude.{IfNone, option_map}
+use Rattle.std.specs.Prelude.{IfNone, IfSome, option_map}
 use Rattle.mstp_frame.specs.declared.frame.Frame.{Frame}
 use Rattle.mstp_frame.specs.declared.buffer.Buffer.{Buffer}
 use Rattle.mstp_frame.specs.declared.front.Front.{Front}
@@ -174,3 +174,14 @@ used_by b None false P e is all = all e
 -- where no frame is lent
 pub all_used : (b : Buffer) (frame : Option Frame) (P : Type 0) → option_map frame_of frame ≡ frame_in b → (b.is_whole ≡ false → P) → IfNone frame P
 all_used b frame P is all = used_by b frame b.is_whole P refl is all
+
+ended_by : (b : Buffer) (frame : Option Frame) (whole : Bool) (P : Type 0) → b.is_whole ≡ whole → option_map frame_of frame ≡ frame_in b →
+    (b.is_whole ≡ true → P) → IfSome frame (λ f. P)
+ended_by b None whole P e is some = tt
+ended_by b (Some f) true P e is some = some e
+ended_by b (Some f) false P e is some = absurd (none_some (frame_of f) (sym (is ∙ rw e refl)))
+
+-- where one is lent
+pub ended_used : (b : Buffer) (frame : Option Frame) (P : Type 0) → option_map frame_of frame ≡ frame_in b → (b.is_whole ≡ true → P) →
+    IfSome frame (λ f. P)
+ended_used b frame P is some = ended_by b frame b.is_whole P refl is some

@@ -188,6 +188,7 @@ impl Buffer {
         ensures some { 0 < length piece.now → 0 < result }
         ensures used { result ≤ length piece.now }
         ensures all { self.new.is_whole ≡ false → result ≡ length piece.now }
+        ensures ended { self.new.is_whole ≡ true → 0 < result }
         ensures ready { IsReady self.new }
         ensures leads { LeadsTo (kept_in self.old ++ piece.now) (frame_in self.new)
             (kept_in self.new ++ drop result piece.now) }

@@ -34,7 +34,7 @@ impl Model for Deframer {
 }
 
 impl Deframer {
-    ghost use Rattle.std.specs.Prelude.{◌≡◌, ◌<◌, ◌≤◌, ◌++◌, [], IfNone, length, drop, option_map};
+    ghost use Rattle.std.specs.Prelude.{◌≡◌, ◌<◌, ◌≤◌, ◌++◌, [], IfNone, IfSome, length, drop, option_map};
     ghost use Rattle.std.specs.Borrow.{sem};
     ghost use Rattle.std.specs.Io.BufRead.{Rests};
     ghost use Rattle.mstp_frame.specs.Frame.{frame_of};
@@ -69,6 +69,7 @@ impl Deframer {
         ensures some { 0 < length piece.now → 0 < result.used }
         ensures used { result.used ≤ length piece.now }
         ensures all { IfNone result.frame (result.used ≡ length piece.now) }
+        ensures ended { IfSome result.frame (λ frame. 0 < result.used) }
         ensures named { HasNamedType result.frame }
         ensures whole { IsWhole result.frame result.octets.now }
     {

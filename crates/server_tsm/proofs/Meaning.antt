@@ -1,5 +1,5 @@
 -- What is read of a whole request is what its service data mean.
-use Rattle.std.proofs.Common.{◌≡◌, subst, ℕ, Bool, true, false, List}
+use Rattle.std.proofs.Common.{◌≡◌, refl, subst, sym, ℕ, Bool, true, false, List, None}
 use Rattle.std.specs.Prelude.{nat_lt, length, IfOk, IfErr, Some, Result, Ok, Err}
 use Rattle.apdu.specs.declared.apdu.Segment.{Segment}
 use Rattle.apdu.specs.declared.numbers.RejectReason.{RejectReason}
@@ -10,8 +10,8 @@ use Rattle.segments.specs.declared.step.Step.{Step}
 use Rattle.server_answers.specs.services.Request.{RejectsRequest, SpellsRequest}
 use Rattle.server_answers.specs.declared.asked.Asked.{Asked}
 use Rattle.server_answers.specs.declared.asked.Origin.{Origin}
-use Rattle.server_tsm.specs.Hearing.{Heard, Whole, completed, completed_if, finished_by, joined, joined_by}
-use Rattle.server_answers.specs.Plan.{ServerPlan}
+use Rattle.server_tsm.specs.Hearing.{Heard, Message, Whole, asker_of, completed, completed_if, finished_by, joined, joined_by, nothing, reached_by}
+use Rattle.server_answers.specs.Plan.{ServerPlan, Stays, quiet}
 use Rattle.server_tsm.specs.Server.{ServerTsmState}
 use Rattle.server_tsm.specs.Steps.{IsFinished, IsPlan, IsPlanned, Means, on_heard}
 
@@ -40,6 +40,13 @@ module _ {A : Type 0} where
   unfolding joins
   is_joined now asked s octets j st stp r e h =
       subst (λ (z : Step). IfOk r (IsFinished now (joined_by z asked s octets (joining_after z now s.more_follows octets j)) st)) e h
+
+  -- what says nothing to a server comes to nothing
+  pub nothing_heard : (now : ℕ) (from : Origin) (h : Heard) (st : ServerTsmState A) (plan : ServerPlan A) → h.message ≡ nothing → plan ≡ quiet Stays →
+      IsPlan now from h st plan
+  nothing_heard now from h st plan none is =
+      subst (λ (m : Message). IsFinished now (reached_by m now from (asker_of from h) st) st plan) (sym none)
+      (record { found = None; means = refl; is = is })
 
   -- the plan for what is heard is one of the server
   pub heard_is_planned : {F : Type 0} (now : ℕ) (from : Origin) (h : Heard) (st : ServerTsmState A) (r : Result (ServerPlan A) F) →

@@ -408,7 +408,7 @@ impl<E: Executor<A> + Drop, A: Allocator + Copy> ServerTsm<E, A> {
     }
 
     /// A Confirmed-Request, whole or in segments, which is dropped where the server is deaf.
-    fn asked(
+    fn request_heard(
         &self,
         heard: &HeardRequest<'_, A>,
         by_broadcast: bool,
@@ -444,28 +444,8 @@ impl<E: Executor<A> + Drop, A: Allocator + Copy> ServerTsm<E, A> {
         self.heard(origin, apdu, now)
     }
 
-    /// What the server plans for a Confirmed-Request, whole or a segment.
-    fn request_heard(
-        &self,
-        asked: Asked,
-        by_broadcast: bool,
-        segment: Option<Segment>,
-        octets: &[u8],
-        now: u64,
-    ) -> Result<ServerPlan<A>, AllocError>
-        ensures { IfOk result (IsFinished now (unless (is_deaf now by_broadcast self.now)
-            (request_heard segment now asked octets.now self.now)) self.now) }
-    {
-        let heard = HeardRequest {
-            alloc: self.alloc,
-            moment: now,
-            asked,
-            octets,
-        };
-        self.asked(&heard, by_broadcast, segment)
-    }
-
     /// What the server plans for this APDU.
+    #[tactic(auto, using(crate::proofs::Meaning::nothing_heard))]
     fn heard(&self, origin: &Origin, apdu: &Apdu<'_>, now: u64) -> Result<ServerPlan<A>, AllocError>
         ensures { IfOk result (IsPlan now origin.now (heard_of apdu.now) self.now) }
     {
@@ -494,7 +474,13 @@ impl<E: Executor<A> + Drop, A: Allocator + Copy> ServerTsm<E, A> {
                     limits,
                     service: *service,
                 };
-                self.request_heard(asked, origin.by_broadcast, *segment, data, now)
+                let heard = HeardRequest {
+                    alloc: self.alloc,
+                    moment: now,
+                    asked,
+                    octets: data,
+                };
+                self.request_heard(&heard, origin.by_broadcast, *segment)
             }
             Apdu::SegmentAck {
                 server: false,
@@ -515,14 +501,14 @@ impl<E: Executor<A> + Drop, A: Allocator + Copy> ServerTsm<E, A> {
             Apdu::Abort { server: false, .. } => {
                 given_up(self.alloc, self.remembered(asker, now), asker)
             }
-            // What no client says is not for a server. An arm for each: where they join, no proof is found.
-            Apdu::SegmentAck { server: true, .. } => Ok(ServerPlan::nothing()),
-            Apdu::Abort { server: true, .. } => Ok(ServerPlan::nothing()),
-            Apdu::UnconfirmedRequest { .. } => Ok(ServerPlan::nothing()),
-            Apdu::SimpleAck { .. } => Ok(ServerPlan::nothing()),
-            Apdu::ComplexAck { .. } => Ok(ServerPlan::nothing()),
-            Apdu::Error { .. } => Ok(ServerPlan::nothing()),
-            Apdu::Reject { .. } => Ok(ServerPlan::nothing()),
+            // what no client says is not for a server
+            Apdu::SegmentAck { server: true, .. }
+            | Apdu::Abort { server: true, .. }
+            | Apdu::UnconfirmedRequest { .. }
+            | Apdu::SimpleAck { .. }
+            | Apdu::ComplexAck { .. }
+            | Apdu::Error { .. }
+            | Apdu::Reject { .. } => Ok(ServerPlan::nothing()),
         }
     }
 

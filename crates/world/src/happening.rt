@@ -61,8 +61,6 @@ impl<A: Allocator + Copy> Internetwork<A> {
         ensures unchanged { OnErr result (self.new ≡ self.old) }
         ensures stands { Stands self.old }
     {
-        // so that what is known of the nodes is known of this one
-        let _ = self.now();
         let mut draft = self.lend();
         let done = self.happen_with(happening, &mut draft);
         self.take_back(draft);
@@ -80,17 +78,16 @@ impl<A: Allocator + Copy> Internetwork<A> {
         ensures unchanged { OnErr result (self.new ≡ self.old) }
         ensures stands { Stands self.old }
     {
-        // so that what is known of the nodes is known of this one
-        let _ = self.now();
         let mut draft = self.lend();
         let done = self.step_with(event, &mut draft);
         self.take_back(draft);
         done
     }
 
-    /// Lends what an event drafts with.
+    /// Lends what an event drafts with, and tells what is known of each state.
     pub(crate) fn lend(&mut self) -> Draft<A>
-        ensures { self.new ≡ self.old }
+        ensures same { self.new ≡ self.old }
+        ensures stands { Stands self.old }
     {
         let alloc = self.alloc;
         mem::replace(&mut self.draft, Draft::new(alloc))
