@@ -199,8 +199,8 @@ impl<A: Allocator + Copy> Bus<A> {
         self.is_in_turn = follow(&mut self.recent, recent, self.is_in_turn, now);
     }
 
-    /// What an ear of the bus makes of octets that come to it at the moment `now`, in milliseconds: the frames that
-    /// they end, each judged in its turn, up to the first that is refused. The bus stays as it is.
+    /// Returns what an ear of the bus makes of octets that come to it at the moment `now`, in milliseconds: the frames
+    /// that they end, each judged in its turn, up to the first that is refused. The bus stays as it is.
     ///
     /// # Errors
     /// Want of memory.

@@ -30,7 +30,7 @@ fn ears_of<A: Allocator + Copy>(alloc: A, ears: &[Ear]) -> Result<Vec<Ear, A>, A
     Ok(copies)
 }
 
-/// What is known of equal frames, once more.
+/// Returns copies of all that is known of equal frames.
 fn known_of<A: Allocator + Copy>(
     alloc: A,
     known: &[Known<A>],

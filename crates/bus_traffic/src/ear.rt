@@ -29,8 +29,8 @@ impl Ear {
         }
     }
 
-    /// What hears octets there that come at the moment `now`, in milliseconds. A silence ends a frame that is cut
-    /// short: 100 ms without octets, and where none come (9.5.4).
+    /// Returns what hears octets there that come at the moment `now`, in milliseconds. A silence ends a frame that is
+    /// cut short: 100 ms without octets, and where none come (9.5.4).
     pub(crate) fn listening(&self, octets: &[u8], now: u64) -> Deframer
         ensures { result ≡ kept_at now octets.now self.now }
     {

@@ -41,7 +41,7 @@ fn ear_place(ears: &[Ear], address: u8) -> Option<usize>
     None
 }
 
-/// What stands at a place, if anything does.
+/// Returns the item at a place, if there is one.
 fn one_at<T>(all: &[T], place: usize) -> Option<&T>
     ensures there { IfSome result (λ one. slice_get all.now place ≡ Some one.now) }
     ensures none { IfNone result (slice_get all.now place ≡ None) }

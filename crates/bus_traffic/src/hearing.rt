@@ -69,8 +69,8 @@ fn next_completed<A: Allocator + Copy>(
     }))
 }
 
-/// What is heard in octets that come to those of a deframer at the moment `now`, in milliseconds, on a bus of which
-/// this is known.
+/// Returns what is heard in octets that come to those of a deframer at the moment `now`, in milliseconds, on a bus of
+/// which this is known.
 ///
 /// # Errors
 /// Want of memory.

@@ -202,7 +202,7 @@ impl<A: Allocator + Copy> Taker<'_, A> {
         }
     }
 
-    /// What comes of a SegmentACK of the request.
+    /// Returns what comes of a SegmentACK of the request.
     fn turned_by(&self, turn: Turn, sender: Sender) -> Result<ClientTsmPlan<A>, AllocError>
         ensures { IfOk result (λ plan. plan ≡
             spec.turned_by turn (spec.taking_of self.now) sender) }
@@ -258,7 +258,7 @@ impl<A: Allocator + Copy> Taker<'_, A> {
         }
     }
 
-    /// What an APDU comes to, that has the service of the request where it has one.
+    /// Returns what an APDU comes to, that has the service of the request where it has one.
     #[tactic(auto, using(crate::proofs::Silent::nothing_told))]
     fn asked_told(&self, apdu: &Apdu<'_>) -> Result<ClientTsmPlan<A>, AllocError>
         ensures { IfOk result (IsFinished
@@ -300,7 +300,7 @@ impl<A: Allocator + Copy> Taker<'_, A> {
         }
     }
 
-    /// What an APDU comes to.
+    /// Returns what an APDU comes to.
     fn told_open(&self, apdu: &Apdu<'_>) -> Result<ClientTsmPlan<A>, AllocError>
         ensures { IfOk result (IsFinished
             (spec.told_open (spec.taking_of self.now) (spec.message_of apdu.now))) }
@@ -329,7 +329,7 @@ impl<A: Allocator + Copy> ClientTsm<A> {
             .position(|transaction| transaction.takes(now, from, invoke_id))
     }
 
-    /// What is said, told and left where this station says this APDU to the client at the moment `now`, in
+    /// Returns what is said, told and left where this station says this APDU to the client at the moment `now`, in
     /// milliseconds.
     ///
     /// # Errors

@@ -38,7 +38,7 @@ impl<A: Allocator + Copy> ClientTsm<A> {
     ghost use Rattle.bindings.specs.Limits.{apdu_limit};
     ghost use Rattle.profile.specs.Times.{MAX_MOMENT_MS};
 
-    /// What is said and left where this request is issued to this device at the moment `now`, in milliseconds.
+    /// Returns what is said and left where this request is issued to this device at the moment `now`, in milliseconds.
     ///
     /// # Errors
     /// The first that holds: `TooLong` for a request of more than 16384 octets or 64 segments, or in segments

@@ -116,7 +116,7 @@ impl<A: Allocator> Transaction<A> {
         now.saturating_sub(self.sent) >= APDU_TIMEOUT_MS && self.repeats < NUMBER_OF_APDU_RETRIES
     }
 
-    /// What it does when the client wakes.
+    /// Returns what it does when the client wakes.
     pub(crate) fn turn(&self, now: u64) -> Turn
         ensures { result ≡ turn_of now self.now }
     {
@@ -133,7 +133,7 @@ impl<A: Allocator> Transaction<A> {
         }
     }
 
-    /// What goes on sending it where it is said again: its window, or it from its beginning.
+    /// Returns what goes on sending it where it is said again: its window, or it from its beginning.
     pub(crate) fn sending_again(&self, now: u64) -> Option<Sender>
         ensures { result ≡ (again now self.now).sending }
     {
@@ -183,7 +183,7 @@ impl<A: Allocator + Copy> Transaction<A> {
     ghost use Rattle.client_tsm.specs.Client.{gathered_at, gathers};
     ghost use Rattle.client_tsm.specs.Hearing.{whole_with};
 
-    /// What it does at the moment `now`, in milliseconds, on this segment of its answer, with these octets.
+    /// Returns what it does at the moment `now`, in milliseconds, on this segment of its answer, with these octets.
     #[tactic(auto, using(crate::proofs::Joining::step_rules))]
     pub(crate) fn step_on(&self, alloc: A, segment: &Segment, octets: &[u8], now: u64) -> Step
         ensures { result ≡ (gathered_at now self.now segment.now octets.now).step }

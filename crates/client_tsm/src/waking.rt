@@ -32,7 +32,7 @@ fn wake_one<A: Allocator + Copy>(
     }
 }
 
-/// What is left of all transactions when the client wakes. It takes no memory.
+/// Says again what is due of all transactions, and removes those that end, when the client wakes. It takes no memory.
 #[tactic(auto, using(crate::proofs::Wakes::wake_rules))]
 pub(crate) fn wake_all<A: Allocator>(open_ones: &mut Vec<Transaction<A>, A>, now: u64)
     ensures { open_ones.new.items ≡ all_left now open_ones.old.items }
@@ -60,8 +60,8 @@ impl<A: Allocator + Copy> ClientTsm<A> {
     ghost use Rattle.client_tsm.specs.Waking.{is_quiet, woken};
     ghost use Rattle.profile.specs.Times.{MAX_MOMENT_MS};
 
-    /// What is said, told and left where the client wakes at the moment `now`, in milliseconds: one sending of a
-    /// transaction, and the ends that are due, in order of issue.
+    /// Returns what is said, told and left where the client wakes at the moment `now`, in milliseconds: one sending of
+    /// a transaction, and the ends that are due, in order of issue.
     ///
     /// # Errors
     /// Want of memory.

@@ -58,7 +58,7 @@ pub(crate) fn goal(octets: &[u8]) -> usize
     OCTETS_BESIDE_DATA + size_of(octets)
 }
 
-/// What the octets are, whose number is their goal.
+/// Returns what the octets are, whose number is their goal.
 pub(crate) fn judge(octets: &[u8]) -> Front
     requires begins { take 2 octets.now ≡ 0x55 ∷ 0xFF ∷ [] }
     requires goal { (length octets.now ≡ 8) ⊎ ((8 < length octets.now) × (length octets.now ≡ span octets.now)) }
@@ -71,7 +71,7 @@ pub(crate) fn judge(octets: &[u8]) -> Front
     }
 }
 
-/// What the eight octets of a header are.
+/// Returns what the eight octets of a header are.
 #[tactic(auto, using(crate::proofs::Judging::judged))]
 fn judge_header(octets: &[u8]) -> Front
     requires begins { take 2 octets.now ≡ 0x55 ∷ 0xFF ∷ [] }
@@ -89,7 +89,7 @@ fn judge_header(octets: &[u8]) -> Front
     }
 }
 
-/// What a header, data and their check octets are.
+/// Returns what a header, data and their check octets are.
 #[tactic(auto, using(crate::proofs::Judging::judged))]
 fn judge_data(octets: &[u8]) -> Front
     requires begins { take 2 octets.now ≡ 0x55 ∷ 0xFF ∷ [] }

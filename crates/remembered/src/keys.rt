@@ -55,7 +55,7 @@ pub(crate) fn run_with_key<E: Executor<A>, A: Allocator + Copy>(
     Ok(())
 }
 
-/// The key at a place of the queue.
+/// Returns the key at a place of the queue.
 pub(crate) fn key_in<A: Allocator>(order: &VecDeque<usize, A>, place: usize) -> Option<usize>
     ensures { result ≡ slice_get order.now.items place }
 {

@@ -69,7 +69,7 @@ fn target_of(address: &[u8]) -> Option<Target>
     Some(Target::One(mac))
 }
 
-/// What is done with a message on its last network.
+/// Returns what is done with a message on its last network.
 fn delivered(port: usize, own: Mac, to: Option<Target>) -> Handling
     ensures { result ≡ spec.delivered port own to }
 {
@@ -91,7 +91,7 @@ fn port_on(ports: &[Station], net: u16) -> Option<(usize, Mac)>
     None
 }
 
-/// What is done with an announcement of networks.
+/// Returns what is done with an announcement of networks.
 fn announcing(contents: &[u8]) -> Handling
     ensures { result ≡ spec.announcing contents.now }
 {
@@ -102,7 +102,7 @@ fn announcing(contents: &[u8]) -> Handling
     }
 }
 
-/// What is done with a network message of a type that is not known.
+/// Returns what is done with a network message of a type that is not known.
 fn unknown(to: Target) -> Handling
     ensures { result ≡ spec.unknown to }
 {
@@ -113,8 +113,8 @@ fn unknown(to: Target) -> Handling
 }
 
 impl<A: Allocator + Copy> Router<A> {
-    /// What is done with a message that comes on the port of this number, to this target on its network (6.5, 6.6.3).
-    /// It takes no memory.
+    /// Returns what is done with a message that comes on the port of this number, to this target on its network (6.5,
+    /// 6.6.3). It takes no memory.
     pub fn handling(&self, port: usize, to: Target, view: &View<'_>) -> Handling
         ensures { result ≡ handling self.now port to (header_of view.now) }
     {
@@ -125,7 +125,7 @@ impl<A: Allocator + Copy> Router<A> {
         }
     }
 
-    /// What is done with a message for a network, or for all.
+    /// Returns what is done with a message for a network, or for all.
     fn forwarding(&self, destination: &Destination<'_>) -> Handling
         ensures { result ≡ forwarding self.now (destination_of destination.now) }
     {
@@ -138,7 +138,7 @@ impl<A: Allocator + Copy> Router<A> {
         }
     }
 
-    /// What is done with a message for this network.
+    /// Returns what is done with a message for this network.
     fn to_network(&self, net: u16, address: &[u8]) -> Handling
         ensures { result ≡ by_port self.now net address.now (own_port net self.now.ports) }
     {
@@ -148,7 +148,7 @@ impl<A: Allocator + Copy> Router<A> {
         }
     }
 
-    /// What is done with a message for a network that is none of its own.
+    /// Returns what is done with a message for a network that is none of its own.
     fn by_route(&self, net: u16) -> Handling
         ensures { result ≡ by_route self.now net (route_to net self.now.routes) }
     {
@@ -165,7 +165,7 @@ impl<A: Allocator + Copy> Router<A> {
         }
     }
 
-    /// What is done with a network message for the router itself.
+    /// Returns what is done with a network message for the router itself.
     fn answering(&self, port: usize, to: Target, message: Message, contents: &[u8]) -> Handling
         ensures { result ≡ answering self.now port to message contents.now }
     {
@@ -178,7 +178,7 @@ impl<A: Allocator + Copy> Router<A> {
         }
     }
 
-    /// What is done with a question for a network, or for all.
+    /// Returns what is done with a question for a network, or for all.
     fn asking(&self, port: usize, contents: &[u8]) -> Handling
         ensures { result ≡ spec.asking self.now port contents.now }
     {

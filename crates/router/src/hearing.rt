@@ -58,9 +58,9 @@ impl<A: Allocator + Copy> Router<A> {
         Ok(out)
     }
 
-    /// What it does where it hears a parcel on the port of this number at the moment `now`, in milliseconds: `commit`
-    /// does it. A parcel that is dropped, for its header or its destination, takes no memory and is never refused; only
-    /// one that teaches a route that it doesn't know has its routes copied.
+    /// Returns what it does where it hears a parcel on the port of this number at the moment `now`, in milliseconds:
+    /// `commit` does it. A parcel that is dropped, for its header or its destination, takes no memory and is never
+    /// refused; only one that teaches a route that it doesn't know has its routes copied.
     ///
     /// # Errors
     /// `TableFull` for an announcement behind which it would know more than `MAX_LEARNED_ROUTES` routes, or `Memory`.
@@ -95,7 +95,7 @@ impl<A: Allocator + Copy> Router<A> {
         self.plan_heard(&heard)
     }
 
-    /// What it says to a message, and what changes.
+    /// Returns what it says to a message, and what changes.
     fn plan_heard(&self, heard: &Heard<'_, A>) -> Result<RouterPlan<A>, Fault>
         requires sound { IsSound (header_of heard.now.view) }
         requires numbered { IsNumbered heard.now.at }
@@ -116,7 +116,7 @@ impl<A: Allocator + Copy> Router<A> {
         Ok(RouterPlan { out, change })
     }
 
-    /// What changes, by what is done with the message: an announcement alone teaches.
+    /// Returns what changes, by what is done with the message: an announcement alone teaches.
     fn change(&self, heard: &Heard<'_, A>, handling: Handling) -> Result<RouterChange<A>, Fault>
         ensures left { IfOk result (λ change.
             changed heard.now.moment change self.now ≡ left (heard_of heard.now) self.now handling) }
@@ -143,8 +143,8 @@ impl<A: Allocator + Copy> Router<A> {
         }
     }
 
-    /// What an announcement changes: nothing, where each network that it names, and that may be learned, has that
-    /// route.
+    /// Returns what an announcement changes: nothing, where each network that it names, and that may be learned, has
+    /// that route.
     fn learns(&self, heard: &Heard<'_, A>) -> Result<RouterChange<A>, Fault>
         ensures left { IfOk result (λ change.
             changed heard.now.moment change self.now ≡ left (heard_of heard.now) self.now Handling.Learn) }

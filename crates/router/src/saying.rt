@@ -31,7 +31,7 @@ fn one<A: Allocator + Copy>(
 }
 
 impl<A: Allocator + Copy> Router<A> {
-    /// What goes out, by what is done with the message.
+    /// Returns what goes out, by what is done with the message.
     pub(crate) fn said(
         &self,
         heard: &Heard<'_, A>,

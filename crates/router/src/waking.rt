@@ -31,7 +31,7 @@ impl<A: Allocator + Copy> Router<A> {
         Ok(out)
     }
 
-    /// What it does when it wakes at the moment `now`, in milliseconds: `commit` does it.
+    /// Returns what it does when it wakes at the moment `now`, in milliseconds: `commit` does it.
     ///
     /// # Errors
     /// `Memory` alone, and only at its first wake.

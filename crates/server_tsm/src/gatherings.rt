@@ -84,7 +84,7 @@ fn place_of<A: Allocator>(
     None
 }
 
-/// What came of a request of this asker, unless it is too old.
+/// Returns what came of a request of this asker, unless it is too old.
 pub(crate) fn gathering_of<A: Allocator>(
     gatherings: &[RequestGathering<A>],
     now: u64,

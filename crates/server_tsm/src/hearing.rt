@@ -280,7 +280,7 @@ impl<E: Executor<A> + Drop, A: Allocator + Copy> ServerTsm<E, A> {
         self.completed(&whole, said)
     }
 
-    /// What comes of a segment, by what the receiver of what came so far does with it.
+    /// Returns what comes of a segment, by what the receiver of what came so far does with it.
     fn joined_by(
         &self,
         heard: &HeardRequest<'_, A>,
@@ -427,7 +427,7 @@ impl<E: Executor<A> + Drop, A: Allocator + Copy> ServerTsm<E, A> {
         }
     }
 
-    /// What is said, executed and left where the server hears this APDU from there at the moment `now`, in
+    /// Returns what is said, executed and left where the server hears this APDU from there at the moment `now`, in
     /// milliseconds.
     ///
     /// # Errors
@@ -444,7 +444,7 @@ impl<E: Executor<A> + Drop, A: Allocator + Copy> ServerTsm<E, A> {
         self.heard(origin, apdu, now)
     }
 
-    /// What the server plans for this APDU.
+    /// Returns what the server plans for this APDU.
     #[tactic(auto, using(crate::proofs::Meaning::nothing_heard))]
     fn heard(&self, origin: &Origin, apdu: &Apdu<'_>, now: u64) -> Result<ServerPlan<A>, AllocError>
         ensures { IfOk result (IsPlan now origin.now (heard_of apdu.now) self.now) }

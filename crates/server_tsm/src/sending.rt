@@ -75,7 +75,7 @@ fn ended<A: Allocator>(way: Way, entry: &Record<A>) -> QuietChange<A>
     })
 }
 
-/// What comes of a SegmentACK of an answer.
+/// Returns what comes of a SegmentACK of an answer.
 fn turned_by<A: Allocator + Copy>(
     alloc: A,
     turn: Turn,

@@ -92,7 +92,7 @@ impl<E: Executor<A> + Drop, A: Allocator + Copy> ServerTsm<E, A> {
         self.moment
     }
 
-    /// What executes its requests.
+    /// Returns what executes its requests.
     pub fn executor(&self) -> &E
         ensures { E.table_of result.now ≡ self.now.table }
     {
@@ -258,7 +258,7 @@ impl<E: Executor<A> + Drop, A: Allocator + Copy> ServerTsm<E, A> {
         Ok(())
     }
 
-    /// What came of a request of this asker is given up.
+    /// Gives up what came of a request of this asker.
     fn give_up(&mut self, asker: Asker, now: u64)
         requires { self.old.moment ≤ now }
         ensures { self.new ≡ committed now (GivesUp asker) self.old }
@@ -290,7 +290,7 @@ impl<E: Executor<A> + Drop, A: Allocator + Copy> ServerTsm<E, A> {
         Ok(())
     }
 
-    /// What is too old is forgotten, and answers are said so. It takes no memory.
+    /// Forgets what is too old, and has answers said so. It takes no memory.
     pub(crate) fn wake(&mut self, sayings: &[Saying], now: u64)
         requires { self.old.moment ≤ now }
         ensures { self.new ≡ committed now (Wakes sayings.now) self.old }

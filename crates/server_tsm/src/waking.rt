@@ -14,7 +14,7 @@ use server_answers::{
 use std::alloc::{AllocError, Allocator};
 use tags::Items;
 
-/// What is done with a remembered answer.
+/// Returns what is done with a remembered answer.
 fn turn_of<A: Allocator>(entry: &Record<A>, now: u64) -> Turn
     ensures { result ≡ turn_of now entry.now }
 {
@@ -27,7 +27,7 @@ fn turn_of<A: Allocator>(entry: &Record<A>, now: u64) -> Turn
     }
 }
 
-/// What goes on sending an answer, once its window is said again.
+/// Returns what goes on sending an answer, once its window is said again.
 fn again(sending: &Option<Sender>, now: u64) -> Option<Sender>
     ensures { result ≡ again now sending.now }
 {
@@ -106,8 +106,8 @@ impl<E: Executor<A> + Drop, A: Allocator + Copy> ServerTsm<E, A> {
     ghost use Rattle.server_tsm.specs.Waking.{is_quiet, woken};
     ghost use Rattle.profile.specs.Times.{MAX_MOMENT_MS};
 
-    /// What is said and left where the server wakes at the moment `now`, in milliseconds: windows of answers, in
-    /// order of execution.
+    /// Returns what is said and left where the server wakes at the moment `now`, in milliseconds: windows of answers,
+    /// in order of execution.
     ///
     /// # Errors
     /// Want of memory.
