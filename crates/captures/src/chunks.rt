@@ -17,8 +17,8 @@ enum Found {
     Cut(u64),
 }
 
-/// A file of pcap or pcapng that comes in chunks. What is kept between two chunks is the beginning of a record or block.
-/// A contract sees how many octets wait to be read.
+/// A file of pcap or pcapng that comes in chunks. What is kept between two chunks is the beginning of a record or
+/// block. A contract sees how many octets wait to be read.
 #[derive(Drop)]
 pub struct ChunkReader<A: Allocator> {
     kept: Vec<u8, A>,
@@ -73,8 +73,8 @@ impl<A: Allocator + Copy> ChunkReader<A> {
         Ok(())
     }
 
-    /// Moves to the next packet, which is lent then. Returns `false` where more octets are needed for it, or the file has
-    /// come to its end: then few octets wait.
+    /// Moves to the next packet, which is lent then. Returns `false` where more octets are needed for it, or the file
+    /// has come to its end: then few octets wait.
     ///
     /// # Errors
     /// Want of memory, for the list of interfaces. The same call may be made again then.
@@ -215,7 +215,8 @@ fn front_of<'k, A: Allocator>(
     Some((item, kept.len() - rest.len()))
 }
 
-/// Knows of the section or the interface that an item is about, if it is; gives the number of its packet, if it has one.
+/// Knows of the section or the interface that an item is about, if it is; gives the number of its packet, if it has
+/// one.
 fn note_in<A: Allocator>(
     reading: &mut Option<Reading<A>>,
     item: Item<'_>,

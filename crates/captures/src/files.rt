@@ -28,8 +28,8 @@ pub(crate) enum Start {
     Pcapng,
 }
 
-/// How a file begins, and its records or blocks; `None` where it is no such file. The upper half of a link type's number
-/// in pcap tells of check octets, and isn't looked at.
+/// How a file begins, and its records or blocks; `None` where it is no such file. The upper half of a link type's
+/// number in pcap tells of check octets, and isn't looked at.
 pub(crate) fn start_of(octets: &[u8]) -> Option<(Start, &[u8])>
     ensures { IfSome result (λ x. length x.1.now ≤ length octets.now) }
 {

@@ -1,6 +1,6 @@
-//! A pcapng file that is written: its section, its interfaces and names of hosts, and packet behind packet. The first interface is IP,
-//! on which each datagram stands in a packet of IP and UDP; then comes one for each bus. Stamps are milliseconds, so
-//! that datagrams and frames have one time.
+//! A pcapng file that is written: its section, its interfaces and names of hosts, and packet behind packet. The first
+//! interface is IP, on which each datagram stands in a packet of IP and UDP; then comes one for each bus. Stamps are
+//! milliseconds, so that datagrams and frames have one time.
 
 ghost use Rattle.std.specs.Prelude.{◌≡◌, ◌≤◌, ◌+◌, ◌⊎◌, IfErr, OnOk, OnErr, length};
 ghost use Rattle.tags.specs.Canonical.{Extends};
@@ -90,8 +90,8 @@ pub fn write_datagram<B: Allocator>(
     all_or_none(put, start, out)
 }
 
-/// Appends what is put out on a bus at a moment, in milliseconds, with a comment in UTF-8, unless that is empty. The bus
-/// is named by its place among those that the file begins with, from 0. After an `Err` the buffer is as it was.
+/// Appends what is put out on a bus at a moment, in milliseconds, with a comment in UTF-8, unless that is empty. The
+/// bus is named by its place among those that the file begins with, from 0. After an `Err` the buffer is as it was.
 ///
 /// # Errors
 /// `TooLong` for over 65507 octets or a comment of over 255, `Memory`.

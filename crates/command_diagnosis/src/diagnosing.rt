@@ -25,8 +25,8 @@ use words::{parse_u16, parse_u64};
 /// What a port of UDP is.
 const PORT: &str = "a port of UDP, 0 to 65535";
 
-/// Prints what a capture shows: a summary, the tables that are asked for, and what is found, with the names of a site if
-/// one is named, and writes a page if one is asked for; on the standard error where that goes to standard output. Of
+/// Prints what a capture shows: a summary, the tables that are asked for, and what is found, with the names of a site
+/// if one is named, and writes a page if one is asked for; on the standard error where that goes to standard output. Of
 /// standard input what is found comes at once, and the summary last.
 pub fn diagnose<F: Files, W: Write, E: Write>(
     alloc: Global,

@@ -12,8 +12,8 @@ use packet_choice::{Excerpt, Failure};
 use std::alloc::Global;
 use std::io::Write;
 
-/// Whether a page may be written, if one is asked for, which is told where it may not: of standard input none is, and it
-/// is neither the capture nor the site.
+/// Whether a page may be written, if one is asked for, which is told where it may not: of standard input none is, and
+/// it is neither the capture nor the site.
 pub(crate) fn may_report<F: Files, E: Write>(
     diagnosing: &Diagnosing,
     files: &F,

@@ -29,11 +29,11 @@ use std::net::Net;
 use std::time::Clock;
 use tags::Fault;
 
-/// Does what the words ask for, the first of them being the program's name, and answers the exit
-/// status: 0, also for help, which is printed on `out`; 1 for what a command refuses, a fault that a
-/// check finds, a failed write and want of memory; 2 for a fault of the command line, which is
-/// printed on `err`; 3 where a diagnosis finds what no plant should show. A site is run live over the sockets of `host`; without one it is refused.
-/// What is told of files, flags and texts may have the colours of a terminal.
+/// Does what the words ask for, the first of them being the program's name, and answers the exit status: 0, also for
+/// help, which is printed on `out`; 1 for what a command refuses, a fault that a check finds, a failed write and want
+/// of memory; 2 for a fault of the command line, which is printed on `err`; 3 where a diagnosis finds what no plant
+/// should show. A site is run live over the sockets of `host`; without one it is refused. What is told of files, flags
+/// and texts may have the colours of a terminal.
 pub fn run<R: Net + Clock, F: Files, W: Write, E: Write>(
     host: Option<&R>,
     alloc: Global,

@@ -2,8 +2,8 @@
 //! each confirmed request followed to its end, the stations that speak, how long answers take, and what no plant should
 //! show.
 //!
-//! To the layer above it promises that it takes any packet, and that each packet that a finding names was taken. What is
-//! counted and found is shown by rows, and isn't proved.
+//! To the layer above it promises that it takes any packet, and that each packet that a finding names was taken. What
+//! is counted and found is shown by rows, and isn't proved.
 //!
 //! - `diagnosis`: what is known, packet by packet.
 //! - `stations`: stations, and the networks of routers. `sighting`: packets that are captured twice.

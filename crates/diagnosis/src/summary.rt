@@ -20,8 +20,8 @@ impl fmt::Display for Thousands {
 /// What is said of requests that came again.
 const REPEATED: &str = "whether it was executed again, the wire doesn't show";
 
-/// Prints what is counted of a capture, a line each; counts of what is rare only where there is some, and those of these
-/// findings last.
+/// Prints what is counted of a capture, a line each; counts of what is rare only where there is some, and those of
+/// these findings last.
 ///
 /// # Errors
 /// Those of writing.

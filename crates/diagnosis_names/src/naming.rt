@@ -69,8 +69,8 @@ fn is_in_address(octet: u8) -> bool {
     octet.is_ascii_alphanumeric() || matches!(octet, b'.' | b':' | b'@' | b'/')
 }
 
-/// Appends the name of an address, as `ahu`, or `fan@router` behind a router. Returns `false` where a word is no address
-/// as it is printed, or has no name.
+/// Appends the name of an address, as `ahu`, or `fan@router` behind a router. Returns `false` where a word is no
+/// address as it is printed, or has no name.
 fn append_name<A: Allocator + Copy>(
     alloc: A,
     names: &Names<A>,

@@ -9,8 +9,8 @@ use packet_choice::{Chosen, Excerpt};
 use std::alloc::{AllocError, Allocator};
 use std::marker::Model;
 
-/// What is known of a capture. What is found comes of the packets of all stations, and what is counted of those that are
-/// asked for. A contract sees how many packets were read, and the findings that are kept.
+/// What is known of a capture. What is found comes of the packets of all stations, and what is counted of those that
+/// are asked for. A contract sees how many packets were read, and the findings that are kept.
 #[derive(Drop)]
 pub struct Diagnosed<A: Allocator> {
     whole: Diagnosis<A>,

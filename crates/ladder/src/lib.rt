@@ -1,5 +1,6 @@
 //! A ladder: the picture of a run, with a lane for each station and a row for each thing that happens, one below the
-//! other in their order. It is plain data, which knows no world, and is written as SVG or as a part of a page, in UTF-8.
+//! other in their order. It is plain data, which knows no world, and is written as SVG or as a part of a page, in
+//! UTF-8.
 //!
 //! To the layer above it promises that it returns; what is written is shown by rows, and isn't proved.
 //!

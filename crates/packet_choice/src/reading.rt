@@ -38,8 +38,8 @@ pub trait Taker {
     fn take(&mut self, packet: &Packet<'_>) -> Result<(), Failure>;
 }
 
-/// Reads a file of pcap or pcapng to its end, in bounded memory, and gives each packet. Returns `false` where it is none
-/// of both.
+/// Reads a file of pcap or pcapng to its end, in bounded memory, and gives each packet. Returns `false` where it is
+/// none of both.
 ///
 /// # Errors
 /// Those of reading, of whoever takes the packets, and want of memory.

@@ -1,5 +1,5 @@
-//! Rows on captures, which are read, written, explained and diagnosed, and on the conformance statement (ANSI/ASHRAE 135,
-//! Annexes A and J and clause 9.3; pcap and pcapng). The program `rows` runs them.
+//! Rows on captures, which are read, written, explained and diagnosed, and on the conformance statement (ANSI/ASHRAE
+//! 135, Annexes A and J and clause 9.3; pcap and pcapng). The program `rows` runs them.
 //!
 //! - `explaining`: captures that are explained. Rows of packets and of what they show are those of `rows_packets`.
 //! - `stating`: the rows of the statement.

@@ -131,8 +131,8 @@ pub(crate) fn summaries(alloc: Global, text: &str) -> Result<String, Stop> {
     Ok(out)
 }
 
-/// What a page says of the octets of the message at a place: the lines of each branch, the first one behind its name, or
-/// that another has the same.
+/// What a page says of the octets of the message at a place: the lines of each branch, the first one behind its name,
+/// or that another has the same.
 pub(crate) fn explained(alloc: Global, place: &str, text: &str) -> Result<String, Stop> {
     let mut out = String::new(alloc);
     let begin = format!(in alloc; "<div id=\"{place}\">")?;
@@ -189,8 +189,8 @@ fn linked(text: &str) -> &str {
     }
 }
 
-/// The requests of a page: `0 3 c 10 read binary-value,1 present-value: values enum inactive, 2`, with the time of each,
-/// what it came to, and after how many milliseconds.
+/// The requests of a page: `0 3 c 10 read binary-value,1 present-value: values enum inactive, 2`, with the time of
+/// each, what it came to, and after how many milliseconds.
 pub(crate) fn requests(alloc: Global, text: &str) -> Result<String, Stop> {
     let mut out = String::new(alloc);
     for line in text.lines() {

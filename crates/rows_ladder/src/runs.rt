@@ -4,8 +4,8 @@
 //!
 //! - `rows` wants the rows of the picture in words, as its titles say them, `lanes` what stands behind them, and
 //!   `remark` what is said below them of what isn't in it;
-//! - `history` and `requests` the tables of the page, `page` what it says of each message with the name of its place, and
-//!   `explain-d0` the tree of the one at this place.
+//! - `history` and `requests` the tables of the page, `page` what it says of each message with the name of its place,
+//!   and `explain-d0` the tree of the one at this place.
 //!
 //! The elements of each picture and of each page are nested, and each link leads to a place. Each row runs again with
 //! each allocation refused in turn (behind the eighth not each): that is told as want of memory.

@@ -1,6 +1,6 @@
-//! What is read of a file that comes in chunks: the same as of the whole, at each size of chunks from 1 to 16. With those
-//! of 16 octets that holds also where an allocation is refused, as the call that says so is made again, and of each
-//! prefix of the file, and with each of its octets changed.
+//! What is read of a file that comes in chunks: the same as of the whole, at each size of chunks from 1 to 16. With
+//! those of 16 octets that holds also where an allocation is refused, as the call that says so is made again, and of
+//! each prefix of the file, and with each of its octets changed.
 //!
 //! And when packets were captured: `when FILE -> 100.000001; -`, in seconds, `-` where the file doesn't say.
 

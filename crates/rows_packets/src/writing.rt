@@ -1,6 +1,7 @@
-//! What is written: `write 2 3; name 7F000001 c; datagram 7F000001BAC1 7F000001BAC0 810A00.. @5; frame 0 55FF.. @7 ~c to
-//! d -> FILE`, the networks of the buses first (`-` for none), then the name of an address, a datagram with its ends and
-//! its moment, or a frame on the bus at a place, either with a comment or without; and `back .. -> ..`, what is read of that again, as rows of `reading` have it.
+//! What is written: `write 2 3; name 7F000001 c; datagram 7F000001BAC1 7F000001BAC0 810A00.. @5; frame 0 55FF.. @7 ~c
+//! to d -> FILE`, the networks of the buses first (`-` for none), then the name of an address, a datagram with its ends
+//! and its moment, or a frame on the bus at a place, either with a comment or without; and `back .. -> ..`, what is
+//! read of that again, as rows of `reading` have it.
 //!
 //! Each row runs again with each allocation refused in turn: the buffer is then as it was.
 

@@ -135,9 +135,9 @@ impl<A: Allocator + Copy> Watcher<A> for Capturing<A> {
 }
 
 /// Takes the steps of a script in a world of a site, as their texts describe them, and gives a file of pcapng with each
-/// datagram and each frame that is put out, in order, the names of its stations, and comments: who says a frame to whom,
-/// and what becomes of a datagram that isn't received once, at once. What goes to several stations is a datagram for
-/// each of them. The document is read in memory of `reading`.
+/// datagram and each frame that is put out, in order, the names of its stations, and comments: who says a frame to
+/// whom, and what becomes of a datagram that isn't received once, at once. What goes to several stations is a datagram
+/// for each of them. The document is read in memory of `reading`.
 ///
 /// # Errors
 /// Those of `site_steps::open`; `TooLong` for a datagram of over 65507 octets; and `Memory`.

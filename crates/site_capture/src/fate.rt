@@ -34,8 +34,8 @@ impl Fate {
     }
 }
 
-/// The comment on it: `never received`, `received 700 ms later`, `received 2 times`; nothing where it was received once,
-/// at once.
+/// The comment on it: `never received`, `received 700 ms later`, `received 2 times`; nothing where it was received
+/// once, at once.
 impl fmt::Display for Fate {
     fn fmt<W: fmt::Write>(&self, f: &mut fmt::Formatter<W>) -> fmt::Result {
         let Fate { deliveries, after } = *self;

@@ -50,8 +50,8 @@ impl Seen {
     }
 }
 
-/// Writes what was put out behind what stands in the file, the frames at this moment, in milliseconds, with the names of
-/// their ends.
+/// Writes what was put out behind what stands in the file, the frames at this moment, in milliseconds, with the names
+/// of their ends.
 pub(crate) fn put_behind<A: Allocator + Copy, B: Allocator>(
     alloc: A,
     seen: Seen,
