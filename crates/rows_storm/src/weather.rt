@@ -164,7 +164,7 @@ fn all_said(alloc: Global, world: &World<Global>) -> Result<Vec<Message<'_>>, Al
         all.push(Message {
             source: said.source,
             destination: destination_of(said.reach),
-            apdu: said.apdu.as_slice(),
+            apdu: said.apdu(),
             stamp: said.stamp,
         })?;
     }

@@ -7,7 +7,7 @@ use Rattle.apdu.specs.declared.pdu_type.PduType.{PduType}
 use Rattle.apdu.specs.declared.pdu_type.PduType.TheVariants.{ConfirmedRequest, UnconfirmedRequest, SimpleAck}
 use Rattle.apdu.specs.declared.pdu_type.PduType.TheVariants.{ComplexAck, SegmentAck, Error, Reject, Abort}
 use Rattle.storm.specs.world_log.Growing.{WorldHistory}
-use Rattle.storm.specs.world_log.Kept.{all_said}
+use Rattle.storm.specs.world_log.Kept.{all_said, apdu_in}
 use Rattle.storm.specs.world_log.declared.saying.SaidMessage.{SaidMessage}
 use Rattle.history.specs.declared.End.{End}
 use Rattle.history.specs.declared.End.TheVariants as why
@@ -62,7 +62,7 @@ is_apdu t (o ∷ os) = o / 16 == type_number t
 -- how many messages are of this type
 abbrev pub count_said : {A : Type 0} → PduType → List (SaidMessage A) → ℕ
 count_said t [] = 0
-count_said t (m ∷ ms) = (if is_apdu t m.apdu then 1 else 0) + count_said t ms
+count_said t (m ∷ ms) = (if is_apdu t (apdu_in m) then 1 else 0) + count_said t ms
 
 -- how many messages are of each type
 abbrev pub messages_in : {A : Type 0} → List (SaidMessage A) → MessageCounts

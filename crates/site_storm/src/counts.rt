@@ -134,7 +134,7 @@ fn count_said<A: Allocator>(pdu_type: PduType, said: &[SaidMessage<A>]) -> usize
 {
     let mut number = 0;
     for message in said {
-        if is_apdu(pdu_type, message.apdu.as_slice()) {
+        if is_apdu(pdu_type, message.apdu()) {
             number += 1;
         }
     }

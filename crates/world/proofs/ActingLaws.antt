@@ -30,32 +30,32 @@ use Rattle.world.specs.Refusals.{Of}
 use Rattle.world.specs.World.{WorldState}
 use Rattle.world_log.specs.Growing.{WorldHistory, frames_at, items_at, told_in}
 use Rattle.world_log.specs.Kept.{all_keys, all_said, key_of, said_of}
-use Rattle.world_log.specs.Log.{GoesOn, HasGrown, LogState, Says, caused, cut_to, mark_of, told_to}
+use Rattle.world_log.specs.Log.{GoesOn, LogState, Says, Tells, caused, cut_to, mark_of, put_in}
 use Rattle.world_log.specs.declared.key.Key as kept
 use Rattle.world_log.specs.declared.log.Cause.{Cause}
 use Rattle.world_log.specs.declared.log.Cause.TheVariants as cause
 use Rattle.world_log.specs.declared.log.Mark.{Mark}
 use Rattle.world_log.specs.declared.saying.SaidMessage.{SaidMessage}
 
--- all was written down, and told
+-- all was written down, put out and told
 pub logs_so : {A : Type 0} (now : ℕ) (n : NodeState A) (plan : PartPlan A) (out : List (PortSent A)) (x : Station)
     (told : PartTold A) (l0 l1 l2 l3 : LogState A) → x ≡ home_of n.part → l1 ≡ l0 →
-    HasGrown now (node_places n) out x.net (told_by plan).said l1 l2 → told ≡ told_by plan → l3 ≡ told_to x now told l2 →
+    l2 ≡ put_in now (node_places n) out l1 → told ≡ told_by plan → Tells x now told l2 l3 →
     Logs now n (record { told = told_by plan; out = out }) l0 l3
 logs_so {A} now n plan out x told l0 l1 l2 l3 at begun grown is tells =
-    let base = subst (λ (l : LogState A). HasGrown now (node_places n) out x.net (told_by plan).said l l2) begun grown in
-    let net : x.net ≡ (home_of n.part).net = ap (λ (y : Station). y.net) at in
-    let grows = subst (λ (m : ℕ). HasGrown now (node_places n) out m (told_by plan).said l0 l2) net base in record {
-      items = ap (λ (l : LogState A). l.items) tells ∙ grows.items;
-      says = subst (λ (ms : List (SaidMessage A)). Says (home_of n.part).net (told_by plan).said l0.said ms)
-          (sym (ap (λ (l : LogState A). l.said) tells)) grows.says;
-      keys = ap (λ (l : LogState A). l.keys) tells ∙ grows.keys;
-      history = ap (λ (l : LogState A). l.history) tells
-          ∙ ap (λ (y : Station). told_in y now (all_keys l2.keys) told l2.history) at
-          ∙ ap (λ (t : PartTold A). told_in (home_of n.part) now (all_keys l2.keys) t l2.history) is
-          ∙ ap (λ (ks : List kept.Key). told_in (home_of n.part) now (all_keys ks) (told_by plan) l2.history) grows.keys
-          ∙ ap (λ (h : WorldHistory A). told_in (home_of n.part) now (all_keys l0.keys) (told_by plan) h) grows.history;
-    }
+    let put = grown ∙ ap (λ (l : LogState A). put_in now (node_places n) out l) begun in
+    let behind = subst (λ (l : LogState A). Tells x now told l l3) put tells in
+    let here = subst (λ (y : Station). Tells y now told (put_in now (node_places n) out l0) l3) at behind in
+    let t = subst (λ (u : PartTold A). Tells (home_of n.part) now u (put_in now (node_places n) out l0) l3) is here in
+    record { items = t.items; says = t.says; keys = t.keys; history = t.history }
+
+-- what a node planned to say has something inside
+pub told_insides : {A : Type 0} (now : ℕ) (n : NodeState A) (plan : PartPlan A) (draft : Draft A) (x : Station)
+    (told : PartTold A) → MayBeDone now plan draft n → x ≡ home_of n.part → told ≡ told_by plan →
+    HasInsides x.net told.said
+told_insides {A} now n plan draft x told may at is =
+    subst (λ (u : PartTold A). HasInsides x.net u.said) (sym is)
+    (subst (λ (y : Station). HasInsides y.net (told_by plan).said) (sym at) may.own.insides)
 
 -- what was to go out on the buses went out, behind so many items
 pub puts_so : {A : Type 0} (now n m : ℕ) (fs gs : List (FramePut A)) (b0 b1 b2 : BusesState A) → b1 ≡ b0 → n ≡ m →
@@ -64,7 +64,7 @@ puts_so {A} now n m fs gs b0 b1 b2 same count frames put =
     put ∙ ap (λ (b : BusesState A). put_on now n fs b) same ∙ ap (λ (k : ℕ). put_on now k fs b0) count
     ∙ ap (λ (hs : List (FramePut A)). put_on now m hs b0) frames
 
-pub ruleset doing_rules = (goes_on_further, goes_on_same, logs_so, puts_so)
+pub ruleset doing_rules = (goes_on_further, goes_on_same, logs_so, told_insides, puts_so)
 
 -- what a log goes on from is what is left where it is cut back
 pub undone : {A : Type 0} (m : Mark) (old mid new : LogState A) → m ≡ mark_of old → GoesOn old mid →

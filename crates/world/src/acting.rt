@@ -58,8 +58,7 @@ fn append_and_commit<A: Allocator + Copy>(
         alloc,
         node,
         out,
-        home.net,
-        plan.said(),
+        plan.said().len(),
         plan.outcome_count(),
         now,
     )?;

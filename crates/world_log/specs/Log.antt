@@ -66,19 +66,19 @@ pub record Says {A : Type 0} (net : ℕ) (said : List (Parcel A)) (old new : Lis
   pub inside : AreInside net said fresh
   pub behind : all_said new ≡ all_said old ++ fresh
 
--- what went out over these places stands behind all items, and what is inside what was said on a network behind all
--- that was said; keys and history are as they were
-pub record HasGrown {A : Type 0} (now : ℕ) (places : List Station) (out : List (PortSent A)) (net : ℕ)
-    (said : List (Parcel A)) (old new : LogState A) : Type 0 where
-  pub items : new.items ≡ old.items ++ items_at now places out
-  pub says : Says net said old.said new.said
+-- the log once this went out over these places
+abbrev pub put_in : {A : Type 0} → (now : ℕ) → List Station → List (PortSent A) → LogState A → LogState A
+put_in now places out l = record l { items = l.items ++ items_at now places out }
+
+-- there is room for so many messages, and in the history for what is executed and so many outcomes
+pub record HasRoomToTell {A : Type 0} (l : WorldLog A) (messages outcomes : ℕ) : Type 0 where
+  pub said : vec_len l.said + messages ≤ vec_capacity l.said
+  pub history : vec_len l.history + (outcomes + 1) ≤ vec_capacity l.history
+
+-- the log once a node at a station told this: what is inside what it said stands behind all that was said, and what it
+-- executed and what came of its requests in the history
+pub record Tells {A : Type 0} (x : Station) (now : ℕ) (t : PartTold A) (old new : LogState A) : Type 0 where
+  pub items : new.items ≡ old.items
   pub keys : new.keys ≡ old.keys
-  pub history : new.history ≡ old.history
-
--- there is room in the history for what is executed and so many outcomes
-pub record HasRoomToTell {A : Type 0} (l : WorldLog A) (outcomes : ℕ) : Type 0 where
-  pub room : vec_len l.history + (outcomes + 1) ≤ vec_capacity l.history
-
--- the log once a node told this
-abbrev pub told_to : {A : Type 0} → Station → (now : ℕ) → PartTold A → LogState A → LogState A
-told_to x now t l = record l { history = told_in x now (all_keys l.keys) t l.history }
+  pub history : new.history ≡ told_in x now (all_keys old.keys) t old.history
+  pub says : Says x.net t.said old.said new.said

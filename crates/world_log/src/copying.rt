@@ -85,7 +85,8 @@ fn message_of<A: Allocator + Copy>(
     Ok(SaidMessage {
         source: message.source,
         reach: message.reach,
-        apdu: message.apdu.copy(alloc)?,
+        npdu: message.npdu.copy(alloc)?,
+        header: message.header,
         stamp: message.stamp,
     })
 }

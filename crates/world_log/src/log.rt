@@ -4,7 +4,7 @@ ghost use Rattle.std.specs.Prelude.{◌≡◌, [], IfOk, OnOk, length};
 ghost use Rattle.carry_ends.specs.carry_world.carry_said.Said.{HasInsides};
 ghost use Rattle.node_laws.specs.site_node.Node.{node_places};
 ghost use Rattle.world_log.specs.Growing.{frames_at};
-ghost use Rattle.world_log.specs.Log.{GoesOn, HasGrown, HasRoomToTell, caused, cut_to, log_of, mark_of, told_to};
+ghost use Rattle.world_log.specs.Log.{GoesOn, HasRoomToTell, Tells, caused, cut_to, log_of, mark_of, put_in};
 
 use crate::key::Key;
 use crate::putting::put_out;
@@ -13,7 +13,7 @@ use crate::telling::{tell_executed, tell_outcomes};
 use history::Entry;
 use link::PortSent;
 use node_laws::{PartTold, SiteNode};
-use npdu::{Parcel, Station};
+use npdu::Station;
 use primitives::{Reply, Request};
 use std::alloc::{AllocError, Allocator};
 use tags::Items;
@@ -115,9 +115,9 @@ impl<A: Allocator + Copy> WorldLog<A> {
         Ok(())
     }
 
-    /// Appends what a node puts out over its places at the moment `now`, in milliseconds, and what is inside each
-    /// message that it says on the network `net`, and takes room for what it executes and so many outcomes. Returns the
-    /// frames that go out on buses, which aren't kept here.
+    /// Appends what a node puts out over its places at the moment `now`, in milliseconds, and takes room for so many
+    /// messages that it says, for what it executes and for so many outcomes. Returns the frames that go out on buses,
+    /// which aren't kept here.
     ///
     /// # Errors
     /// Want of memory. It may then have grown.
@@ -127,32 +127,31 @@ impl<A: Allocator + Copy> WorldLog<A> {
         alloc: A,
         node: &SiteNode<A>,
         out: Items<PortSent<A>, A>,
-        net: u16,
-        said: &[Parcel<A>],
+        messages: usize,
         outcomes: usize,
         now: u64,
     ) -> Result<Vec<FramePut<A>, A>, AllocError>
-        requires insides { HasInsides net said.now }
-        ensures grown { OnOk result
-            (HasGrown now (node_places node.now) out net said.now (log_of self.old) (log_of self.new)) }
+        ensures grown { OnOk result (log_of self.new ≡ put_in now (node_places node.now) out (log_of self.old)) }
         ensures frames { IfOk result (λ frames. frames.items ≡ frames_at (node_places node.now) out) }
-        ensures room { OnOk result (HasRoomToTell self.new outcomes) }
+        ensures room { OnOk result (HasRoomToTell self.new messages outcomes) }
         ensures on { GoesOn (log_of self.old) (log_of self.new) }
     {
         let frames = put_out(alloc, &mut self.items, node, out, now)?;
-        say(alloc, &mut self.said, net, said)?;
+        self.said.reserve(messages)?;
         self.history.reserve(outcomes.saturating_add(1))?;
         Ok(frames)
     }
 
-    /// Appends what a node at this station executed, and what came of its requests, at the moment `now`, in
-    /// milliseconds. It takes no memory.
+    /// Appends what a node at this station said, with what is inside each message, what it executed, and what came of
+    /// its requests, at the moment `now`, in milliseconds. It takes no memory, and copies nothing.
     pub fn tell(&mut self, station: Station, told: PartTold<A>, now: u64)
-        requires { HasRoomToTell self.old (length told.outcomes) }
-        ensures { log_of self.new ≡ told_to station now told (log_of self.old) }
+        requires room { HasRoomToTell self.old (length told.said) (length told.outcomes) }
+        requires insides { HasInsides station.net told.said }
+        ensures { Tells station now told (log_of self.old) (log_of self.new) }
     {
         let keys = self.keys.as_slice();
         tell_executed(&mut self.history, keys, told.executed, now);
         tell_outcomes(&mut self.history, keys, station, told.outcomes, now);
+        say(&mut self.said, station.net, told.said);
     }
 }
