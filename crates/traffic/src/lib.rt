@@ -3,17 +3,20 @@
 //!
 //! To the layer above it promises: it tells which one is meant, refuses one that was never put out or is too old to be
 //! heard, and finds what is still to be delivered among those that are young, without a walk through all that was ever
-//! sent. No station is known here.
+//! sent. What is too old may be forgotten: the others keep their numbers. No station is known here.
 //!
 //! - `item`: a datagram on its way.
 //! - `frame`: a frame that a station puts out.
+//! - `recent_items`: items by their numbers, of which those that are too old may be forgotten.
 //! - `seeking`: which of them is meant, and which is to be delivered next.
 #![tactic(auto)]
 
 mod frame;
 mod item;
+mod recent_items;
 mod seeking;
 
 pub use frame::FramePut;
 pub use item::Item;
+pub use recent_items::RecentItems;
 pub use seeking::{in_time, item_at, next_waiting};

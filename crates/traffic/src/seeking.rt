@@ -42,7 +42,7 @@ pub fn in_time<A: Allocator>(item: &Item<A>, now: u64) -> Result<(), Fault>
 
 /// The number of the first item that was put out at most so long ago that it may still be heard at the moment `now`:
 /// items stand in the order in which they were put out.
-fn first_young<A: Allocator>(items: &[Item<A>], now: u64) -> usize
+pub(crate) fn first_young<A: Allocator>(items: &[Item<A>], now: u64) -> usize
     ensures bound { result ≤ length items.now }
 {
     items.partition_point(|item| now.saturating_sub(item.put_out) > LIFE_MS)
