@@ -19,4 +19,4 @@ mod seeking;
 pub use frame::FramePut;
 pub use item::Item;
 pub use recent_items::RecentItems;
-pub use seeking::{in_time, item_at, next_waiting};
+pub use seeking::{in_time, next_waiting};

@@ -13,7 +13,7 @@ use tags::Fault;
 ///
 /// # Errors
 /// `NoSuch` where there is none.
-pub fn item_at<A: Allocator>(items: &[Item<A>], number: u64) -> Result<&Item<A>, Fault>
+pub(crate) fn item_at<A: Allocator>(items: &[Item<A>], number: u64) -> Result<&Item<A>, Fault>
     ensures item { IfOk result (λ item. slice_get items.now number ≡ Some item.now) }
     ensures cause { IfErr result (λ fault. fault ≡ Fault.NoSuch) }
     ensures none { OnErr result (slice_get items.now number ≡ None) }

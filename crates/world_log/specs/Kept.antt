@@ -1,8 +1,6 @@
--- What the code keeps of what was said and issued, in the words of the promise.
+-- What the code keeps of what was said, in the words of the promise.
 use Rattle.std.specs.Prelude.{ℕ, List, drop, map}
-use Rattle.carry_ends.specs.carry_world.PlainWorld as plain
 use Rattle.inside.specs.Inside.{Said}
-use Rattle.world_log.specs.declared.key.Key.{Key}
 use Rattle.world_log.specs.declared.saying.SaidMessage.{SaidMessage}
 
 -- the octets of a message's APDU: those behind its header (6.2)
@@ -15,10 +13,3 @@ said_of m = record { inside = record { source = m.source; reach = m.reach; apdu 
 
 abbrev pub all_said : {A : Type 0} → List (SaidMessage A) → List Said
 all_said ms = map (λ m. said_of m) ms
-
--- who issued, and under which invoke ID (5.4.1)
-abbrev pub key_of : Key → plain.Key
-key_of k = record { client = k.client; invoke_id = k.invoke_id }
-
-abbrev pub all_keys : List Key → List plain.Key
-all_keys ks = map (λ k. key_of k) ks

@@ -1,4 +1,5 @@
 pub mod Kept
+pub mod Issues
 pub mod Growing
 pub mod Log
 -- What the layers above cite of those below.

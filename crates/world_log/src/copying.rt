@@ -7,7 +7,6 @@ use crate::log::{WorldEntry, WorldLog};
 use crate::saying::SaidMessage;
 use history::{End, Entry};
 use std::alloc::{AllocError, Allocator};
-use traffic::Item;
 
 /// An equal end.
 fn end_of(end: &End) -> End
@@ -117,16 +116,6 @@ fn messages_of<A: Allocator + Copy>(
     Ok(copies)
 }
 
-fn items_of<A: Allocator + Copy>(alloc: A, items: &[Item<A>]) -> Result<Vec<Item<A>, A>, AllocError>
-    ensures { IfOk result (λ copies. copies.items ≡ items.now) }
-{
-    let mut copies = Vec::new(alloc);
-    for item in items {
-        copies.push(item.copy(alloc)?)?;
-    }
-    Ok(copies)
-}
-
 impl<A: Allocator + Copy> WorldLog<A> {
     /// Returns a log that keeps the same, in memory of `alloc`.
     ///
@@ -136,9 +125,11 @@ impl<A: Allocator + Copy> WorldLog<A> {
         ensures { IfOk result (λ copy. log_of copy ≡ log_of self.now) }
     {
         Ok(WorldLog {
-            items: items_of(alloc, self.items.as_slice())?,
-            keys: Vec::from_slice(alloc, self.keys.as_slice())?,
+            items: self.items.copy(alloc)?,
+            keys: self.keys.copy(alloc)?,
+            first_entry: self.first_entry,
             history: entries_of(alloc, self.history.as_slice())?,
+            first_said: self.first_said,
             said: messages_of(alloc, self.said.as_slice())?,
         })
     }

@@ -3,11 +3,13 @@
 //!
 //! To the layer above it promises: what is put out over a node's places becomes items and frames, each in order; of
 //! each message that is said the inside is kept, exactly; what a node executed and what came of requests becomes
-//! entries of the history, each of the last issue under its invoke ID. It is appended to; where a call is refused,
-//! whoever made a [`Mark`] before cuts all of it off again.
+//! entries of the history, each of the last issue under its invoke ID. Items are appended first, and cut off again where
+//! the rest is refused; all else is appended where room was made. What can no longer matter it forgets when it is told
+//! to: what is left keeps its numbers, and all issues stay as many, each with the last of its key.
 //!
 //! - `key`: who issued, and under which invoke ID.
-//! - `log`: what is kept, how it grows, and how it is cut back.
+//! - `last_issues`: the last issue of each client under each invoke ID.
+//! - `log`: what is kept, how it grows, how it is cut back, and what it hands out and forgets.
 //! - `putting`: items and frames of what goes out.
 //! - `saying`: what is inside what was said.
 //! - `telling`: entries of the history.
@@ -18,12 +20,14 @@
 mod copying;
 mod keeping;
 mod key;
+mod last_issues;
 mod log;
 mod putting;
 mod saying;
 mod telling;
 
 pub use key::Key;
-pub use log::{Cause, Mark, WorldEntry, WorldLog};
+pub use last_issues::LastIssues;
+pub use log::{Cause, WorldEntry, WorldLog};
 pub use node_laws::{Draft, Part, PartPlan, SiteNode, SitePort};
 pub use saying::SaidMessage;

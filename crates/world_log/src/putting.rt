@@ -10,7 +10,7 @@ use node_laws::SiteNode;
 use npdu::{Mac, Station};
 use std::alloc::{AllocError, Allocator};
 use tags::Items;
-use traffic::{FramePut, Item};
+use traffic::{FramePut, Item, RecentItems};
 
 /// Returns what goes out from an address of BACnet/IP, as an item.
 fn item<A: Allocator>(sent: Sent<A>, net: u16, from: Mac, now: u64) -> Item<A>
@@ -39,7 +39,7 @@ fn item<A: Allocator>(sent: Sent<A>, net: u16, from: Mac, now: u64) -> Item<A>
 /// on.
 #[tactic(auto, using(crate::proofs::PutLaws::put_rules))]
 fn put<A: Allocator + Copy>(
-    items: &mut Vec<Item<A>, A>,
+    items: &mut RecentItems<A>,
     frames: &mut Vec<FramePut<A>, A>,
     first: usize,
     place: Option<Station>,
@@ -51,6 +51,7 @@ fn put<A: Allocator + Copy>(
         ++ flat_map (λ x. item_from now x.net x.mac sent) (option_to_list place)) }
     ensures frames { OnOk result (frames.new.items ≡ frames.old.items
         ++ flat_map (λ x. frame_from (length items.old.items - first) x.net x.mac sent) (option_to_list place)) }
+    ensures first { items.new.first ≡ items.old.first }
     ensures on { take (length items.old.items) items.new.items ≡ items.old.items }
 {
     let Some(place) = place else {
@@ -71,7 +72,7 @@ fn put<A: Allocator + Copy>(
 
 /// Appends what goes out over a port of a node, where it has such a port.
 fn put_over<A: Allocator + Copy>(
-    items: &mut Vec<Item<A>, A>,
+    items: &mut RecentItems<A>,
     frames: &mut Vec<FramePut<A>, A>,
     first: usize,
     node: &SiteNode<A>,
@@ -82,6 +83,7 @@ fn put_over<A: Allocator + Copy>(
     ensures items { OnOk result (items.new.items ≡ items.old.items ++ item_over now (node_places node.now) sent) }
     ensures frames { OnOk result (frames.new.items ≡ frames.old.items
         ++ frame_over (length items.old.items - first) (node_places node.now) sent) }
+    ensures first { items.new.first ≡ items.old.first }
     ensures on { take (length items.old.items) items.new.items ≡ items.old.items }
 {
     let place = node.place(sent.port);
@@ -95,13 +97,14 @@ fn put_over<A: Allocator + Copy>(
 /// Want of memory. Some may then be appended.
 pub(crate) fn put_out<A: Allocator + Copy>(
     alloc: A,
-    items: &mut Vec<Item<A>, A>,
+    items: &mut RecentItems<A>,
     node: &SiteNode<A>,
     all: Items<PortSent<A>, A>,
     now: u64,
 ) -> Result<Vec<FramePut<A>, A>, AllocError>
     ensures items { OnOk result (items.new.items ≡ items.old.items ++ items_at now (node_places node.now) all) }
     ensures frames { IfOk result (λ frames. frames.items ≡ frames_at (node_places node.now) all) }
+    ensures first { items.new.first ≡ items.old.first }
     ensures on { take (length items.old.items) items.new.items ≡ items.old.items }
 {
     let first = items.len();

@@ -19,4 +19,5 @@ loop-sent-preserved g c =
       still_first c.args.now places c.in-Some.sent c.loop-sent.sent-iterator.rest.items c.next.new.self.rest.items
           c.in-Some.ensures.steps.0 c.loop-sent.items.items c.put_over.new.items.items c.in_ok-put_over.ensures.items
           c.len-first.result c.loop-sent.invariant.3,
+      c.in_ok-put_over.ensures.first ∙ c.loop-sent.invariant.4,
     )

@@ -12,3 +12,4 @@ invariant-loop-sent g l =
     ≡ frames_at places l.fn.all)
     × (take (length l.fn.items.items) l.items.items ≡ l.fn.items.items)
     × (l.first ≤ length l.items.items)
+    × (l.items.first ≡ l.fn.items.first)

@@ -1,0 +1,95 @@
+-- Who issued what: the last issue of each client under each invoke ID, and what may be forgotten of the others.
+use Rattle.std.specs.Prelude.{◌≡◌, ◌<◌, ◌^◌, ℕ, ◌+◌, ◌==◌, ◌&&◌, Bool, true, false, cond, List, [], ◌∷◌, ◌++◌, Option, Some, None, Vec}
+use Rattle.std.specs.Prelude.{IfSome, IsSome, length, replicate}
+use Rattle.std.specs.BTreeMap.{BTreeMap, get_by}
+use Rattle.std.specs.Ordering.{nat_cmp, ordering_then}
+use Rattle.std.specs.Vec.{vec_capacity, vec_len}
+use Rattle.std.specs.declared.cmp.Ordering.{Ordering}
+use Rattle.carry_ends.specs.carry_world.PlainWorld as plain
+use Rattle.carry_ends.specs.carry_world.PlainWorld.{last_key}
+use Rattle.npdu.specs.Mac.{same_station, station_cmp}
+use Rattle.npdu.specs.declared.mac.Station.{Station}
+use Rattle.world_log.specs.declared.key.Key.{Key}
+use Rattle.world_log.specs.declared.key.Run.{Run}
+
+-- keys: who issued, and under which invoke ID, of each issue, in order (5.4.1). ready: whose issue room was made for
+pub record IssuesState : Type 0 where
+  pub keys : List plain.Key
+  pub ready : Option Key
+
+-- who issued, and under which invoke ID, in the words of the promise (5.4.1)
+abbrev pub key_of : Key → plain.Key
+key_of k = record { client = k.client; invoke_id = k.invoke_id }
+
+-- an issue, and those before it that are forgotten: whoever made these, they are as this one, which stands behind them
+abbrev pub run_keys : Run → List plain.Key
+run_keys r = replicate r.before (key_of r.key) ++ key_of r.key ∷ []
+
+abbrev pub keys_in : List Run → List plain.Key
+keys_in [] = []
+keys_in (r ∷ rs) = run_keys r ++ keys_in rs
+
+-- clients in the order of their stations, each by its invoke IDs
+abbrev pub key_cmp : Key → Key → Ordering
+key_cmp a b = ordering_then (station_cmp a.client b.client) (nat_cmp a.invoke_id b.invoke_id)
+
+abbrev pub flat : Option (Option ℕ) → Option ℕ
+flat None = None
+flat (Some number) = number
+
+-- what is kept of a key, if it is known
+abbrev pub kept_of : BTreeMap Key (Option ℕ) → Key → Option (Option ℕ)
+kept_of m k = get_by (λ x. key_cmp k x) m
+
+-- the number that is kept of a key
+abbrev pub number_of : BTreeMap Key (Option ℕ) → Key → Option ℕ
+number_of m k = flat (kept_of m k)
+
+-- the number that is kept of each key is that of its last issue (5.4.1)
+pub record LeadsToLast (m : BTreeMap Key (Option ℕ)) (keys : List plain.Key) : Type 0 where
+  pub numbers : (k : Key) → number_of m k ≡ last_key k.client k.invoke_id keys
+
+-- two keys are one
+abbrev pub same_key : Key → Key → Bool
+same_key a b = same_station a.client b.client && (a.invoke_id == b.invoke_id)
+
+-- of a key this is kept then, and of any other what was: for private functions alone
+pub record IsKeptOf (key : Key) (number : Option ℕ) (old new : BTreeMap Key (Option ℕ)) : Type 0 where
+  pub kept : (k : Key) → kept_of new k ≡ cond (same_key key k) (Some number) (kept_of old k)
+
+-- .. of each key the same number is
+pub record IsSameOf (old new : BTreeMap Key (Option ℕ)) : Type 0 where
+  pub same : (k : Key) → number_of new k ≡ number_of old k
+
+-- there is room for the issue of a key
+pub record IsReady {A : Type 0} (issued : ℕ) (runs : Vec Run A) (m : BTreeMap Key (Option ℕ)) (key : Key) : Type 0 where
+  pub known : IsSome (kept_of m key)
+  pub room : vec_len runs < vec_capacity runs
+  pub fits : issued + 1 < 2 ^ 64
+
+-- what is kept of the issues is of so many, and leads to the last of each key
+pub record AreLast {A : Type 0} (issued : ℕ) (runs : Vec Run A) (m : BTreeMap Key (Option ℕ)) (next : Option Key) :
+    Type 0 where
+  pub count : issued ≡ length (keys_in runs.items)
+  pub leads : LeadsToLast m (keys_in runs.items)
+  pub ready : IfSome next (λ key. IsReady issued runs m key)
+
+-- this is the number
+abbrev pub is_number : (number : ℕ) → Option ℕ → Bool
+is_number number None = false
+is_number number (Some n) = n == number
+
+-- those that are kept, and an issue behind so many that are forgotten: it is kept too, or forgotten
+abbrev pub folded : (is_last : Bool) → (gap : ℕ) → Run → List Run → List Run
+folded true gap r kept = kept ++ record { key = r.key; before = gap + r.before } ∷ []
+folded false gap r kept = kept
+
+-- how many are forgotten then
+abbrev pub gap_after : (is_last : Bool) → (gap : ℕ) → Run → ℕ
+gap_after true gap r = 0
+gap_after false gap r = gap + (r.before + 1)
+
+-- this is kept of the keys of issues: as many, and the last issue of each client under each invoke ID (5.4.1)
+pub record KeepsKeys (all kept : List plain.Key) : Type 0 where
+  pub count : length kept ≡ length all
+  pub last : (client : Station) (id : ℕ) → last_key client id kept ≡ last_key client id all
