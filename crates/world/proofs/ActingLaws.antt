@@ -1,7 +1,7 @@
 -- What a node did is what it planned, and all grew by what came of it.
-use Rattle.std.proofs.Common.{◌≡◌, ◌∙◌, refl, sym, ap, subst, arith, ℕ, zero, suc, ◌<◌, List, [], ◌∷◌, ◌++◌, length, Option, Some, None, Result, Ok, Err, OnOk, OnErr}
+use Rattle.std.proofs.Common.{◌≡◌, ◌∙◌, refl, sym, ap, subst, arith, ℕ, zero, suc, ◌<◌, ◌≤◌, List, [], ◌∷◌, ◌++◌, length, take, Option, Some, None, Result, Ok, Err, OnOk, OnErr}
 use Rattle.world_log.proofs.LogLaws.{goes_on_further, goes_on_same}
-use Rattle.std.proofs.lemmas.List.{map-append}
+use Rattle.std.proofs.Math.Nat.{min-eq_left}
 use Rattle.std.specs.List.{AllByRecursion}
 use Rattle.std.specs.Prelude.{slice_get, slice_set}
 use Rattle.buses.specs.Puts.{BusesState, put_on}
@@ -29,25 +29,55 @@ use Rattle.world.specs.Laws.{AreSteady, IsSteady}
 use Rattle.world.specs.Refusals.{Of}
 use Rattle.world.specs.World.{WorldState}
 use Rattle.world_log.specs.Growing.{WorldHistory, frames_at, items_at, told_in}
-use Rattle.world_log.specs.Kept.{all_keys, all_said, key_of, said_of}
-use Rattle.world_log.specs.Log.{GoesOn, LogState, Says, Tells, caused, cut_to, mark_of, put_in}
-use Rattle.world_log.specs.declared.key.Key as kept
+use Rattle.world_log.specs.Kept.{all_said, said_of}
+use Rattle.world_log.specs.Log.{GoesOn, IsReadyFor, LogState, Says, Tells, caused, cut_to, put_in}
+use Rattle.world_log.specs.carry_world.PlainWorld.{Key}
 use Rattle.world_log.specs.declared.log.Cause.{Cause}
 use Rattle.world_log.specs.declared.log.Cause.TheVariants as cause
-use Rattle.world_log.specs.declared.log.Mark.{Mark}
+use Rattle.world_log.specs.declared.log.WorldLog.{WorldLog}
 use Rattle.world_log.specs.declared.saying.SaidMessage.{SaidMessage}
 
--- all was written down, put out and told
+-- what is written down leaves items, and what is put out what is written down
+caused_put : {A : Type 0} (c : Cause A) (now : ℕ) (places : List Station) (out : List (PortSent A)) (l : LogState A) →
+    caused c (put_in now places out l) ≡ put_in now places out (caused c l)
+caused_put cause.Nothing now places out l = refl
+caused_put (cause.Issue key entry) now places out l = refl
+caused_put (cause.Restart entry) now places out l = refl
+
+-- all was put out, written down and told
 pub logs_so : {A : Type 0} (now : ℕ) (n : NodeState A) (plan : PartPlan A) (out : List (PortSent A)) (x : Station)
-    (told : PartTold A) (l0 l1 l2 l3 : LogState A) → x ≡ home_of n.part → l1 ≡ l0 →
-    l2 ≡ put_in now (node_places n) out l1 → told ≡ told_by plan → Tells x now told l2 l3 →
-    Logs now n (record { told = told_by plan; out = out }) l0 l3
-logs_so {A} now n plan out x told l0 l1 l2 l3 at begun grown is tells =
-    let put = grown ∙ ap (λ (l : LogState A). put_in now (node_places n) out l) begun in
+    (told : PartTold A) (c : Cause A) (l0 l1 l2 l3 : LogState A) → x ≡ home_of n.part → l1 ≡ l0 →
+    l2 ≡ put_in now (node_places n) out l1 → told ≡ told_by plan → Tells x now told (caused c l2) l3 →
+    Logs now n (record { told = told_by plan; out = out }) (caused c l0) l3
+logs_so {A} now n plan out x told c l0 l1 l2 l3 at begun grown is tells =
+    let put : caused c l2 ≡ put_in now (node_places n) out (caused c l0) =
+    ap (λ (l : LogState A). caused c l) (grown ∙ ap (λ (l : LogState A). put_in now (node_places n) out l) begun)
+    ∙ caused_put c now (node_places n) out l0 in
     let behind = subst (λ (l : LogState A). Tells x now told l l3) put tells in
-    let here = subst (λ (y : Station). Tells y now told (put_in now (node_places n) out l0) l3) at behind in
-    let t = subst (λ (u : PartTold A). Tells (home_of n.part) now u (put_in now (node_places n) out l0) l3) is here in
-    record { items = t.items; says = t.says; keys = t.keys; history = t.history }
+    let here = subst (λ (y : Station). Tells y now told (put_in now (node_places n) out (caused c l0)) l3) at behind in
+    let t = subst (λ (u : PartTold A). Tells (home_of n.part) now u (put_in now (node_places n) out (caused c l0)) l3)
+    is here in record {
+      first_item = t.first_item;
+      items = t.items;
+      keys = t.keys;
+      first_entry = t.first_entry;
+      history = t.history;
+      first_said = t.first_said;
+      says = t.says;
+    }
+
+-- there is room still for the key of what is written down
+pub still_ready : {A : Type 0} (c : Cause A) (l m : WorldLog A) → m.keys ≡ l.keys → IsReadyFor c l → IsReadyFor c m
+still_ready cause.Nothing l m e ready = tt
+still_ready (cause.Issue key entry) l m e ready = ap (λ k. k.ready) e ∙ ready
+still_ready (cause.Restart entry) l m e ready = tt
+
+-- a log goes on from what it is, and from what is the same
+pub goes_on_equal : {A : Type 0} (a b : LogState A) → b ≡ a → GoesOn a b
+goes_on_equal {A} a b e = subst (λ (l : LogState A). GoesOn a l) (sym e) (goes_on_same a)
+
+pub goes_on_from : {A : Type 0} (a b c : LogState A) → b ≡ a → GoesOn b c → GoesOn a c
+goes_on_from {A} a b c e on = subst (λ (l : LogState A). GoesOn l c) e on
 
 -- what a node planned to say has something inside
 pub told_insides : {A : Type 0} (now : ℕ) (n : NodeState A) (plan : PartPlan A) (draft : Draft A) (x : Station)
@@ -64,12 +94,16 @@ puts_so {A} now n m fs gs b0 b1 b2 same count frames put =
     put ∙ ap (λ (b : BusesState A). put_on now n fs b) same ∙ ap (λ (k : ℕ). put_on now k fs b0) count
     ∙ ap (λ (hs : List (FramePut A)). put_on now m hs b0) frames
 
-pub ruleset doing_rules = (goes_on_further, goes_on_same, logs_so, told_insides, puts_so)
+pub ruleset doing_rules = (goes_on_equal, goes_on_same, logs_so, still_ready, told_insides, puts_so)
 
 -- what a log goes on from is what is left where it is cut back
-pub undone : {A : Type 0} (m : Mark) (old mid new : LogState A) → m ≡ mark_of old → GoesOn old mid →
-    new ≡ cut_to m mid → new ≡ old
-undone m old mid new at on cut = cut ∙ ap (λ (k : Mark). cut_to k mid) at ∙ on
+pub undone : {A : Type 0} (count : ℕ) (old mid new : LogState A) → count ≡ length old.items → old.first_item ≤ count →
+    GoesOn old mid → new ≡ cut_to count mid → new ≡ old
+undone {A} count old mid new at first on cut =
+    let same : mid.first_item ≡ old.first_item = ap (λ (l : LogState A). l.first_item) on in
+    let le : mid.first_item ≤ length old.items = omega (arith, same, at, first) in
+    cut ∙ ap (λ (n : ℕ). cut_to n mid) at
+    ∙ ap (λ (n : ℕ). record mid { first_item = n; items = take (length old.items) mid.items }) (min-eq_left le) ∙ on
 
 pub ruleset undoing_rules = (undone)
 
@@ -90,10 +124,13 @@ seen site moment nodes l buses = record {
   site = site;
   moment = moment;
   nodes = nodes;
+  first_item = l.first_item;
   items = l.items;
   buses = buses;
-  keys = all_keys l.keys;
+  keys = l.keys;
+  first_entry = l.first_entry;
   history = l.history;
+  first_said = l.first_said;
   said = all_said l.said;
 }
 
@@ -101,9 +138,7 @@ seen site moment nodes l buses = record {
 caused_seen : {A : Type 0} (c : Cause A) (site : Parts A) (moment : ℕ) (ns : List (NodeState A)) (l : LogState A)
     (b : BusesState A) → seen site moment ns (caused c l) b ≡ caused_in c (seen site moment ns l b)
 caused_seen cause.Nothing site moment ns l b = refl
-caused_seen {A} (cause.Issue key entry) site moment ns l b =
-    ap (λ (ks : List _). record (seen site moment ns l b) { keys = ks; history = l.history ++ entry ∷ [] })
-    (map-append (λ k. key_of k) l.keys (key ∷ []))
+caused_seen (cause.Issue key entry) site moment ns l b = refl
 caused_seen (cause.Restart entry) site moment ns l b = refl
 
 caused_items : {A : Type 0} (c : Cause A) (l : LogState A) → (caused c l).items ≡ l.items
@@ -123,9 +158,29 @@ module _ {A : Type 0} (site : Parts A) (moment : ℕ) (ns : List (NodeState A)) 
   abbrev buses : BusesState A
   buses = put_on moment (length (caused c l0).items) (frames_at (node_places n) draft.out) b0
 
+  abbrev history : WorldHistory A
+  history = told_in (home_of n.part) moment (caused c l0).keys (told_by plan) (caused c l0).history
+
   counts : put_on moment (length l0.items) (frames_at (node_places n) draft.out) b0 ≡ buses
   counts = ap (λ (is : List (Item A)). put_on moment (length is) (frames_at (node_places n) draft.out) b0)
       (sym (caused_items c l0))
+
+  -- the world, with these of what it keeps
+  abbrev left_with : (first_item : ℕ) → List (Item A) → BusesState A → List Key → (first_entry : ℕ) → WorldHistory A →
+      (first_said : ℕ) → List Said → WorldState A
+  left_with first_item is b ks first_entry h first_said ss = record {
+    site = site;
+    moment = moment;
+    nodes = after;
+    first_item = first_item;
+    items = is;
+    buses = b;
+    keys = ks;
+    first_entry = first_entry;
+    history = h;
+    first_said = first_said;
+    said = ss;
+  }
 
   -- the node at a place did so
   pub done_so : MayBeDone moment plan draft n → next ≡ left_by moment plan draft.changes.items n →
@@ -139,20 +194,23 @@ module _ {A : Type 0} (site : Parts A) (moment : ℕ) (ns : List (NodeState A)) 
         fresh = logs.says.fresh;
         insides = logs.says.inside;
         sayer = said_by_it (home_of n.part) moment (told_by plan).said logs.says.fresh logs.says.inside may.own.each;
-        is = ap (λ (x : NodeState A). seen site moment (slice_set ns place x) l1 b1) left
-            ∙ ap (λ (is : List (Item A)). record (seen site moment after l1 b1) { items = is }) logs.items
-            ∙ ap (λ (b : BusesState A). record (seen site moment after l1 b) { items = items }) (puts ∙ counts)
-            ∙ ap (λ (ks : List kept.Key).
-            record (seen site moment after l1 buses) { items = items; keys = all_keys ks }) logs.keys
+        is =
+            let l = caused c l0 in
+            let was = all_said l1.said in
+            ap (λ (x : NodeState A). seen site moment (slice_set ns place x) l1 b1) left
+            ∙ ap (λ (k : ℕ). left_with k l1.items b1 l1.keys l1.first_entry l1.history l1.first_said was) logs.first_item
+            ∙ ap (λ (is : List (Item A)).
+            left_with l.first_item is b1 l1.keys l1.first_entry l1.history l1.first_said was) logs.items
+            ∙ ap (λ (b : BusesState A).
+            left_with l.first_item items b l1.keys l1.first_entry l1.history l1.first_said was) (puts ∙ counts)
+            ∙ ap (λ (ks : List Key).
+            left_with l.first_item items buses ks l1.first_entry l1.history l1.first_said was) logs.keys
+            ∙ ap (λ (k : ℕ). left_with l.first_item items buses l.keys k l1.history l1.first_said was) logs.first_entry
             ∙ ap (λ (h : WorldHistory A).
-            record (seen site moment after l1 buses) { items = items; keys = all_keys (caused c l0).keys; history = h })
-            logs.history
-            ∙ ap (λ (ss : List Said). record (seen site moment after l1 buses) {
-              items = items;
-              keys = all_keys (caused c l0).keys;
-              history = told_in (home_of n.part) moment (all_keys (caused c l0).keys) (told_by plan) (caused c l0).history;
-              said = ss;
-            }) logs.says.behind;
+            left_with l.first_item items buses l.keys l.first_entry h l1.first_said was) logs.history
+            ∙ ap (λ (k : ℕ). left_with l.first_item items buses l.keys l.first_entry history k was) logs.first_said
+            ∙ ap (λ (ss : List Said).
+            left_with l.first_item items buses l.keys l.first_entry history l.first_said ss) logs.says.behind;
       })
 
 -- what may be done of the node at a place may be done of this one

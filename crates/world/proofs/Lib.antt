@@ -1,6 +1,7 @@
 pub mod Standing
 pub mod FindingLaws
 pub mod ActingLaws
+pub mod PastLaws
 pub mod EventLaws
 pub mod Refusing
 pub mod Foreign

@@ -11,7 +11,6 @@ use Rattle.world_log.specs.site_ports.declared.draft.Draft.{Draft}
 use Rattle.world.specs.Acting.{Acts}
 use Rattle.world.specs.World.{WorldState}
 use Rattle.world_log.specs.Growing.{items_at, told_in}
-use Rattle.world_log.specs.Kept.{all_keys}
 use Rattle.world_log.specs.Log.{LogState, Says, caused}
 use Rattle.world_log.specs.declared.log.Cause.{Cause}
 use Rattle.world_log.specs.declared.log.Cause.TheVariants as cause
@@ -29,10 +28,13 @@ told_of plan draft = record { told = told_by plan; out = draft.out }
 
 -- this is how a log grew by what a node did: all that was told stands behind
 pub record Logs {A : Type 0} (now : ℕ) (n : NodeState A) (t : NodeTold A) (old new : LogState A) : Type 0 where
+  pub first_item : new.first_item ≡ old.first_item
   pub items : new.items ≡ old.items ++ items_at now (node_places n) t.out
-  pub says : Says (home_of n.part).net t.told.said old.said new.said
   pub keys : new.keys ≡ old.keys
-  pub history : new.history ≡ told_in (home_of n.part) now (all_keys old.keys) t.told old.history
+  pub first_entry : new.first_entry ≡ old.first_entry
+  pub history : new.history ≡ told_in (home_of n.part) now old.keys t.told old.history
+  pub first_said : new.first_said ≡ old.first_said
+  pub says : Says (home_of n.part).net t.told.said old.said new.said
 
 -- a world in which this was written down
 abbrev pub caused_in : {A : Type 0} → Cause A → WorldState A → WorldState A

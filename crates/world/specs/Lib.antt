@@ -5,6 +5,8 @@ pub mod Step
 pub mod Doing
 pub mod Refusals
 pub mod Laws
+pub mod Old
+pub mod Keeping
 pub mod Straying
 pub mod Tables
 -- What the layers above cite of those below.

@@ -18,16 +18,21 @@ use Rattle.world_sites.specs.Buses.{opening_buses}
 use Rattle.world_sites.specs.Nodes.{clients_of, devices_of}
 use Rattle.world_sites.specs.Opening.{opening_nodes}
 
--- nodes: in the order of the site. items: what was put out on networks of BACnet/IP, numbered from 0 on. buses: in the
--- order of the site. keys: who issued, and under which invoke ID, of each issue in order. moment: in milliseconds
+-- nodes: in the order of the site. items: what was put out on networks of BACnet/IP, numbered from 0 on; those before
+-- first_item may be forgotten. buses: in the order of the site. keys: who issued, and under which invoke ID, of each
+-- issue in order. history, said: behind so many entries that were handed out, and so many messages that are forgotten.
+-- moment: in milliseconds. No event reads first_item, first_entry and first_said
 pub record WorldState (A : Type 0) : Type 0 where
   pub site : Parts A
   pub moment : ℕ
   pub nodes : List (NodeState A)
+  pub first_item : ℕ
   pub items : List (Item A)
   pub buses : BusesState A
   pub keys : List Key
+  pub first_entry : ℕ
   pub history : WorldHistory A
+  pub first_said : ℕ
   pub said : List Said
 
 -- a world of a site as it opens: the moment is 0, and nothing was put out, issued or said
@@ -36,10 +41,13 @@ fresh_world p = record {
   site = p;
   moment = 0;
   nodes = opening_nodes p;
+  first_item = 0;
   items = [];
   buses = record { buses = opening_buses p; frames = 0 };
   keys = [];
+  first_entry = 0;
   history = [];
+  first_said = 0;
   said = [];
 }
 

@@ -52,7 +52,7 @@ fn append_and_commit<A: Allocator + Copy>(
 {
     let home = node.part().home();
     let behind = log.items.len() as u64;
-    log.begin(cause)?;
+    log.begin(&cause)?;
     let out = mem::replace(&mut draft.out, Items::new(alloc));
     let frames = log.grow(
         alloc,
@@ -65,7 +65,7 @@ fn append_and_commit<A: Allocator + Copy>(
     let puts = buses.prepare(alloc, frames, behind)?;
     let told = node.commit(plan, now, draft)?;
     buses.put(puts, now);
-    log.tell(home, told, now);
+    log.tell(cause, home, told, now);
     Ok(())
 }
 

@@ -14,7 +14,7 @@ use npdu::Station;
 use objects::Table;
 use std::alloc::Allocator;
 use tags::Fault;
-use traffic::{Item, in_time, item_at};
+use traffic::{Item, in_time};
 use world_log::{Part, SiteNode};
 use world_sites::{NamedNode, NodeFound, node_in};
 
@@ -93,7 +93,7 @@ impl<A: Allocator + Copy> Internetwork<A> {
         ensures steady { IfOk result (λ r. IsSteady self.now.site self.now.moment r.node.now) }
         ensures cause { IfErr result (λ fault. RefusesItem number self.now fault) }
     {
-        let item = item_at(self.log.items.as_slice(), number)?;
+        let item = self.log.items.item_at(number)?;
         let Some(NodeFound { place, port, node }) = self.at(addressee_of(item)) else {
             return Err(Fault::NoSuch);
         };

@@ -2,7 +2,7 @@
 
 use crate::macs::are_at_macs;
 use buses::Buses;
-use std::alloc::Allocator;
+use std::alloc::{AllocError, Allocator};
 use std::marker::Model;
 use tags::Fault;
 use traffic::Item;
@@ -27,7 +27,7 @@ impl<A: Allocator + Copy> Model for Internetwork<A> {
     ghost use Rattle.buses.specs.Buses.{buses_of};
     ghost use Rattle.world.specs.Laws.{AreSteady};
     ghost use Rattle.world.specs.World.{WorldState};
-    ghost use Rattle.world_log.specs.Kept.{all_keys, all_said};
+    ghost use Rattle.world_log.specs.Kept.{all_said};
     ghost use Rattle.world_sites.specs.Directory.{Leads};
 
     ghost Value = { WorldState A };
@@ -36,10 +36,13 @@ impl<A: Allocator + Copy> Model for Internetwork<A> {
       site = w.site;
       moment = w.moment;
       nodes = w.nodes.items;
+      first_item = w.log.items.first;
       items = w.log.items.items;
       buses = buses_of w.buses;
-      keys = all_keys w.log.keys.items;
+      keys = w.log.keys.keys;
+      first_entry = w.log.first_entry;
       history = w.log.history.items;
+      first_said = w.log.first_said;
       said = all_said w.log.said.items;
     } };
 
@@ -48,11 +51,13 @@ impl<A: Allocator + Copy> Model for Internetwork<A> {
 }
 
 impl<A: Allocator + Copy> Internetwork<A> {
-    ghost use Rattle.std.specs.Prelude.{◌≡◌, ◌≤◌, [], IfErr, IfOk, OnOk};
+    ghost use Rattle.std.specs.Prelude.{◌≡◌, ◌≤◌, ◌++◌, [], IfErr, IfOk, IfSome, OnErr, OnOk, drop, length};
     ghost use Rattle.buses.specs.Buses as on_buses;
     ghost use Rattle.buses.specs.Buses.{buses_of};
     ghost use Rattle.profile.specs.Times.{MAX_MOMENT_MS};
     ghost use Rattle.world_sites.specs.site.Sound.{IsSound};
+    ghost use Rattle.traffic.specs.Seeking.{Waits};
+    ghost use Rattle.world.specs.Keeping.{Forgets, handed_out};
     ghost use Rattle.world.specs.Laws.{AreSteady, Stands};
     ghost use Rattle.world.specs.World.{fresh_world};
     ghost use Rattle.world_log.specs.Kept.{all_said};
@@ -91,10 +96,13 @@ impl<A: Allocator + Copy> Internetwork<A> {
           site = site;
           moment = 0;
           nodes = nodes.items;
+          first_item = 0;
           items = [];
           buses = on_buses.buses_of buses;
           keys = [];
+          first_entry = 0;
           history = [];
+          first_said = 0;
           said = [];
         } }
     {
@@ -155,24 +163,83 @@ impl<A: Allocator + Copy> Internetwork<A> {
         self.nodes.as_slice()
     }
 
-    /// Returns all that was put out on networks of BACnet/IP, in order: an item has its place in it as its number.
-    pub fn items(&self) -> &[Item<A>]
-        ensures { result.now ≡ self.now.items }
+    /// Returns how many items were put out on networks of BACnet/IP: each has its place among them as its number.
+    pub fn item_count(&self) -> usize
+        ensures { result ≡ length self.now.items }
     {
-        self.log.items.as_slice()
+        self.log.items.len()
     }
 
-    /// Returns what was issued, executed, answered and ended, in order.
+    /// Returns the number of the first item that is kept.
+    pub fn first_item(&self) -> usize
+        ensures { result ≡ self.now.first_item }
+    {
+        self.log.items.first()
+    }
+
+    /// Returns those items that are kept, in order: all from that number on.
+    pub fn items(&self) -> &[Item<A>]
+        ensures kept { result.now ≡ drop self.now.first_item self.now.items }
+        ensures all { self.now.first_item ≡ 0 → result.now ≡ self.now.items }
+    {
+        self.log.items.kept()
+    }
+
+    /// Returns the number of the next item from this one on, and before another, that was not yet delivered and may
+    /// still be heard.
+    pub fn next_waiting(&self, from: usize, before: usize) -> Option<usize>
+        ensures { IfSome result (λ number. Waits self.now.moment from before self.now.items number) }
+    {
+        self.log.items.next_waiting(from, before, self.moment)
+    }
+
+    /// Returns how many entries were handed out.
+    pub fn first_entry(&self) -> usize
+        ensures { result ≡ self.now.first_entry }
+    {
+        self.log.first_entry
+    }
+
+    /// Returns what was issued, executed, answered and ended, in order, and wasn't handed out.
     pub fn history(&self) -> &[WorldEntry<A>]
         ensures { result.now ≡ self.now.history }
     {
         self.log.history.as_slice()
     }
 
-    /// Returns what is inside each message that was said, in order.
+    /// Returns how many messages that were said are forgotten.
+    pub fn first_said(&self) -> usize
+        ensures { result ≡ self.now.first_said }
+    {
+        self.log.first_said
+    }
+
+    /// Returns what is inside each message that was said, in order, and isn't forgotten.
     pub fn said(&self) -> &[SaidMessage<A>]
         ensures { all_said result.now ≡ self.now.said }
     {
         self.log.said.as_slice()
+    }
+
+    /// Hands out all entries of the history that weren't handed out yet, behind others.
+    ///
+    /// # Errors
+    /// Want of memory. All is then as it was.
+    pub fn hand_out(&mut self, told: &mut Vec<WorldEntry<A>, A>) -> Result<(), AllocError>
+        ensures told { OnOk result (told.new.items ≡ told.old.items ++ self.old.history) }
+        ensures handed { OnOk result (self.new ≡ handed_out self.old) }
+        ensures nothing { OnErr result (told.new.items ≡ told.old.items) }
+        ensures unchanged { OnErr result (self.new ≡ self.old) }
+    {
+        self.log.hand_out(told)
+    }
+
+    /// Forgets what can no longer matter: items that are too old to be heard, issues that a later one of their client
+    /// under their invoke ID replaced, and what was said. Whatever world this is kept of, what is left is kept of it.
+    pub fn forget(&mut self)
+        ensures { Forgets self.old self.new }
+    {
+        let now = self.moment;
+        self.log.forget(now);
     }
 }

@@ -215,7 +215,7 @@ impl<A: Allocator + Copy> Internetwork<A> {
         requires { number < length self.old.items }
         ensures { spec.IsMarked number self.old self.new }
     {
-        self.log.items[number as usize].is_delivered = true;
+        self.log.items.mark(number);
     }
 
     /// The foreign node at a place registers at its manager (J.5.2).

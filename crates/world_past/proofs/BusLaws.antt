@@ -14,13 +14,10 @@ use Rattle.buses.specs.Finding.{has_net}
 use Rattle.buses.specs.Hearing.{anew_at, anew_of, anew_on, ears_anew, heard_at}
 use Rattle.buses.specs.Puts.{BusesState, counted, put_at, put_on, put_one, sending_of}
 use Rattle.traffic.specs.declared.frame.FramePut.{FramePut}
-use Rattle.world_past.proofs.EachLaws.{each_if, each_map, each_on, each_same, each_set}
+use Rattle.world_past.proofs.EachLaws.{each_if, each_map, each_on, each_set}
 use Rattle.world_past.proofs.ItemLaws.{still_old}
 use Rattle.world_past.proofs.StampLaws.{known_more, stamp_later, stamp_on}
-use Rattle.world_past.specs.Old.{KeepsBus, KeepsBuses, KeepsEach}
-
-pub bus_same : {A : Type 0} (now : ℕ) (b : BusState A) → KeepsBus now b b
-bus_same now b = record { net = refl; ears = refl; known = λ octets. inl refl; recent = refl }
+use Rattle.world.specs.Old.{KeepsBus, KeepsBuses, KeepsEach}
 
 pub bus_on : {A : Type 0} (now : ℕ) (a b c : BusState A) → KeepsBus now a b → KeepsBus now b c → KeepsBus now a c
 bus_on now a b c p q = record {
@@ -145,9 +142,6 @@ bus_renewed {A} now net address b c p false e =
     (sym (ap (λ (t : Bool). if t then anew_on now address b else b) e))
     (subst (λ (d : BusState A). KeepsBus now b d)
     (sym (ap (λ (t : Bool). if t then anew_on now address c else c) e2)) p)
-
-pub buses_same : {A : Type 0} (now : ℕ) (b : BusesState A) → KeepsBuses now b b
-buses_same now b = record { each = each_same (KeepsBus now) (bus_same now) b.buses; frames = refl }
 
 pub buses_on : {A : Type 0} (now : ℕ) (a b c : BusesState A) → KeepsBuses now a b → KeepsBuses now b c →
     KeepsBuses now a c

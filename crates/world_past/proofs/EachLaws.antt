@@ -1,14 +1,10 @@
 -- Lists of which each is kept, in order.
 use Rattle.std.proofs.Common.{◌≡◌, refl, ap, subst, ℕ, zero, suc, List, [], ◌∷◌, ◌++◌, length, map, Some, None}
 use Rattle.std.specs.Prelude.{slice_get, slice_set}
-use Rattle.world_past.specs.Old.{KeepsEach}
+use Rattle.world.specs.Old.{KeepsEach}
 
 some_same : {X : Type 0} (x y : X) → Some x ≡ Some y → x ≡ y
 some_same x y e = cc
-
-pub each_same : {X : Type 0} (R : X → X → Type 0) → ((x : X) → R x x) → (xs : List X) → KeepsEach R xs xs
-each_same R same [] = tt
-each_same R same (x ∷ xs) = (same x, each_same R same xs)
 
 pub each_on : {X : Type 0} (R S T : X → X → Type 0) → ((x y z : X) → R x y → S y z → T x z) → (xs ys zs : List X) →
     KeepsEach R xs ys → KeepsEach S ys zs → KeepsEach T xs zs

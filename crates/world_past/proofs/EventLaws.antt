@@ -18,8 +18,8 @@ use Rattle.world_past.proofs.BusLaws.{buses_anew, buses_later}
 use Rattle.world_past.proofs.ItemLaws.{items_later, items_set, young_there}
 use Rattle.world_past.proofs.KeepingLaws.{acts_keep, over}
 use Rattle.world_past.proofs.KeyLaws.{keys_more}
-use Rattle.world_past.specs.Keeping.{Keeps}
-use Rattle.world_past.specs.Old.{KeepsBuses}
+use Rattle.world.specs.Keeping.{Keeps}
+use Rattle.world.specs.Old.{KeepsBuses}
 
 deaf_keeps : {A : Type 0} (now net : ℕ) (mac : Mac) (b c : BusesState A) → KeepsBuses now b c →
     KeepsBuses now (deafened_at now net mac b) (deafened_at now net mac c)

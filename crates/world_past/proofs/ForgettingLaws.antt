@@ -17,7 +17,7 @@ use Rattle.world_past.proofs.BusLaws.{young_twice}
 use Rattle.world_past.proofs.KeysKept.{keys_less}
 use Rattle.world_past.proofs.StampLaws.{known_first, learned_other}
 use Rattle.world_past.specs.Forgetting.{AreKnownOnce, IsBlank, KeepsLeast, KnownOnceStill, bus_kept, item_kept}
-use Rattle.world_past.specs.Old.{KeepsBus, KeepsEach, KeepsItem, KeepsItems, KeepsStamp}
+use Rattle.world.specs.Old.{KeepsBus, KeepsEach, KeepsItem, KeepsItems, KeepsStamp}
 
 -- a frame is known once still
 pub known_once : {A : Type 0} → KnownOnceStill A

@@ -25,8 +25,8 @@ use Rattle.world_past.proofs.EachLaws.{each_get}
 use Rattle.world_past.proofs.KeepingLaws as keeping
 use Rattle.world_past.proofs.KeepingLaws.{acts_keep, over_is}
 use Rattle.world_past.proofs.StampLaws.{RefusesToo, judges_not, judges_on}
-use Rattle.world_past.specs.Keeping.{Keeps}
-use Rattle.world_past.specs.Old.{KeepsBus, KeepsEach}
+use Rattle.world.specs.Keeping.{Keeps}
+use Rattle.world.specs.Old.{KeepsBus, KeepsEach}
 
 -- octets end so in the whole where they end so in what is kept
 abbrev pub EndsAs : (kept whole : Ending) → Type 0

@@ -8,8 +8,9 @@ use Rattle.traffic.specs.Seeking.{is_young}
 use Rattle.traffic.specs.declared.item.Item.{Item}
 use Rattle.world.specs.node_laws.Out.{IsMac}
 use Rattle.world.specs.world_log.Growing.{AreFromMacs}
-use Rattle.world_past.proofs.EachLaws.{each_get, each_if, each_more, each_on, each_same, each_set}
-use Rattle.world_past.specs.Old.{AreTooOld, KeepsItem, KeepsItems}
+use Rattle.world.proofs.PastLaws.{each_same}
+use Rattle.world_past.proofs.EachLaws.{each_get, each_if, each_more, each_on, each_set}
+use Rattle.world.specs.Old.{AreTooOld, KeepsItem, KeepsItems}
 
 pub true_false : (b : Bool) → b ≡ true → b ≡ false → ⊥
 true_false b t f = cc

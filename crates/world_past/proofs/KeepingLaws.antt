@@ -10,12 +10,13 @@ use Rattle.world.specs.site_node.Node.{NodeState, home_of, node_places}
 use Rattle.world.specs.site_node.Steps.{NodeTold}
 use Rattle.world.specs.site_ports.Ports.{Then}
 use Rattle.world.specs.world_log.Growing.{WorldHistory, frames_at, items_at, told_in}
-use Rattle.world_past.proofs.BusLaws.{buses_on, buses_put, buses_same}
+use Rattle.world.proofs.PastLaws.{buses_same}
+use Rattle.world_past.proofs.BusLaws.{buses_on, buses_put}
 use Rattle.world_past.proofs.EachLaws.{each_length}
 use Rattle.world_past.proofs.ItemLaws.{items_more, items_on, items_same}
 use Rattle.world_past.proofs.KeyLaws.{keys_on, keys_same, tells_behind}
-use Rattle.world_past.specs.Keeping.{Keeps}
-use Rattle.world_past.specs.Old.{KeepsBuses, KeepsItem, KeepsItems}
+use Rattle.world.specs.Keeping.{Keeps}
+use Rattle.world.specs.Old.{KeepsBuses, KeepsItem, KeepsItems}
 
 -- a world keeps itself
 pub keeps_all : {A : Type 0} (w : WorldState A) → Keeps [] w w
@@ -50,7 +51,16 @@ keeps_on {A} past u v k p q = record {
 
 -- what is kept, in the words of the whole
 abbrev pub over : {A : Type 0} → (w k : WorldState A) → WorldState A
-over w k = record w { items = k.items; buses = k.buses; keys = k.keys; history = k.history; said = k.said }
+over w k = record w {
+  first_item = k.first_item;
+  items = k.items;
+  buses = k.buses;
+  keys = k.keys;
+  first_entry = k.first_entry;
+  history = k.history;
+  first_said = k.first_said;
+  said = k.said;
+}
 
 pub over_is : {A : Type 0} (past : WorldHistory A) (w k : WorldState A) → Keeps past w k → k ≡ over w k
 over_is {A} past w k p =

@@ -16,7 +16,7 @@ use Rattle.world.specs.world_log.Growing.{WorldHistory, told_in}
 use Rattle.world.specs.world_log.carry_said.client_tsm.declared.plan.TransactionOutcome.{TransactionOutcome}
 use Rattle.world.specs.world_log.carry_said.headline_site.headline.Happenings as core
 use Rattle.world.specs.world_log.carry_said.server_answers.Executed as told
-use Rattle.world_past.specs.Keeping.{KeepsKeys}
+use Rattle.world.specs.world_log.Issues.{KeepsKeys}
 
 abbrev pub under : Station → ℕ → Key → Bool
 under client id k = same_station k.client client && (k.invoke_id == id)

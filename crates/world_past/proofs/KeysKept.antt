@@ -10,7 +10,7 @@ use Rattle.world.specs.carry_world.PlainWorld.{Key, last_key, last_key_from}
 use Rattle.world_past.proofs.ItemLaws.{true_false}
 use Rattle.world_past.proofs.KeyLaws.{under}
 use Rattle.world_past.specs.Forgetting.{is_last, keys_from, keys_kept, newest_of}
-use Rattle.world_past.specs.Keeping.{KeepsKeys}
+use Rattle.world.specs.world_log.Issues.{KeepsKeys}
 
 either_way : (b : Bool) → (b ≡ true) ⊎ (b ≡ false)
 either_way true = inl refl

@@ -13,7 +13,7 @@ use Rattle.world_past.proofs.KeepingLaws.{over, over_is}
 use Rattle.world_past.proofs.NotHearing.{listener_over, none_over, octets_over}
 use Rattle.world_past.proofs.RefusingLaws.{heard_over, item_over}
 use Rattle.world_past.proofs.SteppingLaws.{name_over}
-use Rattle.world_past.specs.Keeping.{Keeps}
+use Rattle.world.specs.Keeping.{Keeps}
 use Rattle.world_past.specs.Refusing.{HappeningIsRefusedInAll, IsForgottenFrame, IsRefusedInAll, RefusesIt}
 
 of_over : {A : Type 0} (w k : WorldState A) (place : ℕ) (Is : NodeState A → Type 0) → Of place (over w k) Is →

@@ -17,8 +17,8 @@ use Rattle.world.specs.world_sites.Finding.{IsNobodyAt, IsNodeAt, is_there, plac
 use Rattle.world_past.proofs.EachLaws.{each_back, each_get}
 use Rattle.world_past.proofs.ItemLaws.{young_there}
 use Rattle.world_past.proofs.KeepingLaws.{over}
-use Rattle.world_past.specs.Keeping.{Keeps}
-use Rattle.world_past.specs.Old.{KeepsItem}
+use Rattle.world.specs.Keeping.{Keeps}
+use Rattle.world.specs.Old.{KeepsItem}
 use Rattle.world_past.specs.Refusing.{RefusesIt}
 
 some_same : {X : Type 0} (x y : X) → Some x ≡ Some y → x ≡ y

@@ -3,10 +3,11 @@ use Rattle.std.proofs.Common.{◌∙◌, inl, inr, refl, sym, subst, List, [], �
 use Rattle.world.specs.World.{WorldState}
 use Rattle.world.specs.site_node.Node.{NodeState}
 use Rattle.world.specs.world_log.Growing.{WorldHistory}
+use Rattle.world_past.proofs.KeepingLaws.{keeps_on}
 use Rattle.world_past.proofs.RefusedLaws.{keeps_refused}
 use Rattle.world_past.proofs.SteppingLaws.{keeps_steps}
-use Rattle.world_past.specs.Keeping.{Keeps}
-use Rattle.world_past.specs.Running.{ComesInAll, HandsOut, IsLegalAt, LegalInAll, RunsAreLegal, RunsInAll}
+use Rattle.world.specs.Keeping.{Keeps}
+use Rattle.world_past.specs.Running.{ComesInAll, ForgetsInAll, HandsOut, IsLegalAt, LegalInAll, RunsAreLegal, RunsInAll}
 
 pub keeps_comes : {A : Type 0} → ComesInAll A
 keeps_comes e past w k l p (inl s) = let a = keeps_steps e past w k l p s in
@@ -52,3 +53,6 @@ keeps_handed past w k p = record {
   gone = p.gone;
   said = p.said;
 }
+
+pub keeps_forgotten : {A : Type 0} → ForgetsInAll A
+keeps_forgotten past w k l p f = keeps_on past w k l p f.keeps

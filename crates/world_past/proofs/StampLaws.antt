@@ -13,7 +13,7 @@ use Rattle.profile.specs.Times.{LIFE_MS}
 use Rattle.tags.specs.declared.fault.Fault.{Fault}
 use Rattle.tags.specs.declared.fault.Fault.TheVariants.{Expired, Forged}
 use Rattle.world_past.proofs.ItemLaws.{still_old}
-use Rattle.world_past.specs.Old.{IsOld, IsOldOrUnknown, KeepsKnown, KeepsStamp}
+use Rattle.world.specs.Old.{IsOld, IsOldOrUnknown, KeepsKnown, KeepsStamp}
 
 -- old is old or unknown
 weaker : (now : ℕ) (o : Option ℕ) → IsOld now o → IsOldOrUnknown now o

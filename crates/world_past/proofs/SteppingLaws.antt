@@ -12,7 +12,7 @@ use Rattle.world_past.proofs.EventLaws.{ask_over, deliver_over, issue_over, regi
 use Rattle.world_past.proofs.HearLaws.{hear_over}
 use Rattle.world_past.proofs.ItemLaws.{all_from}
 use Rattle.world_past.proofs.KeepingLaws.{over, over_is}
-use Rattle.world_past.specs.Keeping.{Keeps}
+use Rattle.world.specs.Keeping.{Keeps}
 use Rattle.world_past.specs.Laws.{HappensToAll, StandsInAll, StepsInAll}
 
 happens_over : {A : Type 0} (h : Happening A) (past : WorldHistory A) (w k l : WorldState A) → Keeps past w k →

@@ -7,7 +7,7 @@ use Rattle.world.specs.World.{WorldState}
 use Rattle.world.specs.site_ports.Ports.{Then}
 use Rattle.world.specs.world_log.Growing.{WorldHistory}
 use Rattle.world_past.proofs.KeepingLaws.{acts_keep, over, over_is}
-use Rattle.world_past.specs.Keeping.{Keeps}
+use Rattle.world.specs.Keeping.{Keeps}
 use Rattle.world_past.specs.Strays.{StrayIsRefusedInAll, StraysInAll}
 
 stray_over : {A : Type 0} (i : Item A) (past : WorldHistory A) (w k l : WorldState A) → Keeps past w k →

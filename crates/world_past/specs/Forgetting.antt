@@ -11,7 +11,7 @@ use Rattle.world.specs.World.{WorldState}
 use Rattle.world.specs.carry_world.PlainWorld.{Key, last_key}
 use Rattle.world.specs.node_laws.Out.{IsMac}
 use Rattle.world.specs.world_log.Growing.{AreFromMacs}
-use Rattle.world_past.specs.Keeping.{Keeps}
+use Rattle.world.specs.Keeping.{Keeps}
 
 -- an item may stand in the place of one that is too old: it is too old itself, and from a link address (6.1)
 pub record IsBlank {A : Type 0} (now : ℕ) (blank : Item A) : Type 0 where

@@ -7,7 +7,7 @@ use Rattle.world.specs.site_events.declared.event.Event.{Event}
 use Rattle.world.specs.declared.happening.Happening.{Happening}
 use Rattle.world.specs.site_ports.Ports.{Then}
 use Rattle.world.specs.world_log.Growing.{WorldHistory}
-use Rattle.world_past.specs.Keeping.{Keeps}
+use Rattle.world.specs.Keeping.{Keeps}
 
 -- a world keeps itself, where nothing was handed out
 abbrev pub KeepsAll : Type 0 → Type 0

@@ -1,5 +1,3 @@
-pub mod Old
-pub mod Keeping
 pub mod Laws
 pub mod Refusing
 pub mod Running

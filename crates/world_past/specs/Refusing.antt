@@ -11,7 +11,7 @@ use Rattle.world.specs.site_events.declared.event.Event.TheVariants as event
 use Rattle.world.specs.declared.happening.Happening.{Happening}
 use Rattle.world.specs.declared.happening.Happening.TheVariants as happening
 use Rattle.world.specs.world_log.Growing.{WorldHistory}
-use Rattle.world_past.specs.Keeping.{Keeps}
+use Rattle.world.specs.Keeping.{Keeps}
 
 -- the item of this number is too old to be heard
 pub record HasOldItem {A : Type 0} (number : ℕ) (w : WorldState A) : Type 0 where

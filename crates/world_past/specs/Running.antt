@@ -1,6 +1,6 @@
 -- Whole lists of events, and what the history of the whole says of the entries that were handed out and those that are
 -- kept.
-use Rattle.std.specs.Prelude.{◌++◌, ℕ, List, [], map}
+use Rattle.std.specs.Prelude.{◌++◌, ℕ, List, map}
 use Rattle.world.specs.Refusals.{Comes, Runs}
 use Rattle.world.specs.World.{WorldState}
 use Rattle.world.specs.carry_world.Laws.{IsLegal, judged_at}
@@ -9,7 +9,7 @@ use Rattle.world.specs.site_ports.Ports.{Then}
 use Rattle.world.specs.world_log.Growing.{WorldHistory}
 use Rattle.world.specs.world_sites.Nodes.{devices_of}
 use Rattle.world.specs.headline_bacnet.Refined.{ObjectSite}
-use Rattle.world_past.specs.Keeping.{Keeps}
+use Rattle.world.specs.Keeping.{Forgets, Keeps, handed_out}
 
 -- what comes of an event in what is kept, be it accepted or refused, comes of it in the whole
 abbrev pub ComesInAll : Type 0 → Type 0
@@ -37,10 +37,11 @@ RunsAreLegal A = (s : ObjectSite A) (instances : List ℕ) (es : List (Event A))
     ((v : WorldState A) → Runs es w v → IsLegalAt s instances v.history v) →
     IsLegalAt s instances (past ++ l.history) l
 
--- all entries that are kept are handed out: the whole stays as it is
-abbrev pub handed_out : {A : Type 0} → WorldState A → WorldState A
-handed_out k = record k { history = [] }
-
+-- where all entries that are kept are handed out the whole stays as it is
 abbrev pub HandsOut : Type 0 → Type 0
 HandsOut A = (past : WorldHistory A) (w k : WorldState A) → Keeps past w k →
     Keeps (past ++ k.history) w (handed_out k)
+
+-- where what is kept forgets, what is left is kept of the whole
+abbrev pub ForgetsInAll : Type 0 → Type 0
+ForgetsInAll A = (past : WorldHistory A) (w k l : WorldState A) → Keeps past w k → Forgets k l → Keeps past w l

@@ -5,7 +5,7 @@ use Rattle.world.specs.Straying.{StrayIsRefused, Strays}
 use Rattle.world.specs.World.{WorldState}
 use Rattle.world.specs.site_ports.Ports.{Then}
 use Rattle.world.specs.world_log.Growing.{WorldHistory}
-use Rattle.world_past.specs.Keeping.{Keeps}
+use Rattle.world.specs.Keeping.{Keeps}
 
 -- what it leaves of what is kept is kept of what it leaves of the whole (J.2)
 abbrev pub StraysInAll : Type 0 → Type 0

@@ -3,10 +3,9 @@
 //! An item or a frame that is too old to be heard (the profile's LIFE_MS) may be forgotten, as may all issues but the
 //! last of each client under each invoke ID (ANSI/ASHRAE 135, clause 5.4.1), what was said, and what was handed out of
 //! the history. To the layers above it promises: whatever is kept so, each event that happens to it happens to the
-//! whole, and each that is refused is refused there. It has no code. Each function is a law: its contract. In `specs/`:
+//! whole, and each that is refused is refused there. What a world keeps where it forgets is so, and so is what it has
+//! left where it hands its history out. It has no code. Each function is a law: its contract. In `specs/`:
 //!
-//! - `Old`: what is kept of items and of buses;
-//! - `Keeping`: what is kept of a world;
 //! - `Laws`: what is said of the whole by what is kept;
 //! - `Refusing`: why the whole refuses what is refused of what is kept;
 //! - `Running`: what comes of whole lists of events, and what is legal;
@@ -17,7 +16,7 @@
 ghost use Rattle.world_past.specs.Forgetting.{KeepsLeast, KnownOnceStill};
 ghost use Rattle.world_past.specs.Laws.{HappensToAll, KeepsAll, KeepsOn, StandsInAll, StepsInAll};
 ghost use Rattle.world_past.specs.Refusing.{HappeningIsRefusedInAll, IsRefusedInAll};
-ghost use Rattle.world_past.specs.Running.{ComesInAll, HandsOut, LegalInAll, RunsAreLegal, RunsInAll};
+ghost use Rattle.world_past.specs.Running.{ComesInAll, ForgetsInAll, HandsOut, LegalInAll, RunsAreLegal, RunsInAll};
 ghost use Rattle.world_past.specs.Strays.{StrayIsRefusedInAll, StraysInAll};
 
 use std::alloc::Allocator;
@@ -27,7 +26,7 @@ pub fn keeps_all<A: Allocator>()
     ensures { KeepsAll A }
 {}
 
-/// What is kept of what is kept is kept of the whole.
+/// What is kept of what is kept is kept of the whole: so is what a world has left where it forgets.
 pub fn keeps_on<A: Allocator>()
     ensures { KeepsOn A }
 {}
@@ -89,7 +88,12 @@ pub fn keeps_least<A: Allocator>()
     ensures once { KnownOnceStill A }
 {}
 
-/// Where all entries that are kept are handed out, the rest is kept.
+/// Where all entries that are kept are handed out, the rest is kept, behind them.
 pub fn keeps_handed<A: Allocator>()
     ensures { HandsOut A }
+{}
+
+/// Where what is kept forgets, what is left is kept of the whole, as so many entries were handed out.
+pub fn keeps_forgotten<A: Allocator>()
+    ensures { ForgetsInAll A }
 {}

@@ -7,7 +7,7 @@ use Rattle.buses.specs.Puts.{BusesState}
 use Rattle.profile.specs.Ages.{is_heard_in_time}
 use Rattle.traffic.specs.Seeking.{is_young}
 use Rattle.traffic.specs.declared.item.Item.{Item}
-use Rattle.world.specs.node_laws.Out.{IsMac}
+use Rattle.world_log.specs.node_laws.Out.{IsMac}
 
 -- of each of these one is kept, in order, so
 abbrev pub KeepsEach : {X : Type 0} → (Keeps : X → X → Type 0) → (all kept : List X) → Type 0
