@@ -34,7 +34,8 @@ impl<A: Allocator + Copy> Model for Runner<A> {
 
     ghost view = { λ r. record { world = r.world; is_open = r.is_open; strayed = r.strayed; is_led = r.is_led } };
 
-    ghost invariant = { λ r. (r.is_led ≡ true → IsLed r.world) × AreKnown r.senders (senders_of r.world.items) };
+    ghost invariant = { λ r. (r.is_led ≡ true → IsLed r.world) × AreKnown r.senders (senders_of r.world.items)
+        × (r.world.first_item ≡ 0) };
 }
 
 impl<A: Allocator + Copy> Runner<A> {

@@ -112,6 +112,7 @@ led_new {A} p sound =
       };
       devices = devices_open p sound;
       leads = stays_so (object_site p) (plain (fresh_world p));
+      whole = record { first_item = refl; first_entry = refl; first_said = refl };
     }
 
 pub ruleset fresh_rules = (led_new)

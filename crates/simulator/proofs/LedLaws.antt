@@ -13,7 +13,7 @@ use Rattle.headline.specs.Protocol.{IsSite}
 use Rattle.simulator.proofs.JudgedLaws.{instances_are, judged_are}
 use Rattle.simulator.proofs.LeadLaws.{by_place, steps_lead}
 use Rattle.simulator.specs.Judged.{instances_of, judged_of}
-use Rattle.simulator.specs.Laws.{IsLed}
+use Rattle.simulator.specs.Laws.{IsLed, IsWhole}
 use Rattle.simulator.specs.Runs.{Happens, Runs}
 use Rattle.world.specs.site_node.Node.{NodeState}
 use Rattle.world.specs.site_node.Steps.{NodeTold}
@@ -37,29 +37,44 @@ use Rattle.world.specs.world_sites.Laws.{OpenAs}
 use Rattle.world.specs.world_sites.Nodes.{devices_of}
 use Rattle.world.specs.world_sites.Opening.{devices_in, object_site}
 
--- the site of a world is the same still, and this much time has passed
+-- as much was handed out and forgotten of two worlds
+pub record AreAsWhole {A : Type 0} (w v : WorldState A) : Type 0 where
+  pub first_item : v.first_item ≡ w.first_item
+  pub first_entry : v.first_entry ≡ w.first_entry
+  pub first_said : v.first_said ≡ w.first_said
+
+-- the site of a world is the same still, this much time has passed, and nothing was handed out or forgotten
 pub record HasPassed {A : Type 0} (n : ℕ) (w v : WorldState A) : Type 0 where
   pub site : v.site ≡ w.site
   pub moment : v.moment ≡ w.moment + n
+  pub firsts : AreAsWhole w v
 
 -- whatever a node does, no time passes
 module _ {A : Type 0} where
+  all_whole : (w v : WorldState A) → v.first_item ≡ w.first_item → v.first_entry ≡ w.first_entry →
+      v.first_said ≡ w.first_said → AreAsWhole w v
+  all_whole w v i e s = record { first_item = i; first_entry = e; first_said = s }
+
   acted : (u v : WorldState A) (place : ℕ) (n next : NodeState A) (t : NodeTold A) → Acts u v place n next t →
       HasPassed 0 u v
   acted u v place n next t acts = record {
     site = ap (λ (z : WorldState A). z.site) acts.is;
     moment = let same : v.moment ≡ u.moment = ap (λ (z : WorldState A). z.moment) acts.is in omega (arith, same);
+    firsts = all_whole u v (ap (λ (z : WorldState A). z.first_item) acts.is)
+        (ap (λ (z : WorldState A). z.first_entry) acts.is) (ap (λ (z : WorldState A). z.first_said) acts.is);
   }
 
   at_once : (u w v : WorldState A) → HasPassed 0 w u → HasPassed 0 u v → HasPassed 0 w v
   at_once u w v first then = record {
     site = then.site ∙ first.site;
     moment = let a = first.moment in let b = then.moment in omega (arith, a, b);
+    firsts = all_whole w v (then.firsts.first_item ∙ first.firsts.first_item)
+        (then.firsts.first_entry ∙ first.firsts.first_entry) (then.firsts.first_said ∙ first.firsts.first_said);
   }
 
   nothing : (w v : WorldState A) → v ≡ w → HasPassed 0 w v
   nothing w v same = subst (λ (u : WorldState A). HasPassed 0 w u) (sym same)
-      (record { site = refl; moment = omega arith })
+      (record { site = refl; moment = omega arith; firsts = all_whole w w refl refl refl })
 
   each_at_once : (l : Listener) (fs : List (HeardFrame A)) (w v : WorldState A) → TakesEach l fs w v → HasPassed 0 w v
   each_at_once l [] w v same = nothing w v same
@@ -80,20 +95,28 @@ module _ {A : Type 0} where
   happens_so (happening.Issue client instance request) w v d = record {
     site = ap (λ (z : WorldState A). z.site) d.acts.is;
     moment = let same : v.moment ≡ w.moment = ap (λ (z : WorldState A). z.moment) d.acts.is in omega (arith, same);
+    firsts = all_whole w v (ap (λ (z : WorldState A). z.first_item) d.acts.is)
+        (ap (λ (z : WorldState A). z.first_entry) d.acts.is) (ap (λ (z : WorldState A). z.first_said) d.acts.is);
   }
   happens_so (happening.WhoIs client limits) w v d = acted w v client d.n d.next d.told d.acts
   happens_so (happening.Tick n) w v d = record {
     site = ap (λ (z : WorldState A). z.site) d.is;
     moment = ap (λ (z : WorldState A). z.moment) d.is;
+    firsts = all_whole w v (ap (λ (z : WorldState A). z.first_item) d.is)
+        (ap (λ (z : WorldState A). z.first_entry) d.is) (ap (λ (z : WorldState A). z.first_said) d.is);
   }
   happens_so (happening.Wake place) w v d = acted w v place d.n d.next d.told d.acts
   happens_so (happening.Deliver number) w v d = record {
     site = ap (λ (z : WorldState A). z.site) d.acts.is;
     moment = let same : v.moment ≡ w.moment = ap (λ (z : WorldState A). z.moment) d.acts.is in omega (arith, same);
+    firsts = all_whole w v (ap (λ (z : WorldState A). z.first_item) d.acts.is)
+        (ap (λ (z : WorldState A). z.first_entry) d.acts.is) (ap (λ (z : WorldState A). z.first_said) d.acts.is);
   }
   happens_so (happening.Restart place) w v d = record {
     site = ap (λ (z : WorldState A). z.site) d.acts.is;
     moment = let same : v.moment ≡ w.moment = ap (λ (z : WorldState A). z.moment) d.acts.is in omega (arith, same);
+    firsts = all_whole w v (ap (λ (z : WorldState A). z.first_item) d.acts.is)
+        (ap (λ (z : WorldState A). z.first_entry) d.acts.is) (ap (λ (z : WorldState A). z.first_said) d.acts.is);
   }
   happens_so (happening.Hear network place octets) w v d =
       let all = d.settles.does in
@@ -103,12 +126,25 @@ module _ {A : Type 0} where
       (record {
         site = ap (λ (z : WorldState A). z.site) all.rest.is;
         moment = let same : v.moment ≡ all.middle.moment = ap (λ (z : WorldState A). z.moment) all.rest.is in omega (arith, same);
+        firsts = all_whole all.middle v (ap (λ (z : WorldState A). z.first_item) all.rest.is)
+            (ap (λ (z : WorldState A). z.first_entry) all.rest.is) (ap (λ (z : WorldState A). z.first_said) all.rest.is);
       })
   happens_so (happening.Register place) w v d = acted w v place d.n d.next d.told d.acts
 
 -- no event changes the site
 pub same_site : {A : Type 0} (e : Event A) (w v : WorldState A) → Steps e w v → v.site ≡ w.site
 same_site e w v steps = by_place (v.site ≡ w.site) w v e (λ h so happens. (happens_so h w v happens).site) steps
+
+-- .. or hands out or forgets anything
+pub as_whole : {A : Type 0} (e : Event A) (w v : WorldState A) → Steps e w v → AreAsWhole w v
+as_whole e w v steps = by_place (AreAsWhole w v) w v e (λ h so happens. (happens_so h w v happens).firsts) steps
+
+still_whole : {A : Type 0} (w v : WorldState A) → AreAsWhole w v → IsWhole w → IsWhole v
+still_whole w v same whole = record {
+  first_item = same.first_item ∙ whole.first_item;
+  first_entry = same.first_entry ∙ whole.first_entry;
+  first_said = same.first_said ∙ whole.first_said;
+}
 
 -- what an event leaves came about so
 pub led_on : {A : Type 0} (e : Event A) (w v : WorldState A) → Stands w → IsSoundEvent e → Steps e w v → IsLed w →
@@ -121,6 +157,7 @@ led_on {A} e w v stands sound steps led =
       devices = subst (λ (p : Parts A). OpenAs (devices_in p.stations) led.fresh.devices) same led.devices;
       leads = subst (λ (p : Parts A). StepsTo (object_site p) led.fresh (plain v)) same
           (steps_lead_on (object_site w.site) led.fresh (plain w) (plain v) led.leads (steps_lead e w v stands sound steps));
+      whole = still_whole w v (as_whole e w v steps) led.whole;
     }
 
 -- .. and so did what one leaves that may be refused

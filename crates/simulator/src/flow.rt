@@ -14,7 +14,6 @@ use npdu::{Mac, Station};
 use profile::MAX_TICK_MS;
 use std::alloc::{AllocError, Allocator};
 use tags::{Fault, Octets};
-use traffic::next_waiting;
 use world::{Event, Internetwork, at_address};
 
 /// What comes next in a millisecond.
@@ -101,8 +100,8 @@ fn next_tick<A: Allocator + Copy>(net: &Internetwork<A>, flow: &mut Flow) -> Opt
     if flow.left == 0 {
         return None;
     }
-    let before = net.items().len();
-    let from = match next_waiting(net.items(), flow.first_item, before, net.moment()) {
+    let before = net.item_count();
+    let from = match net.next_waiting(flow.first_item, before) {
         Some(number) => number,
         None => before,
     };
@@ -222,7 +221,7 @@ fn next_delivery<A: Allocator + Copy>(
     ensures unchanged { OnErr result (flow.new ≡ flow.old) }
 {
     let now = net.moment();
-    let item = next_waiting(net.items(), from, before, now);
+    let item = net.next_waiting(from, before);
     if let Some(next) = net.buses().next_hear(told, frames, now) {
         if is_first(&next.recent.sending, item) {
             return next_frame(net, from, before, next, frames, flow);

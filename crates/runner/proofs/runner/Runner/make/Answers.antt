@@ -5,24 +5,29 @@ use Rattle.runner.proofs.runner.Runner.make.Goals as goal
 use Rattle.runner.specs.Runner.{RunnerState}
 use Rattle.runner.specs.Turns.{HasMade}
 use Rattle.senders.specs.Senders.{AreKnown, senders_of}
-use Rattle.simulator.proofs.LedLaws.{led_on}
+use Rattle.simulator.proofs.LedLaws.{as_whole, led_on}
 use Rattle.traffic.specs.declared.item.Item.{Item}
 
 -- who sent the items before it is still known
 pub see-requires : goal.see-requires
-see-requires g c = record {
-  known = subst (λ (is : List (Item _)). AreKnown c.self.inside.senders (senders_of is)) (sym c.items.ensures)
-      (known_after c.self.inside.senders c.args.event.now c.self.inside.world c.step.new.self (c.self.invariant.1)
-      c.in-Ok.ensures.steps);
-}
+see-requires g c =
+    let whole = (as_whole c.args.event.now c.self.inside.world c.step.new.self c.in-Ok.ensures.steps).first_item
+    ∙ c.self.invariant.2 in record {
+      known = subst (λ (is : List (Item _)). AreKnown c.self.inside.senders (senders_of is)) (sym (c.items.ensures.all whole))
+          (known_after c.self.inside.senders c.args.event.now c.self.inside.world c.step.new.self (c.self.invariant.1)
+          c.in-Ok.ensures.steps);
+    }
 
 -- it came about by one event more, and whoever sent items then is known
 pub invariant_of-self : goal.invariant_of-self
-invariant_of-self g c = (
-  λ led. led_on c.args.event.now c.self.inside.world c.step.new.self c.in-Ok.ensures.stands c.requires.sound
-      c.in-Ok.ensures.steps (c.self.invariant.0 led),
-  subst (λ (is : List (Item _)). AreKnown c.see.new.self (senders_of is)) c.items.ensures c.see.ensures.known,
-)
+invariant_of-self g c =
+    let whole = (as_whole c.args.event.now c.self.inside.world c.step.new.self c.in-Ok.ensures.steps).first_item
+    ∙ c.self.invariant.2 in (
+      λ led. led_on c.args.event.now c.self.inside.world c.step.new.self c.in-Ok.ensures.stands c.requires.sound
+          c.in-Ok.ensures.steps (c.self.invariant.0 led),
+      subst (λ (is : List (Item _)). AreKnown c.see.new.self (senders_of is)) (c.items.ensures.all whole) c.see.ensures.known,
+      whole,
+    )
 
 -- its step was made, with what it brought
 pub returns-in-Ok-clause-made : goal.returns-in-Ok-clause-made

@@ -9,4 +9,5 @@ invariant_of-result g c = (
   λ led. (search rules),
   subst (λ (s : SendersState). AreKnown s (senders_of c.into_internetwork-world.result.items)) (sym c.new-senders.ensures)
       (none_seen (senders_of c.into_internetwork-world.result.items)),
+  c.into_internetwork-world.ensures.led.whole.first_item,
 )
