@@ -7,7 +7,7 @@ use std::fmt;
 use tags::Fault;
 
 /// Counts one more.
-fn raise(count: &mut u64) {
+pub(crate) fn raise(count: &mut u64) {
     *count = count.saturating_add(1);
 }
 

@@ -122,6 +122,9 @@ fn flow(world: &mut World<Global>, n: u64) -> Result<(), Fault> {
 /// Appends what there was of all at a site.
 fn push_told(name: &str, told: &Told, out: &mut String) -> Result<(), AllocError> {
     write!(out, "{name}: {}", told.counts)?;
+    if let Some(beside) = &told.beside {
+        writeln!(out, "  {beside}")?;
+    }
     match &told.broken {
         Some(broken) => push_broken(name, broken, out),
         None => Ok(()),

@@ -3,6 +3,7 @@
 use crate::counts::Counts;
 use crate::ears::Ears;
 use crate::fewest::fewest;
+use crate::forgetting::{Beside, run_beside};
 use crate::weather::{Wrong, judge_end, make};
 use simulator::{Event, World};
 use std::alloc::{AllocError, Global};
@@ -13,7 +14,7 @@ use tags::Fault;
 const EVENTS: u32 = 100;
 
 /// How often what happens: much, so that little is enough to break what can be broken.
-const CHANCES: Chances = Chances {
+pub(crate) const CHANCES: Chances = Chances {
     issue: Percent { tenths: 150 },
     lose: Percent { tenths: 150 },
     repeat: Percent { tenths: 200 },
@@ -31,15 +32,17 @@ pub(crate) struct Broken {
     pub(crate) wrong: Wrong,
 }
 
-/// The storms at a site: what there was of all, up to the first that isn't as it should be, if there is one.
+/// The storms at a site: what there was of all, up to the first that isn't as it should be, if there is one; and what
+/// came of a world that forgets, where there is none.
 #[derive(Drop)]
 pub(crate) struct Told {
     pub(crate) counts: Counts,
+    pub(crate) beside: Option<Beside>,
     pub(crate) broken: Option<Broken>,
 }
 
 /// Lets storms of the seeds from one to another go over a world that stays as it is, each over a copy, up to the
-/// first that isn't as it should be.
+/// first that isn't as it should be; and where there is none, the first one over a world that forgets.
 ///
 /// # Errors
 /// Want of memory.
@@ -53,11 +56,16 @@ pub(crate) fn run_storms(
     for seed in first..=last {
         let broken = run_storm(alloc, opened, seed, &mut counts)?;
         if broken.is_some() {
-            return Ok(Told { counts, broken });
+            return Ok(Told {
+                counts,
+                beside: None,
+                broken,
+            });
         }
     }
     Ok(Told {
         counts,
+        beside: Some(run_beside(alloc, opened, first)?),
         broken: None,
     })
 }
