@@ -32,7 +32,6 @@ impl<A: Allocator> fmt::Display for EntryLine<'_, A> {
 
     #[tactic(auto, unfolding(crate::specs::Printed::entry_text))]
     fn fmt<W: fmt::Write>(&self, f: &mut fmt::Formatter<W>) -> fmt::Result {
-        let stations = self.stations;
         let spelling = self.spelling;
         match self.entry {
             Entry::Issue {
@@ -44,7 +43,7 @@ impl<A: Allocator> fmt::Display for EntryLine<'_, A> {
             } => {
                 let client = NameAt {
                     address: *client,
-                    stations,
+                    stations: self.stations,
                 };
                 let request = Spelled {
                     spelling,
@@ -57,10 +56,9 @@ impl<A: Allocator> fmt::Display for EntryLine<'_, A> {
                 reply,
                 moment,
             } => {
-                let asked = asked_of(spelling, *number, self.history);
                 let reply = ReplyTo {
                     spelling,
-                    asked,
+                    asked: asked_of(spelling, *number, self.history),
                     reply,
                 };
                 write!(f, "{moment} executed {number} {reply}")
@@ -70,10 +68,9 @@ impl<A: Allocator> fmt::Display for EntryLine<'_, A> {
                 reply,
                 moment,
             } => {
-                let asked = asked_of(spelling, *number, self.history);
                 let reply = ReplyTo {
                     spelling,
-                    asked,
+                    asked: asked_of(spelling, *number, self.history),
                     reply,
                 };
                 write!(f, "{moment} answered {number} {reply}")
@@ -89,7 +86,7 @@ impl<A: Allocator> fmt::Display for EntryLine<'_, A> {
             Entry::Restarted { instance, moment } => {
                 let device = DeviceName {
                     instance: *instance,
-                    stations,
+                    stations: self.stations,
                 };
                 write!(f, "{moment} restarted {device}")
             }
