@@ -6,7 +6,8 @@ ghost use Rattle.bvll.specs.Datagram.{datagram_of};
 ghost use Rattle.profile.specs.Times.{MAX_MOMENT_MS};
 ghost use Rattle.bbmd_tables.specs.Tables.{has_few_peers, is_among, living, served, told, two_hops};
 ghost use Rattle.bbmd_manager.specs.State.{ManagerState, new_manager, woken};
-ghost use Rattle.bbmd_manager.specs.Manager.{IsCause, IsHeard, IsTaken, IsTooLong, back, carried_to, code_if, has_place};
+ghost use Rattle.bbmd_manager.specs.Manager.{IsCause, IsHeard, IsTaken, IsTooLong, back, carried_to, code_if};
+ghost use Rattle.bbmd_manager.specs.Manager.{has_place};
 ghost use Rattle.bbmd_manager.specs.Manager.{is_too_long, left, result_back, said, sent};
 
 use crate::saying::{Outgoing, forward, say_to};

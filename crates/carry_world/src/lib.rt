@@ -16,8 +16,10 @@
 ghost use Rattle.carry.specs.Things.{AreCarried};
 ghost use Rattle.std.specs.Prelude.{map};
 ghost use Rattle.carry_world.specs.Answers.{WholeIsExecuted};
-ghost use Rattle.carry_world.specs.Laws.{AllHearSaid, Always, DevicesStay, ExecutedIsIssued, IsLegal, OutcomesAreOfIssues};
-ghost use Rattle.carry_world.specs.Laws.{StaysSo, StepLeads, StepsLeadOn, WholeIsIssued, WokenAreOfIssues, instances_at};
+ghost use Rattle.carry_world.specs.Laws.{AllHearSaid, Always, DevicesStay, ExecutedIsIssued, IsLegal};
+ghost use Rattle.carry_world.specs.Laws.{OutcomesAreOfIssues};
+ghost use Rattle.carry_world.specs.Laws.{StaysSo, StepLeads, StepsLeadOn, WholeIsIssued, WokenAreOfIssues};
+ghost use Rattle.carry_world.specs.Laws.{instances_at};
 ghost use Rattle.carry_world.specs.Laws.{judged_at};
 
 use std::alloc::Allocator;

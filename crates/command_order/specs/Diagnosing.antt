@@ -1,7 +1,8 @@
 -- The command line of a diagnosis, and what its words ask for.
 use Rattle.std.specs.Prelude.{◌≡◌, List, codes, map, option_map, string_bytes}
 use Rattle.clap.specs.Words.{App, Row, first_of, new_app, one_of, with_rule}
-use Rattle.command_order.specs.Words.{IsFlag, file_rule, flag_rule, json_rule, option_rule, pair_rule, word_of, words_of}
+use Rattle.command_order.specs.Words.{IsFlag, file_rule, flag_rule, json_rule, option_rule, pair_rule, word_of}
+use Rattle.command_order.specs.Words.{words_of}
 use Rattle.command_order.specs.declared.diagnosing.Diagnosing.{Diagnosing}
 use Rattle.command_order.specs.declared.diagnosing.Excerpt.{Excerpt}
 
@@ -11,7 +12,8 @@ abbrev pub told : App
 told =
     with_rule (with_rule (with_rule (with_rule (with_rule
     (with_rule (with_rule (with_rule (new_app (codes "diagnose")) (file_rule (codes "capture")))
-    (option_rule (codes "timeout"))) (option_rule (codes "slow"))) (option_rule (codes "port"))) (flag_rule (codes "all")))
+    (option_rule (codes "timeout"))) (option_rule (codes "slow"))) (option_rule (codes "port")))
+    (flag_rule (codes "all")))
     (flag_rule (codes "transactions"))) (flag_rule (codes "stations"))) json_rule
 
 -- .. with the stations whose packets are asked for: [--between A B] [--instance N]

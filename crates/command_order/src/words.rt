@@ -167,7 +167,8 @@ pub(crate) fn all_words(
     matches: &ArgMatches<'_>,
     id: &str,
 ) -> Result<Vec<String>, AllocError>
-    ensures { IfOk result (λ words. map string_bytes words.items ≡ spec.words_of id.now (rows_of (found_of matches.now))) }
+    ensures { IfOk result (λ words. map string_bytes words.items
+        ≡ spec.words_of id.now (rows_of (found_of matches.now))) }
 {
     match matches.get_strs(id) {
         Some(values) => copied(alloc, values),

@@ -17,7 +17,8 @@ use Rattle.tags.specs.Tag.{PlainTag}
 use Rattle.octet_texts.specs.Says.{Says, OnlySays}
 use Rattle.console.specs.Answer.{Known}
 use Rattle.console.specs.Summary.{PrintsLine, PrintsNpduLine, rows_from}
-use Rattle.header_lines.specs.Text.{link_text, contents_text, control_text, dnet_text, snet_text, hops_text, message_text}
+use Rattle.header_lines.specs.Text.{link_text, contents_text, control_text, dnet_text, snet_text, hops_text}
+use Rattle.header_lines.specs.Text.{message_text}
 use Rattle.header_lines.specs.Text.{origin_text, type_text, flags_text, transaction_text, segment_ack_text, reason_text}
 use Rattle.header_lines.specs.Text.{service_text, tag_lines, contents_words}
 use Rattle.names.specs.Headers.{confirmed_services, unconfirmed_services}

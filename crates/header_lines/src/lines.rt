@@ -13,7 +13,8 @@ ghost use Rattle.names.specs.Tables.{row_of};
 ghost use Rattle.npdu.specs.Message.{message_type};
 ghost use Rattle.octet_texts.specs.Pairs.{pair_of};
 ghost use Rattle.header_lines.specs.Text.{pairs, dashed, behind, contents_text, control_text, dnet_text, snet_text};
-ghost use Rattle.header_lines.specs.Text.{hops_text, named, octets_text, message_text, has_flags, has_sizes, flags_text};
+ghost use Rattle.header_lines.specs.Text.{hops_text, named, octets_text, message_text, has_flags, has_sizes};
+ghost use Rattle.header_lines.specs.Text.{flags_text};
 ghost use Rattle.header_lines.specs.Text.{transaction_text, segment_ack_text, reason_text, class_word, tag_line};
 
 use crate::named::{Behind, ControlWords, FlagWords, ReachWords, SizeWords, TagWords};

@@ -40,7 +40,8 @@ use Rattle.npdu.specs.declared.mac.Target.TheVariants as target
 use Rattle.npdu.specs.declared.parcel.Parcel.{Parcel}
 use Rattle.link_bus.specs.FrameLaws.{canonical_once}
 use Rattle.link_bus.specs.Laws.{DataCarry}
-use Rattle.link_bus.specs.Port.{BusPortState, at_moment, changed, moment_of, restarted, station_of, waiting_in, with_node}
+use Rattle.link_bus.specs.Port.{BusPortState, at_moment, changed, moment_of, restarted, station_of, waiting_in}
+use Rattle.link_bus.specs.Port.{with_node}
 use Rattle.link_bus.specs.Steps.{Counts, Does, Downs, Hears, HearsFrame, HearsNone, Idles, IsOnBus, Wakes, handed_up}
 use Rattle.link_bus.specs.Steps.{is_due, is_taken, queued_if}
 

@@ -1,7 +1,8 @@
 -- The properties of objects, one row for each, in the order of the standard's tables (12.8, 12.11, 12.20, 12.37,
 -- 12.43).
 use Rattle.std.specs.Prelude.{ℕ, Bool, true, false, List, [], ◌∷◌, ◌++◌, map, codes}
-use Rattle.object_model.specs.Objects.{PlainTable, identifier, object_list, present_value, services_supported, slot_value}
+use Rattle.object_model.specs.Objects.{PlainTable, identifier, object_list, present_value, services_supported}
+use Rattle.object_model.specs.Objects.{slot_value}
 use Rattle.object_model.specs.Objects.{status_flags, text, type_of, types_supported}
 use Rattle.object_model.specs.Writing.{datatype_of}
 use Rattle.object_model.specs.declared.object.Access.{Access}

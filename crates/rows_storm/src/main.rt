@@ -3,8 +3,8 @@
 //! of `NAME.script`, it lets a storm of events go over the world for each of so many seeds; the crate `judge` then
 //! judges the history and all that was put out and heard, by plain means. It prints what there was of all; and of the
 //! first storm in which something is wrong, what that is, and few of its events that still bring it about, none of
-//! which can be left out, as lines of a script. Where nothing is wrong, one storm more goes over a world that forgets and
-//! hands its history out behind each event, beside the same that keeps all.
+//! which can be left out, as lines of a script. Where nothing is wrong, one storm more goes over a world that forgets
+//! and hands its history out behind each event, beside the same that keeps all.
 //!
 //! - `events`: those of a script, whether one may happen, and one as a line.
 //! - `counts`: what there was of all.

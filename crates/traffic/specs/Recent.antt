@@ -1,5 +1,6 @@
 -- Items by their numbers, of which those that are too old to be heard may be forgotten.
-use Rattle.std.specs.Prelude.{◌≡◌, ◌⊎◌, ℕ, false, true, List, [], ◌∷◌, ◌++◌, Some, min, replicate, slice_get, slice_set, take}
+use Rattle.std.specs.Prelude.{◌≡◌, ◌⊎◌, ℕ, false, true, List, [], ◌∷◌, ◌++◌, Some, min, replicate, slice_get}
+use Rattle.std.specs.Prelude.{slice_set, take}
 use Rattle.npdu.specs.declared.mac.Mac.TheVariants.{One}
 use Rattle.traffic.specs.Seeking.{is_young}
 use Rattle.traffic.specs.declared.item.Item.{Item}

@@ -1,5 +1,6 @@
 -- What words say: numbers, objects, properties and values, in forms that a person reads (the types of 20.2).
-use Rattle.std.specs.Prelude.{◌≡◌, ◌≢◌, slice_index, ◌<◌, ◌^◌, ◌==◌, ◌⊎◌, FitsSigned, ℕ, ℤ, List, [], length, Option, Some}
+use Rattle.std.specs.Prelude.{◌≡◌, ◌≢◌, slice_index, ◌<◌, ◌^◌, ◌==◌, ◌⊎◌, FitsSigned, ℕ, ℤ, List, [], length, Option}
+use Rattle.std.specs.Prelude.{Some}
 use Rattle.std.specs.Prelude.{None, Bool, true, false}
 use Rattle.std.specs.Prelude.{codes}
 use Rattle.std.specs.Int.{w32}

@@ -13,7 +13,8 @@ use Rattle.primitives.specs.Sound.{IsSoundRequest}
 use Rattle.primitives.specs.declared.plain_data.Request.{Request}
 use Rattle.profile.specs.Times.{MAX_MOMENT_MS, MAX_TICK_MS}
 use Rattle.world_log.specs.site_node.Node.{NodeState, home_of}
-use Rattle.world_log.specs.site_node.Steps.{NodeAsks, NodeHears, NodeIssues, NodeRegisters, NodeRestarts, NodeTold, NodeWakes}
+use Rattle.world_log.specs.site_node.Steps.{NodeAsks, NodeHears, NodeIssues, NodeRegisters, NodeRestarts, NodeTold}
+use Rattle.world_log.specs.site_node.Steps.{NodeWakes}
 use Rattle.world_log.specs.site_node.declared.part.Part.{Part}
 use Rattle.world_log.specs.site_node.declared.part.Part.TheVariants.{Device}
 use Rattle.traffic.specs.Seeking.{is_young}

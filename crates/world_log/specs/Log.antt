@@ -18,7 +18,8 @@ use Rattle.world_log.specs.declared.log.WorldLog.{WorldLog}
 use Rattle.world_log.specs.declared.saying.SaidMessage.{SaidMessage}
 
 -- items: what was put out on networks of BACnet/IP, numbered from 0 on; those before first_item may be forgotten. keys:
--- who issued, and under which invoke ID, of each issue. history, said: in order, behind so many entries that were handed
+-- who issued, and under which invoke ID, of each issue. history, said: in order, behind so many entries that were
+-- handed
 -- out and so many messages that are forgotten
 pub record LogState (A : Type 0) : Type 0 where
   pub first_item : ℕ

@@ -15,8 +15,8 @@ use std::marker::Model;
 /// The number of the last issue of each key, and none of a key for whose first issue there is room alone.
 type LastNumbers<A> = BTreeMap<Key, Option<usize>, A>;
 
-/// Who issued, and under which invoke ID, of each issue, in order. The last issue of each client under each invoke ID is
-/// found without a walk over the others, of which any may be forgotten.
+/// Who issued, and under which invoke ID, of each issue, in order. The last issue of each client under each invoke ID
+/// is found without a walk over the others, of which any may be forgotten.
 #[derive(Drop)]
 pub struct LastIssues<A: Allocator> {
     /// How many there were.

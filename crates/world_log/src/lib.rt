@@ -3,9 +3,9 @@
 //!
 //! To the layer above it promises: what is put out over a node's places becomes items and frames, each in order; of
 //! each message that is said the inside is kept, exactly; what a node executed and what came of requests becomes
-//! entries of the history, each of the last issue under its invoke ID. Items are appended first, and cut off again where
-//! the rest is refused; all else is appended where room was made. What can no longer matter it forgets when it is told
-//! to: what is left keeps its numbers, and all issues stay as many, each with the last of its key.
+//! entries of the history, each of the last issue under its invoke ID. Items are appended first, and cut off again
+//! where the rest is refused; all else is appended where room was made. What can no longer matter it forgets when it is
+//! told to: what is left keeps its numbers, and all issues stay as many, each with the last of its key.
 //!
 //! - `key`: who issued, and under which invoke ID.
 //! - `last_issues`: the last issue of each client under each invoke ID.
