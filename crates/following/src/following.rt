@@ -109,7 +109,9 @@ impl<A: Allocator + Copy> Following<A> {
                 if known.is_same(asked.service, contents)
                     && known.is_open(self.timeout, at.moment) => {
                 raise(&mut self.counts.repeats);
-                self.go_on(key, known.repeated(at))
+                let known = known.repeated(at);
+                self.commands.asked_again(key, &known)?;
+                self.go_on(key, known)
             }
             Some(known) => self.asked_again(key, known, asked, at, findings),
             None => self.begin(key, asked, None, at),

@@ -3,11 +3,14 @@
 //!
 //! To the layer above it promises that any message is taken. What is found is shown by rows, and isn't proved.
 //!
-//! - `commands`: writes that are said again after others. `value`: what they write.
+//! - `commands`: writes that are said again after others. `command`: those of one property. `value`: what they write.
+//!   `priorities`: which of a property's priorities hold a value.
 //! - `segments`: messages in segments.
 #![tactic(auto)]
 
+mod command;
 mod commands;
+mod priorities;
 mod segments;
 mod value;
 
