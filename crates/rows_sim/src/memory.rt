@@ -140,6 +140,7 @@ fn take_step<A: Allocator + Copy>(
     match step {
         Step::Happens(event) => make(given, memory, worlds, &event),
         Step::Flow(n) => flow(given, memory, worlds, n),
+        Step::Disturbs(_) => Err(Stop::Unread(Part::Asked)),
     }
 }
 

@@ -272,6 +272,7 @@ fn take_steps(alloc: Global, world: &mut World<Global>, script: &[u8]) -> Result
         match step {
             Step::Happens(event) => take(world, &event)?,
             Step::Flow(n) => flow(world, n)?,
+            Step::Disturbs(_) => return Err(Stop::Unread(Part::Asked)),
         }
     }
     Ok(())

@@ -103,6 +103,7 @@ fn take_step(world: &mut World<Global>, step: Step<Global>) -> Result<(), Fault>
             }
         }
         Step::Flow(n) => flow(world, n),
+        Step::Disturbs(_) => Err(Fault::NoSuch),
     }
 }
 

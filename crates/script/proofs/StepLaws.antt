@@ -5,6 +5,10 @@ use Rattle.primitives.specs.Sound.{IsSoundRequest}
 use Rattle.primitives.specs.declared.plain_data.Request.{Request}
 use Rattle.words.specs.NoRequests.{HasSingleValues}
 use Rattle.apdu.specs.declared.unconfirmed.Limits.{Limits}
+use Rattle.network_faults.specs.Says.{SaysFault, SaysLose, fault_word}
+use Rattle.network_faults.specs.Unsaid.{NoDelay, NoLose, NoMessage}
+use Rattle.network_faults.specs.declared.fault.NetworkFault.{NetworkFault}
+use Rattle.network_faults.specs.declared.fault.NetworkFault.TheVariants as fault
 use Rattle.script.specs.declared.step.Step.{Step}
 use Rattle.script.specs.declared.step.Step.TheVariants as step
 use Rattle.site_events.specs.declared.event.Event.TheVariants as event
@@ -155,6 +159,10 @@ data Order : Type 0 where
   register : Order
   restart : Order
   flow : Order
+  lose : Order
+  repeat : Order
+  delay : Order
+  damage : Order
 
 abbrev word_of : Order → List ℕ
 word_of issue = codes "issue"
@@ -166,6 +174,18 @@ word_of hear = codes "hear"
 word_of register = codes "register"
 word_of restart = codes "restart"
 word_of flow = codes "flow"
+word_of lose = codes "lose"
+word_of repeat = codes "repeat"
+word_of delay = codes "delay"
+word_of damage = codes "damage"
+
+abbrev order_of_fault : {A : Type 0} → NetworkFault A → Order
+order_of_fault (fault.Lose count m) = lose
+order_of_fault (fault.LoseTo station ms) = lose
+order_of_fault (fault.LoseOn network ms) = lose
+order_of_fault (fault.Repeat m) = repeat
+order_of_fault (fault.Delay m ms) = delay
+order_of_fault (fault.Damage m) = damage
 
 abbrev order : {A : Type 0} → Step A → Order
 order (step.Happens (event.Issue client instance request)) = issue
@@ -177,12 +197,14 @@ order (step.Happens (event.Hear network station octets)) = hear
 order (step.Happens (event.Register name)) = register
 order (step.Happens (event.Restart name)) = restart
 order (step.Flow n) = flow
+order (step.Disturbs f) = order_of_fault f
 
 -- such a word is known by its first character and its length
 abbrev order_by : ℕ → Order
 order_by n = if n == 1385 then issue else if n == 1399 then whois else if n == 1140 then tick else if n == 1143 then wake
     else if n == 1892 then deliver else if n == 1128 then hear else if n == 2162 then register
-    else if n == 1906 then restart else flow
+    else if n == 1906 then restart else if n == 1132 then lose else if n == 1650 then repeat
+    else if n == 1380 then delay else if n == 1636 then damage else flow
 
 abbrev known_by : List ℕ → Order
 known_by word = order_by (slice_index word 0 + 256 * length word)
@@ -197,6 +219,18 @@ known hear = refl
 known register = refl
 known restart = refl
 known flow = refl
+known lose = refl
+known repeat = refl
+known delay = refl
+known damage = refl
+
+fault_word_is : {A : Type 0} (f : NetworkFault A) → fault_word f ≡ word_of (order_of_fault f)
+fault_word_is (fault.Lose count m) = refl
+fault_word_is (fault.LoseTo station ms) = refl
+fault_word_is (fault.LoseOn network ms) = refl
+fault_word_is (fault.Repeat m) = refl
+fault_word_is (fault.Delay m ms) = refl
+fault_word_is (fault.Damage m) = refl
 
 word_is : {A : Type 0} (s : Step A) → order_of s ≡ word_of (order s)
 word_is (step.Happens (event.Issue client instance request)) = refl
@@ -208,6 +242,7 @@ word_is (step.Happens (event.Hear network station octets)) = refl
 word_is (step.Happens (event.Register name)) = refl
 word_is (step.Happens (event.Restart name)) = refl
 word_is (step.Flow n) = refl
+word_is (step.Disturbs f) = fault_word_is f
 
 -- words that say nothing which may stand behind this one
 abbrev NoRest : (A : Type 0) → List ℕ → Order → Type 0
@@ -220,6 +255,18 @@ NoRest A words hear = NoHear words
 NoRest A words register = NoName words
 NoRest A words restart = NoName words
 NoRest A words flow = NoUnsigned 64 words
+NoRest A words lose = NoLose A words
+NoRest A words repeat = NoMessage words
+NoRest A words delay = NoDelay words
+NoRest A words damage = NoMessage words
+
+no_fault : {A : Type 0} (words : List ℕ) (f : NetworkFault A) → NoRest A words (order_of_fault f) → SaysFault words f → ⊥
+no_fault words (fault.Lose count m) none s = none.none (fault.Lose count m) s
+no_fault words (fault.LoseTo station ms) none s = none.none (fault.LoseTo station ms) s
+no_fault words (fault.LoseOn network ms) none s = none.none (fault.LoseOn network ms) s
+no_fault words (fault.Repeat m) none s = none.none m s
+no_fault words (fault.Delay m ms) none s = none.none m ms s
+no_fault words (fault.Damage m) none s = none.none m s
 
 unsaid : {A : Type 0} (words : List ℕ) (s : Step A) → NoRest A words (order s) → SaysRest words s → ⊥
 unsaid words (step.Happens (event.Issue client instance request)) none s = none.none client instance request s
@@ -231,6 +278,7 @@ unsaid words (step.Happens (event.Hear network station octets)) none s = none.no
 unsaid words (step.Happens (event.Register name)) none s = none.none name s
 unsaid words (step.Happens (event.Restart name)) none s = none.none name s
 unsaid words (step.Flow n) none s = none.none n s
+unsaid words (step.Disturbs f) none s = no_fault words f none s
 
 -- where nothing that may stand behind a word does, no step is said
 no_step : (A : Type 0) (o : Order) (words : List ℕ) → before space words ≡ word_of o →
@@ -278,6 +326,37 @@ pub no_flow : (A : Type 0) (words : List ℕ) → before space words ≡ codes "
     NoStep A words
 no_flow A words e none = no_step A flow words e none
 
+pub no_lose : (A : Type 0) (words : List ℕ) → before space words ≡ codes "lose" → NoLose A (behind space words) →
+    NoStep A words
+no_lose A words e none = no_step A lose words e none
+
+pub no_repeat : (A : Type 0) (words : List ℕ) → before space words ≡ codes "repeat" → NoMessage (behind space words) →
+    NoStep A words
+no_repeat A words e none = no_step A repeat words e none
+
+pub no_delay : (A : Type 0) (words : List ℕ) → before space words ≡ codes "delay" → NoDelay (behind space words) →
+    NoStep A words
+no_delay A words e none = no_step A delay words e none
+
+pub no_damage : (A : Type 0) (words : List ℕ) → before space words ≡ codes "damage" → NoMessage (behind space words) →
+    NoStep A words
+no_damage A words e none = no_step A damage words e none
+
+loses_in : {A : Type 0} (words : List ℕ) (f : NetworkFault A) → SaysLose words f →
+    (fault_word f ≡ codes "lose") × SaysFault words f
+loses_in words (fault.Lose count m) s = (refl, s)
+loses_in words (fault.LoseTo station ms) s = (refl, s)
+loses_in words (fault.LoseOn network ms) s = (refl, s)
+loses_in words (fault.Repeat m) s = absurd s
+loses_in words (fault.Delay m ms) s = absurd s
+loses_in words (fault.Damage m) s = absurd s
+
+-- words that say what is lost say that step
+pub loses : {A : Type 0} (words : List ℕ) (f : NetworkFault A) → Has space words → before space words ≡ codes "lose" →
+    SaysLose (behind space words) f → SaysStep words (step.Disturbs f)
+loses words f parted e s =
+    let l = loses_in (behind space words) f s in (record { parted = parted; kind_is = e ∙ sym (l.0) }, l.1)
+
 pub unfit_issue : (A : Type 0) (words : List ℕ) → Has space words → before space words ≡ codes "issue" → SaysUnfitIssue A (behind space words) → SaysUnfitStep A words
 unfit_issue A words parted e h = record {
   step = step.Happens (event.Issue h.client h.instance h.request);
@@ -299,6 +378,10 @@ pub record IsNoOrder (word : List ℕ) : Type 0 where
   pub not_register : word ≢ codes "register"
   pub not_restart : word ≢ codes "restart"
   pub not_flow : word ≢ codes "flow"
+  pub not_lose : word ≢ codes "lose"
+  pub not_repeat : word ≢ codes "repeat"
+  pub not_delay : word ≢ codes "delay"
+  pub not_damage : word ≢ codes "damage"
 
 not_ordered : (word : List ℕ) (o : Order) → IsNoOrder word → word ≡ word_of o → ⊥
 not_ordered word issue other e = other.not_issue e
@@ -310,10 +393,14 @@ not_ordered word hear other e = other.not_hear e
 not_ordered word register other e = other.not_register e
 not_ordered word restart other e = other.not_restart e
 not_ordered word flow other e = other.not_flow e
+not_ordered word lose other e = other.not_lose e
+not_ordered word repeat other e = other.not_repeat e
+not_ordered word delay other e = other.not_delay e
+not_ordered word damage other e = other.not_damage e
 
 pub no_order : (A : Type 0) (words : List ℕ) → IsNoOrder (before space words) → NoStep A words
 no_order A words other = record {
   none = λ s said. not_ordered (before space words) (order s) other (said.0.kind_is ∙ word_is s);
 }
 
-pub ruleset step_laws = (step_whole, no_order, unfit_issue, no_issue, no_whois, no_tick, no_wake, no_deliver, no_hear, no_register, no_restart, no_flow)
+pub ruleset step_laws = (step_whole, no_order, unfit_issue, no_issue, no_whois, no_tick, no_wake, no_deliver, no_hear, no_register, no_restart, no_flow, no_lose, no_repeat, no_delay, no_damage, loses)

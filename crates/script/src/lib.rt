@@ -16,6 +16,7 @@ mod script;
 mod step;
 
 pub use line::step_of;
+pub use network_faults::{FaultyMessage, IssueRef, NetworkFault, RequestOrAnswer};
 pub use numbers::LineNumbers;
 pub use script::{BadScript, script_of};
 pub use site_events::Event;

@@ -9,6 +9,7 @@ ghost use Rattle.script.specs.NoSteps.{SaysUnfitIssue};
 
 use crate::step::Step;
 use apdu::Limits;
+use network_faults::{NetworkFault, parse_delay, parse_lose, parse_message};
 use primitives::Request;
 use site_events::Event;
 use site_parts::is_name;
@@ -18,7 +19,8 @@ use words::{Unread, parse_hex, parse_quoted_request, parse_u16, parse_u32, parse
 
 /// The step that a line asks for, as `issue c 10 read 5:1 85`,
 /// `issue c 10 write binary-value,1 present-value active`, `whois c`, `whois c 5 20`, `tick 1000`, `wake c`,
-/// `deliver 2`, `hear 2 r 55 FF 00 10 05`, `hear 2 r -`, `register f`, `restart d` or `flow 50`.
+/// `deliver 2`, `hear 2 r 55 FF 00 10 05`, `hear 2 r -`, `register f`, `restart d`, `flow 50`, `lose answer 3`,
+/// `repeat answer 3`, `delay answer 3 700` or `damage answer 3`.
 ///
 /// # Errors
 /// `Memory`, `Value` for a write of no value or of several, `Sound` for a request without a spelling, or what is
@@ -59,6 +61,13 @@ pub fn step_of<A: Allocator + Copy>(alloc: A, line: &str) -> Result<Step<A>, Unr
         "wake" => Event::Wake(name(alloc, words)?),
         "register" => Event::Register(name(alloc, words)?),
         "restart" => Event::Restart(name(alloc, words)?),
+        "lose" => return Ok(Step::Disturbs(parse_lose(alloc, words)?)),
+        "repeat" => return Ok(Step::Disturbs(NetworkFault::Repeat(parse_message(words)?))),
+        "delay" => {
+            let (message, ms) = parse_delay(words)?;
+            return Ok(Step::Disturbs(NetworkFault::Delay { message, ms }));
+        }
+        "damage" => return Ok(Step::Disturbs(NetworkFault::Damage(parse_message(words)?))),
         _ => return Err(Unread::Step),
     };
     Ok(Step::Happens(event))

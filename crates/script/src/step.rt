@@ -1,5 +1,6 @@
 //! What a line of a script asks for.
 
+use network_faults::NetworkFault;
 use site_events::Event;
 use std::alloc::Allocator;
 
@@ -9,6 +10,8 @@ use std::alloc::Allocator;
 pub enum Step<A: Allocator> {
     /// This event happens.
     Happens(Event<A>),
-    /// So many milliseconds pass, in which all that is put out is delivered.
+    /// So many milliseconds pass, in which all that is put out is delivered, but for what faults do to it.
     Flow(u64),
+    /// From here on this happens on the network, where a flow delivers.
+    Disturbs(NetworkFault<A>),
 }

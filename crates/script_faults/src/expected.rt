@@ -18,6 +18,12 @@ pub(crate) enum Expected {
     Flag,
     /// The number of an Enumerated, or the name of a state.
     Enumerated,
+    /// What is lost.
+    Loss,
+    /// Which message of a request.
+    Message,
+    /// The word before a time.
+    Duration,
     /// The word before a priority, or the end.
     Priority,
     /// The end of the line.
@@ -39,8 +45,9 @@ pub(crate) enum Expected {
 }
 
 /// The first words of steps.
-const ORDERS: [&str; 9] = [
-    "issue", "whois", "tick", "flow", "wake", "deliver", "hear", "register", "restart",
+const ORDERS: [&str; 13] = [
+    "issue", "whois", "tick", "flow", "wake", "deliver", "hear", "register", "restart", "lose",
+    "repeat", "delay", "damage",
 ];
 
 /// The first words of steps that a live run takes.
@@ -61,6 +68,15 @@ const FLAGS: [&str; 2] = ["true", "false"];
 /// The states of a binary value.
 const STATES: [&str; 2] = ["active", "inactive"];
 
+/// What is lost, beside how many sendings.
+const LOSSES: [&str; 4] = ["request", "answer", "to", "on"];
+
+/// The messages of a request.
+const MESSAGES: [&str; 2] = ["request", "answer"];
+
+/// The word before a time.
+const DURATION: [&str; 1] = ["for"];
+
 /// The word before a priority.
 const PRIORITY: [&str; 1] = ["at"];
 
@@ -74,6 +90,9 @@ impl Expected {
             Expected::Value => &VALUES,
             Expected::Flag => &FLAGS,
             Expected::Enumerated => &STATES,
+            Expected::Loss => &LOSSES,
+            Expected::Message => &MESSAGES,
+            Expected::Duration => &DURATION,
             Expected::Priority => &PRIORITY,
             Expected::End
             | Expected::OneValue
@@ -88,9 +107,13 @@ impl Expected {
 impl fmt::Display for Expected {
     fn fmt<W: fmt::Write>(&self, f: &mut fmt::Formatter<W>) -> fmt::Result {
         match self {
-            Expected::Order | Expected::LiveOrder | Expected::Service | Expected::Flag => {
-                write!(f, "{}", Choice(self.words()))
-            }
+            Expected::Order
+            | Expected::LiveOrder
+            | Expected::Service
+            | Expected::Flag
+            | Expected::Message => write!(f, "{}", Choice(self.words())),
+            Expected::Loss => write!(f, "how many of them, {}", Choice(self.words())),
+            Expected::Duration => f.write_str("\"for\" and a number of milliseconds"),
             Expected::Value => {
                 for word in self.words() {
                     write!(f, "{word}, ")?;

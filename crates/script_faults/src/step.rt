@@ -1,5 +1,6 @@
 //! The first place where a line stops being a step.
 
+use crate::disturbance::{delay, loss, message};
 use crate::expected::Expected;
 use crate::fault::Fault;
 use crate::request::request;
@@ -30,14 +31,16 @@ const ITEM: Expected = Expected::Number {
 };
 
 /// Numbers of networks.
-const NETWORK: Expected = Expected::Number {
+pub(crate) const NETWORK: Expected = Expected::Number {
     kind: "the number of a network",
     least: 0,
     greatest: 65_535,
 };
 
 /// Names of stations.
-const STATION: Expected = Expected::Phrase("the name of a station, 1 to 32 letters and digits");
+pub(crate) const STATION: Expected = Expected::Phrase(
+    "the name of a station, 1 to 32 letters and digits",
+);
 
 /// Names of clients.
 const CLIENT: Expected = Expected::Phrase("the name of a client, 1 to 32 letters and digits");
@@ -80,13 +83,16 @@ fn step<'a>(words: &mut Words<'a>) -> Result<(), Fault<'a>> {
         "tick" | "flow" => number(words.next(MILLISECONDS)?, MILLISECONDS)?,
         "deliver" => number(words.next(ITEM)?, ITEM)?,
         "wake" | "register" | "restart" => name(words, STATION)?,
+        "lose" => loss(words)?,
+        "repeat" | "damage" => message(words)?,
+        "delay" => delay(words)?,
         _ => return Err(order.fault(Expected::Order)),
     }
     words.finish()
 }
 
 /// The first fault of the name of a station.
-fn name<'a>(words: &mut Words<'a>, expected: Expected) -> Result<(), Fault<'a>> {
+pub(crate) fn name<'a>(words: &mut Words<'a>, expected: Expected) -> Result<(), Fault<'a>> {
     let word = words.next(expected)?;
     if !is_name(word.octets) {
         return Err(word.fault(expected));

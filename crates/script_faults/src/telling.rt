@@ -92,6 +92,7 @@ fn are_live<A: Allocator>(steps: &[Step<A>]) -> bool {
 fn is_live<A: Allocator>(step: &Step<A>) -> bool {
     match step {
         Step::Happens(Event::Wake(_) | Event::Deliver(_) | Event::Hear { .. }) => false,
+        Step::Disturbs(_) => false,
         Step::Happens(
             Event::Issue { .. }
             | Event::WhoIs { .. }

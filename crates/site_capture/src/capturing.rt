@@ -125,7 +125,7 @@ impl<A: Allocator + Copy> Watcher<A> for Capturing<A> {
         Ok(())
     }
 
-    fn refuse(&mut self, _world: &World<A>, _fault: Fault) -> Result<(), Fault> {
+    fn refuse(&mut self, _world: &World<A>, _n: u64, _fault: Fault) -> Result<(), Fault> {
         Ok(())
     }
 

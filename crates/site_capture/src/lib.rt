@@ -19,4 +19,4 @@ mod putting;
 pub use capturing::capture;
 pub use living::LiveCapture;
 pub use site_live::{Ending, Settings, Stop, run_over_udp, run_over_udp_observed, say_stop};
-pub use site_steps::{Spelling, Telling, simulate, simulate_told, simulate_traced};
+pub use site_steps::{Spelling, Telling, plain_steps, simulate, simulate_told, simulate_traced};

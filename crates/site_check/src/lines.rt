@@ -4,7 +4,7 @@ ghost use Rattle.std.specs.Prelude.{IfOk};
 ghost use Rattle.site_check.specs.Judged.{AreStepsIfAny};
 
 use crate::told::{Told, tell};
-use script::{BadScript, Event, Step, script_of};
+use script::{BadScript, Event, NetworkFault, Step, script_of};
 use site_parts::Parts;
 use std::alloc::Allocator;
 use std::io;
@@ -69,9 +69,37 @@ fn tell_step<A: Allocator, W: Write>(
     parts: &Parts<A>,
     out: &mut W,
 ) -> io::Result<()> {
-    let Step::Happens(event) = step else {
-        return Ok(());
-    };
+    match step {
+        Step::Happens(event) => tell_event(number, event, parts, out),
+        Step::Flow(_) => Ok(()),
+        Step::Disturbs(fault) => tell_fault(number, fault, parts, out),
+    }
+}
+
+/// Tells what a fault of the network names that parts lack.
+fn tell_fault<A: Allocator, W: Write>(
+    number: usize,
+    fault: &NetworkFault<A>,
+    parts: &Parts<A>,
+    out: &mut W,
+) -> io::Result<()> {
+    match fault {
+        NetworkFault::LoseTo { station, .. } => tell_name(number, station.as_slice(), parts, out),
+        NetworkFault::LoseOn { network, .. } => tell_network(number, *network, parts, out),
+        NetworkFault::Lose { .. }
+        | NetworkFault::Repeat(_)
+        | NetworkFault::Delay { .. }
+        | NetworkFault::Damage(_) => Ok(()),
+    }
+}
+
+/// Tells what an event names that parts lack.
+fn tell_event<A: Allocator, W: Write>(
+    number: usize,
+    event: &Event<A>,
+    parts: &Parts<A>,
+    out: &mut W,
+) -> io::Result<()> {
     let name = match event {
         Event::Issue { client, .. } | Event::WhoIs { client, .. } => client,
         Event::Wake(name) | Event::Register(name) | Event::Restart(name) => name,

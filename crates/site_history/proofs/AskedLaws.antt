@@ -1,6 +1,6 @@
 -- What was issued last is looked at first.
 use Rattle.std.proofs.Common.{arith, ◌≡◌, ◌≤◌, ◌∙◌, ◌+◌, ◌-◌, ap, sym, refl, ℕ, List, [], ◌∷◌, ◌++◌, Option, None, Some, get_or, length, take}
-use Rattle.simulator.specs.world_log.Growing.{WorldHistory}
+use Rattle.faulty_flow.specs.simulator.world_log.Growing.{WorldHistory}
 use Rattle.history.specs.declared.Entry.{Entry}
 use Rattle.npdu.specs.declared.mac.Station as npdu
 use Rattle.primitives.specs.declared.plain_data.Reply.{Reply}

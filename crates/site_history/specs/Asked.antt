@@ -2,8 +2,8 @@
 use Rattle.std.specs.Prelude.{ℕ, List, [], ◌∷◌, ◌++◌, Option, None, Some, codes, flat_map}
 use Rattle.std.specs.Fmt.{decimal}
 use Rattle.apdu.specs.declared.unconfirmed.Limits.{Limits}
-use Rattle.simulator.specs.world.site_events.declared.event.Event.{Event}
-use Rattle.simulator.specs.world.site_events.declared.event.Event.TheVariants as event
+use Rattle.faulty_flow.specs.simulator.world.site_events.declared.event.Event.{Event}
+use Rattle.faulty_flow.specs.simulator.world.site_events.declared.event.Event.TheVariants as event
 use Rattle.site_history.specs.Printed.{line, refused_text}
 use Rattle.site_trace.specs.Lines.{spaced}
 use Rattle.tags.specs.declared.fault.Fault.{Fault}

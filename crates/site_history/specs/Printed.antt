@@ -6,7 +6,7 @@ use Rattle.history.specs.declared.End.TheVariants as why
 use Rattle.history.specs.declared.Entry.{Entry}
 use Rattle.history.specs.declared.Entry.TheVariants as entry
 use Rattle.npdu.specs.declared.mac.Station as npdu
-use Rattle.simulator.specs.world_log.Growing.{WorldHistory}
+use Rattle.faulty_flow.specs.simulator.world_log.Growing.{WorldHistory}
 use Rattle.primitives.specs.declared.plain_data.Reply.{Reply}
 use Rattle.primitives.specs.declared.plain_data.Request.{Request}
 use Rattle.site_parts.specs.declared.parts.Station.{Station}

@@ -3,8 +3,8 @@
 ghost use Rattle.std.specs.Prelude.{◌≡◌};
 ghost use Rattle.site_history.specs.Counting as spec;
 
+use faulty_flow::WorldEntry;
 use history::Entry;
-use simulator::WorldEntry;
 use std::alloc::Allocator;
 
 /// The kinds of entries that are counted.

@@ -5,7 +5,7 @@ ghost use Rattle.std.specs.Fmt.{WritesOnOk};
 ghost use Rattle.site_history.specs.Asked.{asked_in_line, cause_text, event_text, line_text, missing_text, who_is_text};
 
 use apdu::Limits;
-use simulator::Event;
+use faulty_flow::Event;
 use std::alloc::{AllocError, Allocator};
 use std::fmt;
 use std::marker::Model;

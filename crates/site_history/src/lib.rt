@@ -19,9 +19,9 @@ mod stop;
 pub use console::say_failed;
 pub use counting::{Counts, counted};
 pub use event_line::{AskedFor, EventLine};
+pub use faulty_flow::{Event, FaultsInForce, FaultyFlow, Flow, World, WorldEntry};
 pub use lines::{
     print_entries, print_refusal, print_refused_asked, print_refused_event, print_refused_time,
 };
 pub use printed::{EndLine, EntryLine, RefusedLine};
-pub use simulator::{Event, Flow, World, WorldEntry};
 pub use stop::{Stop, say_stop};

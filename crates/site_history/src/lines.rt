@@ -7,7 +7,7 @@ ghost use Rattle.site_history.specs.Printed.{entries_text, entry_text, line, ref
 
 use crate::event_line::{AskedFor, EventLine, ScriptLine, cause, missing};
 use crate::printed::{EntryLine, RefusedLine};
-use simulator::{Event, WorldEntry};
+use faulty_flow::{Event, WorldEntry};
 use site_parts::Station;
 use std::alloc::Allocator;
 use std::io;

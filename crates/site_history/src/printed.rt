@@ -5,9 +5,9 @@ ghost use Rattle.site_history.specs.Printed as spec;
 ghost use Rattle.site_history.specs.Printed.{end_text, entry_text, refused_text, why_text};
 
 use crate::counting::Counts;
+use faulty_flow::WorldEntry;
 use history::{End, Entry};
 use primitives::Request;
-use simulator::WorldEntry;
 use site_trace::{DeviceName, NameAt};
 use std::alloc::Allocator;
 use std::fmt;

@@ -38,7 +38,7 @@ impl<A: Allocator + Copy> Watcher<A> for Drawing<'_, A> {
         self.gathering.make(world, event)
     }
 
-    fn refuse(&mut self, world: &World<A>, fault: Fault) -> Result<(), Fault> {
+    fn refuse(&mut self, world: &World<A>, _n: u64, fault: Fault) -> Result<(), Fault> {
         self.gathering.put_refusal(world, None, fault)?;
         Ok(())
     }

@@ -8,7 +8,7 @@ use Rattle.script.specs.Lines.{SaysSteps}
 use Rattle.script.specs.declared.step.Step.{Step}
 use Rattle.script.specs.declared.step.Step.TheVariants as step
 
--- a step as a live run takes it: the events that it makes of itself, a script can't ask for
+-- a step as a live run takes it: the events that it makes of itself, and faults of the network, a script can't ask for
 abbrev pub IsLive : {A : Type 0} → Step A → Step A → Type 0
 IsLive (step.Happens (event.Issue client instance request)) s = s ≡ step.Happens (event.Issue client instance request)
 IsLive (step.Happens (event.WhoIs client limits)) s = s ≡ step.Happens (event.WhoIs client limits)
@@ -19,6 +19,7 @@ IsLive (step.Flow n) s = s ≡ step.Flow n
 IsLive (step.Happens (event.Wake station)) s = ⊥
 IsLive (step.Happens (event.Deliver number)) s = ⊥
 IsLive (step.Happens (event.Hear network station octets)) s = ⊥
+IsLive (step.Disturbs f) s = ⊥
 
 -- so is each of these steps, in their order
 abbrev pub AreLive : {A : Type 0} → List (Step A) → List (Step A) → Type 0
@@ -58,6 +59,7 @@ refused_at n = if nat_lt n 1 || nat_lt MAX_TICK_MS n then step.Flow n ∷ [] els
 abbrev pub asked_at : {A : Type 0} → Step A → List (Step A)
 asked_at (step.Happens e) = asked_by e
 asked_at (step.Flow n) = refused_at n
+asked_at (step.Disturbs f) = []
 
 -- those among steps, in their order
 abbrev pub asked_of : {A : Type 0} → List (Step A) → List (Step A)

@@ -428,6 +428,7 @@ impl<W: Wire + Drop, T: Timer + Drop, S: Observer<A> + Drop, A: Allocator + Copy
                 }
                 self.let_pass(n, spelling, out)
             }
+            Step::Disturbs(_) => Ok(()),
         }
     }
 }

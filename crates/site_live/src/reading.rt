@@ -86,12 +86,13 @@ fn cut_line(text: &[u8]) -> (&[u8], Option<&[u8]>)
 fn fault_of<A: Allocator + Copy>(alloc: A, line: &[u8], number: usize) -> Option<BadScript> {
     match script_of(alloc, line) {
         Ok(said) => match said.as_slice() {
-            [Step::Happens(Event::Wake(_) | Event::Deliver(_) | Event::Hear { .. })] => {
-                Some(BadScript::Line {
-                    number,
-                    unread: Unread::Step,
-                })
-            }
+            [
+                Step::Happens(Event::Wake(_) | Event::Deliver(_) | Event::Hear { .. })
+                | Step::Disturbs(_),
+            ] => Some(BadScript::Line {
+                number,
+                unread: Unread::Step,
+            }),
             _ => None,
         },
         Err(BadScript::Memory) => Some(BadScript::Memory),

@@ -54,6 +54,9 @@ pub(crate) enum LineNote<'a> {
     /// A request over a bus at so many milliseconds.
     #[error("a request over MS/TP at {0} ms: the token starts to circulate after about 3000 ms")]
     NoToken(u64),
+    /// A datagram that is to be damaged.
+    #[error("on BACnet/IP datagrams come whole: damage is refused (13 NoSuch)")]
+    Whole,
     /// A step that a live run doesn't have.
     #[error("bacsite run has no step {0}")]
     NotLive(&'static str),

@@ -3,8 +3,8 @@
 use crate::note::{LineNote, tell_line};
 use crate::ways::is_over_bus;
 use apdu::Limits;
-use script::{Event, Step};
-use site_parts::{Parts, Role, Station};
+use script::{Event, FaultyMessage, IssueRef, NetworkFault, RequestOrAnswer, Step};
+use site_parts::{Link, Parts, Role, Station};
 use std::alloc::{AllocError, Allocator};
 use std::io;
 use std::io::{ErrorKind, Write};
@@ -19,6 +19,10 @@ const TOKEN_MS: u64 = 3_000;
 #[derive(Drop)]
 pub(crate) struct Reader<'p, A: Allocator> {
     parts: &'p Parts<A>,
+    /// All steps of the script.
+    steps: &'p [Step<A>],
+    /// How many of them that were read are issues.
+    issued: u64,
     /// Whether it is judged for a live run.
     is_live: bool,
     /// How many milliseconds have passed.
@@ -35,9 +39,16 @@ pub(crate) struct Reader<'p, A: Allocator> {
 
 impl<'p, A: Allocator + Copy> Reader<'p, A> {
     /// Before the first step.
-    pub(crate) fn new(alloc: A, parts: &'p Parts<A>, is_live: bool) -> Reader<'p, A> {
+    pub(crate) fn new(
+        alloc: A,
+        parts: &'p Parts<A>,
+        steps: &'p [Step<A>],
+        is_live: bool,
+    ) -> Reader<'p, A> {
         Reader {
             parts,
+            steps,
+            issued: 0,
             is_live,
             passed: 0,
             asked: Vec::new(alloc),
@@ -57,6 +68,7 @@ impl<'p, A: Allocator + Copy> Reader<'p, A> {
         let event = match step {
             Step::Happens(event) => event,
             Step::Flow(n) => return self.tell_milliseconds(number, *n, out),
+            Step::Disturbs(fault) => return self.tell_fault(number, fault, out),
         };
         match event {
             Event::Issue {
@@ -64,6 +76,7 @@ impl<'p, A: Allocator + Copy> Reader<'p, A> {
                 instance,
                 ..
             } => {
+                self.issued = self.issued.saturating_add(1);
                 self.tell_client(number, client.as_slice(), out)?;
                 self.tell_issue(number, client.as_slice(), *instance, out)
             }
@@ -77,6 +90,47 @@ impl<'p, A: Allocator + Copy> Reader<'p, A> {
             Event::Wake(_) => self.tell_offline(number, "wake", out),
             Event::Deliver(_) => self.tell_offline(number, "deliver", out),
             Event::Hear { .. } => self.tell_offline(number, "hear", out),
+        }
+    }
+
+    /// Tells a fault of the network that a live run doesn't take, or that is refused.
+    fn tell_fault<W: Write>(
+        &mut self,
+        number: usize,
+        fault: &NetworkFault<A>,
+        out: &mut W,
+    ) -> io::Result<()> {
+        match fault {
+            NetworkFault::Lose { .. } | NetworkFault::LoseTo { .. } | NetworkFault::LoseOn { .. } =>
+                self.tell_offline(number, "lose", out),
+            NetworkFault::Repeat(_) => self.tell_offline(number, "repeat", out),
+            NetworkFault::Delay { .. } => self.tell_offline(number, "delay", out),
+            NetworkFault::Damage(message) => {
+                self.tell_offline(number, "damage", out)?;
+                if self.is_datagram(*message) {
+                    return self.tell(number, LineNote::Whole, out);
+                }
+                Ok(())
+            }
+        }
+    }
+
+    /// Whether a message comes to its addressee as a datagram, where none of the issues before is refused.
+    fn is_datagram(&self, message: FaultyMessage) -> bool {
+        let place = match message.issue {
+            IssueRef::Number(number) => number,
+            IssueRef::Last => self.issued.saturating_sub(1),
+        };
+        let Some((client, instance)) = issue_at(place, self.steps) else {
+            return false;
+        };
+        let addressee = match message.which {
+            RequestOrAnswer::Request => device_of(self.parts, instance),
+            RequestOrAnswer::Answer => station_named(self.parts, client),
+        };
+        match addressee {
+            Some(station) => is_on_ip(station),
+            None => false,
         }
     }
 
@@ -226,6 +280,37 @@ fn device_of<A: Allocator>(parts: &Parts<A>, instance: u32) -> Option<&Station<A
         }
     }
     None
+}
+
+/// The client and the instance of the issue of a number among steps.
+fn issue_at<A: Allocator>(number: u64, steps: &[Step<A>]) -> Option<(&[u8], u32)> {
+    let mut before = number;
+    for step in steps {
+        if let Step::Happens(
+            Event::Issue {
+                client,
+                instance,
+                ..
+            },
+        ) = step
+        {
+            if before == 0 {
+                return Some((client.as_slice(), *instance));
+            }
+            before = before.saturating_sub(1);
+        }
+    }
+    None
+}
+
+/// Whether a station is on BACnet/IP.
+fn is_on_ip<A: Allocator>(station: &Station<A>) -> bool {
+    let is_linked = station
+        .role
+        .links()
+        .iter()
+        .any(|link| matches!(link, Link::Ip { .. }));
+    is_linked || station.role.beyond().is_some()
 }
 
 /// Whether a station is a client.

@@ -33,9 +33,10 @@ pub fn tell_notes<A: Allocator + Copy, W: Write>(
         return Ok(are_addresses_told);
     };
     match script_of(alloc, text) {
-        Ok(steps) => {
-            let mut reader = Reader::new(alloc, &parts, is_live);
-            tell_steps(text, steps.as_slice(), &mut reader, out)?;
+        Ok(said) => {
+            let steps = said.as_slice();
+            let mut reader = Reader::new(alloc, &parts, steps, is_live);
+            tell_steps(text, steps, &mut reader, out)?;
             Ok(are_addresses_told || reader.is_told)
         }
         Err(BadScript::Memory) => Err(ErrorKind::OutOfMemory.into()),

@@ -1,5 +1,5 @@
 -- What is printed, one thing after another.
-use Rattle.std.proofs.Common.{◌≡◌, refl, sym, ap, subst, arith, ℕ, ◌+◌, ◌-◌, ◌≤◌, List, [], ◌∷◌, ◌++◌, Option, Some, None, Result, Ok, Err, IfOk, OnOk, OnErr, drop, length, inl, inr, slice_get}
+use Rattle.std.proofs.Common.{◌≡◌, ◌∙◌, refl, sym, ap, subst, arith, ℕ, ◌+◌, ◌-◌, ◌≤◌, List, [], ◌∷◌, ◌++◌, Option, Some, None, Result, Ok, Err, IfOk, OnOk, OnErr, drop, length, inl, inr, slice_get}
 use Rattle.std.specs.Io.KnownBytes.{Appends}
 use Rattle.std.specs.List.{AllByRecursion}
 use Rattle.bus_traffic.specs.Bus.{BusState}
@@ -10,8 +10,8 @@ use Rattle.primitives.specs.declared.plain_data.Request.{Request}
 use Rattle.profile.specs.Times.{MAX_MOMENT_MS}
 use Rattle.script.specs.declared.step.Step.{Step}
 use Rattle.site_history.proofs.simulator.FlowLaws.{steps_pass}
-use Rattle.site_history.specs.simulator.Flows.{Gives, IsOfFlow, left_of, ticks_in, ticks_of}
-use Rattle.site_history.specs.simulator.declared.flow.Flow.{Flow}
+use Rattle.site_history.specs.faulty_flow.Flows.{FlowState, Gives}
+use Rattle.site_history.specs.simulator.Flows.{IsOfFlow, ticks_in, ticks_of}
 use Rattle.site_history.specs.simulator.world.World.{WorldState}
 use Rattle.site_history.specs.simulator.world.site_events.declared.event.Event.{Event}
 use Rattle.site_history.specs.simulator.world.site_events.declared.event.Event.TheVariants as event
@@ -121,34 +121,34 @@ module _ {A : Type 0} where
       omega (arith, one, rest)
 
   -- what is left of a flow that gave this
-  abbrev pub left_behind : Result (Option (Event A)) Fault → Flow → ℕ
-  left_behind (Ok (Some e)) f = left_of f + 1
+  abbrev pub left_behind : Result (Option (Event A)) Fault → FlowState → ℕ
+  left_behind (Ok (Some e)) f = f.rest + 1
   left_behind (Ok None) f = 0
   left_behind (Err fault) f = 0
 
   -- how many milliseconds are to go behind the events before
-  abbrev pub to_go : Result (Option (Event A)) Fault → Flow → ℕ
+  abbrev pub to_go : Result (Option (Event A)) Fault → FlowState → ℕ
   to_go (Ok (Some e)) f = f.left + ticks_of e
   to_go (Ok None) f = f.left
   to_go (Err fault) f = f.left
 
   -- an event of a flow comes next, or all of its milliseconds have passed
-  abbrev pub IsNextOf : Flow → Option (Event A) → Type 0
+  abbrev pub IsNextOf : FlowState → Option (Event A) → Type 0
   IsNextOf f (Some e) = IsOfFlow e
   IsNextOf f None = f.left ≡ 0
 
-  pub next_of_flow : (r : Result (Option (Event A)) Fault) (old new : Flow) → IfOk r (Gives old new) →
+  pub next_of_flow : (r : Result (Option (Event A)) Fault) (old new : FlowState) → IfOk r (Gives old new) →
       IfOk r (IsNextOf new)
   next_of_flow (Ok (Some e)) old new gives = gives.0
-  next_of_flow (Ok None) old new gives = subst (λ (f : Flow). f.left ≡ 0) (sym gives.1) gives.0
+  next_of_flow (Ok None) old new gives = gives.1
   next_of_flow (Err fault) old new gives = tt
 
   -- what is given is no more than was to go
-  pub same_to_go : (r : Result (Option (Event A)) Fault) (old new : Flow) → IfOk r (Gives old new) →
-      OnErr r (new ≡ old) → to_go r new ≡ old.left
+  pub same_to_go : (r : Result (Option (Event A)) Fault) (old new : FlowState) → IfOk r (Gives old new) →
+      OnErr r (new.left ≡ old.left) → to_go r new ≡ old.left
   same_to_go (Ok (Some e)) old new gives same = sym gives.1
-  same_to_go (Ok None) old new gives same = ap (λ (f : Flow). f.left) gives.1
-  same_to_go (Err fault) old new gives same = ap (λ (f : Flow). f.left) same
+  same_to_go (Ok None) old new gives same = gives.1 ∙ sym gives.0
+  same_to_go (Err fault) old new gives same = same
 
   -- events were printed of a flow of so many milliseconds, of which so many are to go: what further ones lead to, all
   -- lead to
@@ -175,7 +175,7 @@ module _ {A : Type 0} where
   }
 
   -- the event that comes next was made or refused
-  pub flow_goes_on : (t : Telling) (n : ℕ) (next after : Result (Option (Event A)) Fault) (f g : Flow) (e : Event A)
+  pub flow_goes_on : (t : Telling) (n : ℕ) (next after : Result (Option (Event A)) Fault) (f g : FlowState) (e : Event A)
       (w u v : WorldState A) (old at new : Known) → next ≡ Ok (Some e) → IfOk next (IsNextOf f) →
       to_go after g ≡ f.left → PrintsEvent t e u v at new → IsUnderWay t n (to_go next f) w u old at →
       IsUnderWay t n (to_go after g) w v old new
@@ -190,7 +190,7 @@ module _ {A : Type 0} where
       }
 
   -- no more events, and the flow is over
-  pub flow_over : (t : Telling) (n : ℕ) (next : Result (Option (Event A)) Fault) (f : Flow) (w u : WorldState A)
+  pub flow_over : (t : Telling) (n : ℕ) (next : Result (Option (Event A)) Fault) (f : FlowState) (w u : WorldState A)
       (old at : Known) → next ≡ Ok None → IfOk next (IsNextOf f) → IsUnderWay t n (to_go next f) w u old at →
       PrintsAll t n w u old at
   flow_over t n next f w u old at is over way =

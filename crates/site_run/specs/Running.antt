@@ -12,7 +12,7 @@ use Rattle.site_history.specs.simulator.world.World.{WorldState}
 use Rattle.site_history.specs.simulator.world.site_events.declared.event.Event.{Event}
 pub use Rattle.site_history.specs.Printed.{Known}
 use Rattle.site_history.specs.Asked.{refused_asked_text, refused_time_text, told_of}
-use Rattle.site_history.specs.Printed.{entries_text, line}
+use Rattle.site_history.specs.Printed.{entries_text, line, refused_text}
 use Rattle.site_run.specs.declared.running.Telling.{Telling}
 use Rattle.site_run.specs.declared.running.Told.{Told}
 use Rattle.site_run.specs.declared.running.Told.TheVariants as telling
@@ -117,10 +117,16 @@ pub record PrintsNoFlow {A : Type 0} (t : Telling) (n : ℕ) (w v : WorldState A
   pub outside : (n < 1) ⊎ (MAX_TICK_MS < n)
   pub refused : PrintsNothing t n NoSuch w v old new
 
--- a step of a script was taken
+-- a fault of the network changes nothing by itself, and nothing is printed of it but that there is no memory for it
+pub record PrintsDisturbed {A : Type 0} (w v : WorldState A) (old new : Known) : Type 0 where
+  pub same : v ≡ w
+  pub printed : (new ≡ old) ⊎ Appends old new (line (refused_text Memory w.moment))
+
+-- a step of a script was taken; which events a flow has by faults of the network, no contract says
 abbrev pub PrintsStep : {A : Type 0} → Telling → Step A → WorldState A → WorldState A → Known → Known → Type 0
 PrintsStep t (step.Happens e) w v old new = PrintsEvent t e w v old new
 PrintsStep t (step.Flow n) w v old new = PrintsFlow t n w v old new ⊎ PrintsNoFlow t n w v old new
+PrintsStep t (step.Disturbs f) w v old new = PrintsDisturbed w v old new
 
 -- so were these steps, one after another, which lines of a script ask for that have these numbers
 abbrev pub PrintsSteps : {A : Type 0} → Telling → (lines : List ℕ) → List (Step A) → WorldState A → WorldState A →

@@ -14,10 +14,10 @@ mod running;
 mod simulating;
 
 pub use running::{Telling, Told, make, take_steps};
-pub use script::{LineNumbers, Step};
+pub use script::{LineNumbers, NetworkFault, Step};
 pub use simulating::{Opened, open, print_end, simulate, simulate_told, simulate_traced};
 pub use site_history::{
-    EndLine, EntryLine, Event, EventLine, Flow, Stop, World, WorldEntry, counted, say_failed,
-    say_stop,
+    EndLine, EntryLine, Event, EventLine, FaultsInForce, FaultyFlow, Stop, World, WorldEntry,
+    counted, say_failed, say_stop,
 };
 pub use words::Spelling;

@@ -6,17 +6,21 @@ ghost use Rattle.std.specs.List.{AllByRecursion};
 ghost use Rattle.script.specs.Steps.{IsSoundStep};
 ghost use Rattle.script.specs.declared.step.Step.TheVariants as step;
 ghost use Rattle.site_history.specs.simulator.world.Step.{IsSoundEvent};
-ghost use Rattle.site_run.specs.Running.{PrintsAll, PrintsEvent, PrintsGrowth, PrintsStep, PrintsSteps, told};
+ghost use Rattle.site_run.specs.Running.{PrintsAll, PrintsDisturbed, PrintsEvent, PrintsGrowth, PrintsStep};
+ghost use Rattle.site_run.specs.Running.{PrintsSteps, told};
 ghost use Rattle.site_run.specs.Running.{trace_text};
 ghost use Rattle.site_run.specs.Running as spec;
 
-use script::{LineNumbers, Step};
-use site_history::{Event, Flow, World, print_entries, print_refused_event, print_refused_time};
+use script::{LineNumbers, NetworkFault, Step};
+use site_history::{
+    Event, FaultsInForce, FaultyFlow, World, print_entries, print_refusal, print_refused_event,
+    print_refused_time,
+};
 use site_trace::{print_frames, print_items};
-use std::alloc::Allocator;
+use std::alloc::{AllocError, Allocator};
 use std::io;
 use std::io::Write;
-use tags::Items;
+use tags::{Fault, Items};
 use words::Spelling;
 
 /// What is told of an event.
@@ -78,7 +82,6 @@ impl Telling {
 ///
 /// # Errors
 /// Those of writing.
-#[tactic(auto, using(crate::proofs::RunLaws::run_rules))]
 pub fn take_steps<A: Allocator + Copy, W: Write>(
     world: &mut World<A>,
     steps: Items<Step<A>, A>,
@@ -90,19 +93,49 @@ pub fn take_steps<A: Allocator + Copy, W: Write>(
     ensures { OnOk result
         (PrintsSteps telling lines.entry steps world.old world.new (W.contents out.old) (W.contents out.new)) }
 {
+    let steps = steps.into_vec();
+    let mut faults = FaultsInForce::new(*steps.allocator());
+    take_all(
+        world,
+        Items::from_vec(steps),
+        lines,
+        telling,
+        &mut faults,
+        out,
+    )
+}
+
+/// The same; the faults of the network that steps ask for stay in force.
+///
+/// # Errors
+/// Those of writing.
+#[tactic(auto, using(crate::proofs::RunLaws::run_rules))]
+pub(crate) fn take_all<A: Allocator + Copy, W: Write>(
+    world: &mut World<A>,
+    steps: Items<Step<A>, A>,
+    lines: LineNumbers<'_>,
+    telling: Telling,
+    faults: &mut FaultsInForce<A>,
+    out: &mut W,
+) -> io::Result<()>
+    requires sound { AllByRecursion IsSoundStep steps }
+    ensures { OnOk result
+        (PrintsSteps telling lines.entry steps world.old world.new (W.contents out.old) (W.contents out.new)) }
+{
     let mut lines = lines;
     for step in steps.into_vec() {
         let line = lines.next();
-        take_step(world, step, telling.at(line), out)?;
+        take_step(world, step, telling.at(line), faults, out)?;
     }
     Ok(())
 }
 
-/// Takes a step: an event, or a flow of them.
+/// Takes a step: an event, a flow of them, or a fault of the network, which acts in flows.
 fn take_step<A: Allocator + Copy, W: Write>(
     world: &mut World<A>,
     step: Step<A>,
     telling: Telling,
+    faults: &mut FaultsInForce<A>,
     out: &mut W,
 ) -> io::Result<()>
     requires sound { IsSoundStep step }
@@ -110,7 +143,25 @@ fn take_step<A: Allocator + Copy, W: Write>(
 {
     match step {
         Step::Happens(event) => make(world, &event, telling, out),
-        Step::Flow(n) => flow(world, n, telling, out),
+        Step::Flow(n) => flow(world, n, telling, faults, out),
+        Step::Disturbs(fault) => disturb(world, fault, telling.line, faults, out),
+    }
+}
+
+/// A fault of the network is in force from here on, unless there is no memory for it, which is printed.
+fn disturb<A: Allocator + Copy, W: Write>(
+    world: &World<A>,
+    fault: NetworkFault<A>,
+    line: Option<u64>,
+    faults: &mut FaultsInForce<A>,
+    out: &mut W,
+) -> io::Result<()>
+    ensures { OnOk result (PrintsDisturbed world.now world.now (W.contents out.old) (W.contents out.new)) }
+{
+    let moment = world.moment();
+    match faults.put(fault, line, world.history(), moment) {
+        Ok(()) => Ok(()),
+        Err(AllocError) => print_refusal(Fault::Memory, moment, out),
     }
 }
 
@@ -119,13 +170,14 @@ fn flow<A: Allocator + Copy, W: Write>(
     world: &mut World<A>,
     n: u64,
     telling: Telling,
+    faults: &mut FaultsInForce<A>,
     out: &mut W,
 ) -> io::Result<()>
     ensures { OnOk result
         (PrintsStep telling (step.Flow n) world.old world.new (W.contents out.old) (W.contents out.new)) }
 {
-    match Flow::new(n) {
-        Ok(flow) => make_all(world, n, flow, telling, out),
+    match FaultyFlow::new(n, world, faults) {
+        Ok(flow) => make_all(world, n, flow, telling, faults, out),
         Err(fault) => print_refused_time(
             telling.spelling,
             telling.line,
@@ -143,8 +195,9 @@ fn flow<A: Allocator + Copy, W: Write>(
 fn make_all<A: Allocator + Copy, W: Write>(
     world: &mut World<A>,
     n: u64,
-    flow: Flow,
+    flow: FaultyFlow<A>,
     telling: Telling,
+    faults: &mut FaultsInForce<A>,
     out: &mut W,
 ) -> io::Result<()>
     requires whole { flow.left ≡ n }
@@ -152,10 +205,10 @@ fn make_all<A: Allocator + Copy, W: Write>(
         (PrintsAll telling n world.old world.new (W.contents out.old) (W.contents out.new)) }
 {
     let mut flow = flow;
-    let mut next = world.next_of(&mut flow);
+    let mut next = flow.next_of(world, faults);
     while let Ok(Some(event)) = next {
         make(world, &event, telling, out)?;
-        next = world.next_of(&mut flow);
+        next = flow.next_of(world, faults);
     }
     match next {
         Ok(_) => Ok(()),

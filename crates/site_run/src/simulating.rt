@@ -12,9 +12,9 @@ ghost use Rattle.site_history.specs.Printed.{end_text, line};
 ghost use Rattle.site_run.specs.Running.{all_in, entries_in};
 ghost use Rattle.site_run.specs.Simulate.{IsOpened, PrintsRun, Simulates};
 
-use crate::running::{Telling, take_steps};
+use crate::running::{Telling, take_all};
 use script::{LineNumbers, Step, script_of};
-use site_history::{EndLine, Stop, World, counted, say_failed, say_stop};
+use site_history::{EndLine, FaultsInForce, Stop, World, counted, say_failed, say_stop};
 use site_text::site_of;
 use std::alloc::{Allocator, Global};
 use std::io;
@@ -74,7 +74,7 @@ pub fn simulate_told<A: Allocator + Copy, W: Write, E: Write>(
         → Simulates A telling site.now script.now (W.contents out.old) (W.contents out.new) }
 {
     match open(reading, alloc, site, script) {
-        Ok(opened) => run(opened, telling, out, err),
+        Ok(opened) => run(alloc, opened, telling, out, err),
         Err(stop) => say_stop(stop, err),
     }
 }
@@ -115,8 +115,10 @@ pub fn open<'s, A: Allocator + Copy>(
     }
 }
 
-/// Takes the steps, prints what comes of them, and answers the exit status.
+/// Takes the steps, prints what comes of them, tells which faults of the network took nothing, and answers the exit
+/// status.
 fn run<A: Allocator + Copy, W: Write, E: Write>(
+    alloc: A,
     opened: Opened<'_, A>,
     telling: Telling,
     out: &mut W,
@@ -128,8 +130,12 @@ fn run<A: Allocator + Copy, W: Write, E: Write>(
         → PrintsRun telling opened.entry.lines opened.entry.steps opened.entry.world
         (W.contents out.old) (W.contents out.new) }
 {
-    match print_run(opened, telling, out) {
-        Ok(()) => 0,
+    let mut faults = FaultsInForce::new(alloc);
+    match print_run(opened, telling, &mut faults, out) {
+        Ok(()) => {
+            let _ = faults.tell_unmet(err);
+            0
+        }
         Err(error) => say_failed(&error, err),
     }
 }
@@ -138,6 +144,7 @@ fn run<A: Allocator + Copy, W: Write, E: Write>(
 fn print_run<A: Allocator + Copy, W: Write>(
     opened: Opened<'_, A>,
     telling: Telling,
+    faults: &mut FaultsInForce<A>,
     out: &mut W,
 ) -> io::Result<()>
     requires sound { AllByRecursion IsSoundStep opened.steps }
@@ -150,7 +157,7 @@ fn print_run<A: Allocator + Copy, W: Write>(
         lines,
     } = opened;
     let mut world = world;
-    let printed = print_all(&mut world, steps, lines, telling, out);
+    let printed = print_all(&mut world, steps, lines, telling, faults, out);
     world.close();
     printed
 }
@@ -161,12 +168,13 @@ fn print_all<A: Allocator + Copy, W: Write>(
     steps: Items<Step<A>, A>,
     lines: LineNumbers<'_>,
     telling: Telling,
+    faults: &mut FaultsInForce<A>,
     out: &mut W,
 ) -> io::Result<()>
     requires sound { AllByRecursion IsSoundStep steps }
     ensures { OnOk result (PrintsRun telling lines.entry steps world.old (W.contents out.old) (W.contents out.new)) }
 {
-    take_steps(world, steps, lines, telling, out)?;
+    take_all(world, steps, lines, telling, faults, out)?;
     print_end(world, out)
 }
 

@@ -3,10 +3,13 @@
 //! To the layer above it promises that it returns, and that each event that a [`Watcher`] is to make is sound.
 //!
 //! - `watching`: the steps of a script, one after another.
+//! - `plain`: the script of all that happened, event by event.
 #![tactic(auto)]
 
+mod plain;
 mod watching;
 
+pub use plain::plain_steps;
 pub use site_run::{
     EndLine, EntryLine, Event, Spelling, Stop, Telling, World, WorldEntry, counted, open, simulate,
     simulate_told, simulate_traced,

@@ -4,7 +4,7 @@ ghost use Rattle.std.specs.List.{AllByRecursion};
 ghost use Rattle.site_run.specs.script.Steps.{IsSoundStep};
 ghost use Rattle.site_run.specs.simulator.world.Step.{IsSoundEvent};
 
-use site_run::{Event, Flow, Opened, Step, Stop, World, open};
+use site_run::{Event, FaultsInForce, FaultyFlow, Opened, Step, Stop, World, open};
 use std::alloc::{Allocator, Global};
 use tags::{Fault, Items};
 
@@ -23,11 +23,11 @@ pub trait Watcher<A: Allocator + Copy> {
     fn make(&mut self, world: &mut World<A>, event: &Event<A>) -> Result<(), Fault>
         requires sound { IsSoundEvent event.now };
 
-    /// Looks at a world in which a flow is refused: one of no milliseconds, or of over 60000.
+    /// Looks at a world in which a flow of `n` milliseconds is refused: of none, or of over 60000.
     ///
     /// # Errors
     /// Why it can't go on.
-    fn refuse(&mut self, world: &World<A>, fault: Fault) -> Result<(), Fault>;
+    fn refuse(&mut self, world: &World<A>, n: u64, fault: Fault) -> Result<(), Fault>;
 
     /// Looks at a world as it is at the end.
     ///
@@ -54,7 +54,8 @@ pub fn watch<A: Allocator + Copy, V: Watcher<A>>(
         lines: _,
     } = open(reading, alloc, site, script)?;
     let mut world = world;
-    let watched = watch_all(&mut world, steps, watcher);
+    let mut faults = FaultsInForce::new(alloc);
+    let watched = watch_all(&mut world, steps, &mut faults, watcher);
     world.close();
     match watched {
         Ok(()) => Ok(()),
@@ -66,12 +67,13 @@ pub fn watch<A: Allocator + Copy, V: Watcher<A>>(
 fn watch_all<A: Allocator + Copy, V: Watcher<A>>(
     world: &mut World<A>,
     steps: Items<Step<A>, A>,
+    faults: &mut FaultsInForce<A>,
     watcher: &mut V,
 ) -> Result<(), Fault>
     requires sound { AllByRecursion IsSoundStep steps }
 {
     watcher.begin(world)?;
-    take_steps(world, steps, watcher)?;
+    take_steps(world, steps, faults, watcher)?;
     watcher.end(world)
 }
 
@@ -79,27 +81,33 @@ fn watch_all<A: Allocator + Copy, V: Watcher<A>>(
 fn take_steps<A: Allocator + Copy, V: Watcher<A>>(
     world: &mut World<A>,
     steps: Items<Step<A>, A>,
+    faults: &mut FaultsInForce<A>,
     watcher: &mut V,
 ) -> Result<(), Fault>
     requires sound { AllByRecursion IsSoundStep steps }
 {
     for step in steps.into_vec() {
-        take_step(world, step, watcher)?;
+        take_step(world, step, faults, watcher)?;
     }
     Ok(())
 }
 
-/// Takes a step: an event, or a flow of them.
+/// Takes a step: an event, a flow of them, or a fault of the network, which acts in flows.
 fn take_step<A: Allocator + Copy, V: Watcher<A>>(
     world: &mut World<A>,
     step: Step<A>,
+    faults: &mut FaultsInForce<A>,
     watcher: &mut V,
 ) -> Result<(), Fault>
     requires sound { IsSoundStep step }
 {
     match step {
         Step::Happens(event) => watcher.make(world, &event),
-        Step::Flow(n) => flow(world, n, watcher),
+        Step::Flow(n) => flow(world, n, faults, watcher),
+        Step::Disturbs(fault) => {
+            faults.put(fault, None, world.history(), world.moment())?;
+            Ok(())
+        }
     }
 }
 
@@ -107,22 +115,24 @@ fn take_step<A: Allocator + Copy, V: Watcher<A>>(
 fn flow<A: Allocator + Copy, V: Watcher<A>>(
     world: &mut World<A>,
     n: u64,
+    faults: &mut FaultsInForce<A>,
     watcher: &mut V,
 ) -> Result<(), Fault> {
-    match Flow::new(n) {
-        Ok(flow) => make_all(world, flow, watcher),
-        Err(fault) => watcher.refuse(world, fault),
+    match FaultyFlow::new(n, world, faults) {
+        Ok(flow) => make_all(world, flow, faults, watcher),
+        Err(fault) => watcher.refuse(world, n, fault),
     }
 }
 
 /// Makes the events of a flow, one after another, up to its end.
 fn make_all<A: Allocator + Copy, V: Watcher<A>>(
     world: &mut World<A>,
-    flow: Flow,
+    flow: FaultyFlow<A>,
+    faults: &mut FaultsInForce<A>,
     watcher: &mut V,
 ) -> Result<(), Fault> {
     let mut flow = flow;
-    while let Some(event) = world.next_of(&mut flow)? {
+    while let Some(event) = flow.next_of(world, faults)? {
         watcher.make(world, &event)?;
     }
     Ok(())

@@ -5,11 +5,11 @@ use Rattle.site_run.proofs.running.make_all.Goals as goal
 pub loop-next-init : goal.loop-next-init
 loop-next-init g c = (
   c.next_of-next.ensures.sound,
-  next_of_flow c.next_of-next.result c.args.flow c.next_of-next.new.flow c.next_of-next.ensures.gives,
+  next_of_flow c.next_of-next.result c.args.flow c.next_of-next.new.self c.next_of-next.ensures.gives,
   c.next_of-next.ensures.cause,
-  flow_begins c.args.telling c.args.n (to_go c.next_of-next.result c.next_of-next.new.flow) c.args.world.now
+  flow_begins c.args.telling c.args.n (to_go c.next_of-next.result c.next_of-next.new.self) c.args.world.now
       (g.W.Write.contents c.args.out.now)
-      (same_to_go c.next_of-next.result c.args.flow c.next_of-next.new.flow c.next_of-next.ensures.gives
+      (same_to_go c.next_of-next.result c.args.flow c.next_of-next.new.self c.next_of-next.ensures.gives
       c.next_of-next.ensures.unchanged ∙ c.requires.whole),
 )
 
@@ -18,13 +18,13 @@ pub loop-next-preserved : goal.loop-next-preserved
 loop-next-preserved g c =
     let next = c.next_of-next-in-Ok-Some in (
       next.ensures.sound,
-      next_of_flow next.result c.loop-next.flow next.new.flow next.ensures.gives,
+      next_of_flow next.result c.loop-next.flow next.new.self next.ensures.gives,
       next.ensures.cause,
-      flow_goes_on c.args.telling c.args.n c.loop-next.next next.result c.loop-next.flow next.new.flow
+      flow_goes_on c.args.telling c.args.n c.loop-next.next next.result c.loop-next.flow next.new.self
           c.in-Ok-Some.event c.args.world.now c.loop-next.world c.make.new.world (g.W.Write.contents c.args.out.now)
           (g.W.Write.contents c.loop-next.out) (g.W.Write.contents c.make.new.out) (search rules)
           c.loop-next.invariant.1
-          (same_to_go next.result c.loop-next.flow next.new.flow next.ensures.gives next.ensures.unchanged)
+          (same_to_go next.result c.loop-next.flow next.new.self next.ensures.gives next.ensures.unchanged)
           c.in_ok-make.ensures c.loop-next.invariant.3,
     )
 

@@ -2,7 +2,7 @@ use Rattle.std.proofs.Common.{arith, ◌≡◌, refl, sym, subst, List, []}
 use Rattle.script.specs.declared.step.Step.{Step}
 use Rattle.site_run.specs.Running.{PrintsSteps}
 use Rattle.site_run.proofs.RunLaws.{none_left}
-use Rattle.site_run.proofs.running.take_steps.Goals as goal
+use Rattle.site_run.proofs.running.take_all.Goals as goal
 
 pub returns : goal.returns
 returns g c =

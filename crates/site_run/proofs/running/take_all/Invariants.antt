@@ -2,7 +2,7 @@ use Rattle.std.specs.List.{AllByRecursion}
 use Rattle.script.specs.Steps.{IsSoundStep}
 use Rattle.site_history.specs.simulator.world.World.{WorldState}
 use Rattle.site_run.specs.Running.{Known, PrintsSteps}
-use Rattle.site_run.proofs.running.take_steps.Given as goal
+use Rattle.site_run.proofs.running.take_all.Given as goal
 
 -- what the rest leads to, all lead to
 abbrev pub invariant-loop-step : goal.invariant-loop-step

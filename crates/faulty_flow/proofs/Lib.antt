@@ -1,0 +1,3 @@
+pub mod TurnLaws
+-- What the proofs above cite of those below.
+pub use Rattle.simulator.proofs as simulator
