@@ -61,7 +61,7 @@ pub record PrintsSimulation (reads : List ℕ → List ℕ → Type 0) (s : Simu
 abbrev pub outputs_of : Simulation → List (Option Text)
 outputs_of s =
     option_map string_bytes s.outputs.capture ∷ option_map string_bytes s.outputs.ladder
-    ∷ option_map string_bytes s.outputs.report ∷ []
+    ∷ option_map string_bytes s.outputs.report ∷ option_map string_bytes s.outputs.script ∷ []
 
 -- the status of a simulation: 2 for times and requests that are no numbers and for files that may not be written alone;
 -- with 0 no file was written that is read or written besides, and it was printed

@@ -18,7 +18,7 @@ use command_order::{Outputs, Simulation};
 use command_tools::ended;
 use console::say_refused;
 use json_lines::{JsonOut, Kind};
-use site_capture::{Stop, Telling, capture, say_stop, simulate_told};
+use site_capture::{Stop, Telling, capture, plain_steps, say_stop, simulate_told};
 use site_ladder::{Part, ladder, report};
 use std::alloc::Global;
 use std::io::Write;
@@ -150,14 +150,16 @@ fn sim_part<F: Files, W: Write, E: Write>(
 }
 
 /// The names of the files that are written, where they are named.
-fn outputs_of(outputs: &Outputs) -> [Option<&str>; 3]
+fn outputs_of(outputs: &Outputs) -> [Option<&str>; 4]
     ensures { map (λ o. option_map (λ n. n.now) o) result ≡ option_map string_bytes outputs.entry.now.capture
-        ∷ option_map string_bytes outputs.entry.now.ladder ∷ option_map string_bytes outputs.entry.now.report ∷ [] }
+        ∷ option_map string_bytes outputs.entry.now.ladder ∷ option_map string_bytes outputs.entry.now.report
+        ∷ option_map string_bytes outputs.entry.now.script ∷ [] }
 {
     [
         outputs.capture.as_deref(),
         outputs.ladder.as_deref(),
         outputs.report.as_deref(),
+        outputs.script.as_deref(),
     ]
 }
 
@@ -266,7 +268,7 @@ fn sim_texts<F: Files, W: Write, E: Write>(
     )
 }
 
-/// Writes the files that are named: a capture, a ladder and a report, and answers the exit status.
+/// Writes the files that are named: a capture, a ladder, a report and a script, and answers the exit status.
 fn write_all<F: Files, E: Write>(
     alloc: Global,
     site: &[u8],
@@ -293,10 +295,17 @@ fn write_all<F: Files, E: Write>(
             return status;
         }
     }
-    match &outputs.report {
+    if let Some(name) = &outputs.report {
+        let made = report(alloc, alloc, site, script, part);
+        let status = write_file(alloc, name, made, part.only, files, in_colour, err);
+        if status != 0 {
+            return status;
+        }
+    }
+    match &outputs.script {
         Some(name) => {
-            let made = report(alloc, alloc, site, script, part);
-            write_file(alloc, name, made, part.only, files, in_colour, err)
+            let made = plain_steps(alloc, alloc, site, script);
+            write_file(alloc, name, made, None, files, in_colour, err)
         }
         None => 0,
     }

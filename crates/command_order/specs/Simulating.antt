@@ -2,7 +2,7 @@
 use Rattle.std.specs.Prelude.{◌≡◌, List, codes, option_map, string_bytes}
 use Rattle.clap.specs.Words.{App, Row, first_of, one_of, with_rule}
 use Rattle.command_order.specs.Words.{IsFlag, at_site, capture_rule, flag_rule, json_rule, names_rule}
-use Rattle.command_order.specs.Words.{option_rule, word_of}
+use Rattle.command_order.specs.Words.{option_rule, script_file_rule, word_of}
 use Rattle.command_order.specs.declared.simulating.Outputs.{Outputs}
 use Rattle.command_order.specs.declared.simulating.Simulation.{Simulation}
 
@@ -13,10 +13,10 @@ printed = with_rule (with_rule (with_rule (at_site (codes "sim")) (flag_rule (co
 -- .. with the files that are written of the run
 abbrev pub with_files : App → App
 with_files app =
-    with_rule (with_rule (with_rule app capture_rule) (option_rule (codes "ladder")))
-    (option_rule (codes "report"))
+    with_rule (with_rule (with_rule (with_rule app capture_rule) (option_rule (codes "ladder")))
+    (option_rule (codes "report"))) script_file_rule
 
--- .. with the times between which the last two show it
+-- .. with the times between which ladder and report show it
 abbrev pub with_times : App → App
 with_times app = with_rule (with_rule app (option_rule (codes "from"))) (option_rule (codes "to"))
 
@@ -25,7 +25,7 @@ abbrev pub with_choice : App → App
 with_choice app = with_rule (with_rule app (option_rule (codes "only"))) (option_rule (codes "request"))
 
 -- the subcommand that runs a script at a site: sim SITE SCRIPT, with a trace, as JSON, by names, with files of a
--- capture, a ladder and a report, and the part of the run that the last two show
+-- capture, a ladder, a report and a script, and the part of the run that ladder and report show
 abbrev pub sim : App
 sim = with_choice (with_times (with_files printed))
 
@@ -34,6 +34,7 @@ pub record AreOutputsOf (rows : List Row) (o : Outputs) : Type 0 where
   pub capture : option_map string_bytes o.capture ≡ first_of (codes "pcap") rows
   pub ladder : option_map string_bytes o.ladder ≡ first_of (codes "ladder") rows
   pub report : option_map string_bytes o.report ≡ first_of (codes "report") rows
+  pub script : option_map string_bytes o.script ≡ first_of (codes "file") rows
   pub from : option_map string_bytes o.from ≡ first_of (codes "from") rows
   pub to : option_map string_bytes o.to ≡ first_of (codes "to") rows
   pub only : option_map string_bytes o.only ≡ first_of (codes "only") rows

@@ -1,15 +1,10 @@
 -- The command line of a storm, and what its words ask for.
-use Rattle.std.specs.Prelude.{◌≡◌, List, Some, codes, option_map, string_bytes}
-use Rattle.clap.specs.Words.{App, Rule, Row, first_of, new_rule, one_of, with_rule}
-use Rattle.clap.specs.declared.builder.ArgAction.TheVariants.{Set}
-use Rattle.command_order.specs.Words.{IsFlag, at_site, flag_rule, names_rule, option_rule, required_rule, word_of}
+use Rattle.std.specs.Prelude.{◌≡◌, List, codes, option_map, string_bytes}
+use Rattle.clap.specs.Words.{App, Row, first_of, one_of, with_rule}
+use Rattle.command_order.specs.Words.{IsFlag, at_site, flag_rule, names_rule, option_rule, required_rule}
+use Rattle.command_order.specs.Words.{script_file_rule, word_of}
 use Rattle.command_order.specs.declared.storming.Percents.{Percents}
 use Rattle.command_order.specs.declared.storming.Storming.{Storming}
-
--- a file for its script that is named or not
-abbrev pub script_file_rule : Rule
-script_file_rule =
-    record (new_rule (codes "file")) { long = Some (codes "script"); action = Some Set; value_names = 1 }
 
 -- the subcommand with the words that have to be there
 abbrev pub named : App

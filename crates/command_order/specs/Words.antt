@@ -43,6 +43,11 @@ names_rule = flag_rule (codes "names")
 abbrev pub capture_rule : Rule
 capture_rule = option_rule (codes "pcap")
 
+-- a file for a script is named or not, behind `--script`
+abbrev pub script_file_rule : Rule
+script_file_rule =
+    record (new_rule (codes "file")) { long = Some (codes "script"); action = Some Set; value_names = 1 }
+
 -- a subcommand of this name, behind which a site file and a script are named
 abbrev pub at_site : Text → App
 at_site name = with_rule (with_rule (new_app name) site_rule) (file_rule (codes "script"))

@@ -5,7 +5,7 @@ ghost use Rattle.clap.specs.Words.{app_of, found_of, rows_of};
 ghost use Rattle.command_order.specs.Simulating as spec;
 
 use crate::words::{
-    at_site, flag, is_given, json, names, option, optional_word, word, written_capture,
+    at_site, flag, is_given, json, names, option, optional_word, script_file, word, written_capture,
 };
 use clap::{ArgMatches, Command};
 use std::alloc::{AllocError, Global};
@@ -35,6 +35,8 @@ pub struct Outputs {
     pub ladder: Option<String>,
     /// The name of a file for a page of the run.
     pub report: Option<String>,
+    /// The name of a file for a script of all that happened, event by event.
+    pub script: Option<String>,
     /// The time at which picture and page begin, in milliseconds.
     pub from: Option<String>,
     /// The time at which they end, in milliseconds.
@@ -70,6 +72,7 @@ fn outputs_in(alloc: Global, matches: &ArgMatches<'_>) -> Result<Outputs, AllocE
         capture: optional_word(alloc, matches, "pcap")?,
         ladder: optional_word(alloc, matches, "ladder")?,
         report: optional_word(alloc, matches, "report")?,
+        script: optional_word(alloc, matches, "file")?,
         from: optional_word(alloc, matches, "from")?,
         to: optional_word(alloc, matches, "to")?,
         only: optional_word(alloc, matches, "only")?,
@@ -122,6 +125,10 @@ fn with_files<'a>(alloc: Global, command: Command<'a>) -> Result<Command<'a>, Al
             "report",
             "FILE",
             "Writes an HTML page: the ladder, the history, and each datagram and frame decoded",
+        ))?
+        .arg(script_file(
+            alloc,
+            "Writes what happened, an event on each line, to a file that `sim` runs",
         ))
 }
 

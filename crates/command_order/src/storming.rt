@@ -1,11 +1,13 @@
 //! What the command of a storm asks for.
 
-ghost use Rattle.std.specs.Prelude.{◌≡◌, false, IfOk};
-ghost use Rattle.clap.specs.Words.{app_of, found_of, rows_of, rule_of};
+ghost use Rattle.std.specs.Prelude.{◌≡◌, IfOk};
+ghost use Rattle.clap.specs.Words.{app_of, found_of, rows_of};
 ghost use Rattle.command_order.specs.Storming as spec;
 
-use crate::words::{at_site, flag, is_given, names, option, optional_word, required, word};
-use clap::{Arg, ArgAction, ArgMatches, Command};
+use crate::words::{
+    at_site, flag, is_given, names, option, optional_word, required, script_file, word,
+};
+use clap::{ArgMatches, Command};
 use std::alloc::{AllocError, Global};
 
 /// Which storm follows which script on which site, and what is printed of it.
@@ -75,7 +77,10 @@ pub(crate) fn storm<'a>(alloc: Global) -> Result<Command<'a>, AllocError>
 {
     let command = chances(alloc, named(alloc)?)?;
     command
-        .arg(script_file(alloc))?
+        .arg(script_file(
+            alloc,
+            "Writes the script and the random events after it to a file that `sim` runs",
+        ))?
         .arg(flag(
             alloc,
             "count",
@@ -155,16 +160,4 @@ fn chances<'a>(alloc: Global, command: Command<'a>) -> Result<Command<'a>, Alloc
             "PERCENT",
             "How often of a hundred times a device restarts where something begins [default: 1]",
         ))
-}
-
-/// The name of the file in which the script of a storm is written.
-fn script_file<'a>(alloc: Global) -> Arg<'a>
-    ensures rule { rule_of result ≡ spec.script_file_rule }
-    ensures own { result.global ≡ false }
-{
-    Arg::new(alloc, "file")
-        .long("script")
-        .value_name("FILE")
-        .action(ArgAction::Set)
-        .help("Writes the script and the random events after it to a file that `sim` runs")
 }

@@ -129,6 +129,18 @@ pub(crate) fn written_capture<'a>(alloc: Global) -> Arg<'a>
     )
 }
 
+/// The file in which a script is written, if one is named.
+pub(crate) fn script_file<'a>(alloc: Global, help: &'a str) -> Arg<'a>
+    ensures rule { rule_of result ≡ spec.script_file_rule }
+    ensures own { result.global ≡ false }
+{
+    Arg::new(alloc, "file")
+        .long("script")
+        .value_name("FILE")
+        .action(ArgAction::Set)
+        .help(help)
+}
+
 /// A word behind a flag of its name, which has to be there.
 pub(crate) fn required<'a>(alloc: Global, id: &'a str, name: &'a str, help: &'a str) -> Arg<'a>
     ensures rule { rule_of result ≡ spec.required_rule id.entry.now }
