@@ -23,5 +23,7 @@ fn main(rt: HostRuntime) -> io::Result<()> {
     run_folder::<rows_endpoint::EndpointRows>(&rt, "endpoint")?;
     run_folder::<rows_network::NetworkRows>(&rt, "network")?;
     run_folder::<rows_json::JsonRows>(&rt, "json")?;
-    run_folder::<rows_commands::Commands>(&rt, "commands")
+    run_folder::<rows_commands::Commands>(&rt, "commands")?;
+    run_folder::<rows_hostile::Hostile>(&rt, "hostile")?;
+    rows_hostile::run_texts(&rt)
 }

@@ -75,11 +75,11 @@ const EXAMPLES: [&str; 6] = [
     "restart",
 ];
 
-/// Reads the files of each example where the program runs, and prints a line for each.
+/// Reads the files of each example, and prints a line for each.
 ///
 /// # Errors
 /// Those of reading and of printing, and want of memory.
-pub(crate) fn run_files(rt: &HostRuntime) -> io::Result<()> {
+pub fn run_texts(rt: &HostRuntime) -> io::Result<()> {
     for name in EXAMPLES {
         run_named(rt, name, "script", Kind::Script)?;
         run_named(rt, name, "toml", Kind::Site)?;
@@ -89,7 +89,7 @@ pub(crate) fn run_files(rt: &HostRuntime) -> io::Result<()> {
 
 /// Reads a file of an example, and prints a line for it.
 fn run_named(rt: &HostRuntime, name: &str, end: &str, kind: Kind) -> io::Result<()> {
-    let file = format!(in rt.alloc(); "{name}.{end}")?;
+    let file = format!(in rt.alloc(); "hostile/{name}.{end}")?;
     let text = fs::read(rt, file.as_str())?;
     let said = run_file(rt.alloc(), file.as_str(), kind, text.as_slice())?;
     rt.print(said.as_str())

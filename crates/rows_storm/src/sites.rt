@@ -11,7 +11,7 @@ use tags::{Fault, Items};
 use words::parse_u64;
 
 /// The file of the storms: lines `NAME FIRST LAST`, the name of a site, and its first seed and its last.
-const STORMS: &str = "storms.list";
+const STORMS: &str = "storm/storms.list";
 
 /// The seeds of the storms at a site.
 #[derive(Clone, Copy)]
@@ -21,11 +21,11 @@ struct Seeds<'t> {
     last: u64,
 }
 
-/// Lets storms go over the sites of the file where the program runs, and prints what there was of all.
+/// Lets storms go over the sites of the file, and prints what there was of all.
 ///
 /// # Errors
 /// Those of reading and of printing, and want of memory.
-pub(crate) fn run_sites(rt: &HostRuntime) -> io::Result<()> {
+pub fn run_sites(rt: &HostRuntime) -> io::Result<()> {
     let text = fs::read_to_string(rt, STORMS)?;
     for line in text.lines() {
         match seeds_in(line) {
@@ -53,9 +53,9 @@ fn seeds_in(line: &str) -> Option<Seeds<'_>> {
 fn run_site(rt: &HostRuntime, seeds: Seeds<'_>) -> io::Result<String> {
     let alloc = rt.alloc();
     let name = seeds.name;
-    let file = format!(in alloc; "{name}.site")?;
+    let file = format!(in alloc; "storm/{name}.site")?;
     let site = fs::read(rt, file.as_str())?;
-    let file = format!(in alloc; "{name}.script")?;
+    let file = format!(in alloc; "storm/{name}.script")?;
     let script = fs::read(rt, file.as_str())?;
     let mut said = String::new(alloc);
     match storms_at(alloc, site.as_slice(), script.as_slice(), seeds) {

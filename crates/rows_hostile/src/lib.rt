@@ -1,5 +1,5 @@
-//! The program `rows_hostile`: what becomes of octets that no station says, and of texts that nobody writes.
-//! Datagrams and frames (ANSI/ASHRAE 135, clauses 6, 9, 20 and Annex J), site files and scripts are cut at each
+//! What becomes of octets that no station says, and of texts that nobody writes, in the folder `hostile`. Datagrams and
+//! frames (ANSI/ASHRAE 135, clauses 6, 9, 20 and Annex J), site files and scripts are cut at each
 //! octet, have each octet changed, or are random. Each call returns, and where it refuses or drops its input, all is
 //! as it was.
 //!
@@ -25,10 +25,10 @@ mod watched;
 
 use sheets::{Bench, Counts, Given, Part, Report, Row, Stop};
 use std::alloc::AllocError;
-use std::io;
+pub use texts::run_texts;
 
 /// What the rows of the program run on.
-struct Hostile;
+pub struct Hostile;
 
 impl Bench for Hostile {
     fn run(
@@ -51,9 +51,4 @@ fn run_row(given: Given<'_>, name: &str, row: &Row<'_>) -> Result<Counts, Stop> 
         "random.txt" => random::run(given.alloc, row),
         _ => Err(Stop::Unread(Part::Asked)),
     }
-}
-
-fn main(rt: HostRuntime) -> io::Result<()> {
-    sheets::run_files::<Hostile>(&rt)?;
-    texts::run_files(&rt)
 }
