@@ -217,6 +217,18 @@ pub(crate) fn requests(alloc: Global, text: &str) -> Result<String, Stop> {
     Ok(out)
 }
 
+/// How many requests a page shows, and whether their table is folded: `13 shown, folded`.
+pub(crate) fn listed(alloc: Global, text: &str) -> Result<String, Stop> {
+    let list = between(text, "<h2>Requests</h2>", "</summary>").unwrap_or("");
+    let (details, shown) = list.split_once("<summary>").unwrap_or(("", list));
+    let how = if details.contains(" open=") {
+        "open"
+    } else {
+        "folded"
+    };
+    Ok(format!(in alloc; "{shown}, {how}")?)
+}
+
 /// Whether each link of a page leads to a place of it.
 pub(crate) fn are_links_there(alloc: Global, text: &str) -> Result<bool, Stop> {
     let (_, links) = text.split_once(" href=\"#").unwrap_or(("", ""));

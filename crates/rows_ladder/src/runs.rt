@@ -4,14 +4,15 @@
 //!
 //! - `rows` wants the rows of the picture in words, as its titles say them, `lanes` what stands behind them, and
 //!   `remark` what is said below them of what isn't in it;
-//! - `history` and `requests` the tables of the page, `page` what it says of each message with the name of its place,
-//!   and `explain-d0` the tree of the one at this place.
+//! - `history` and `requests` the tables of the page, `listed` how many requests are shown and whether their table is
+//!   folded, `page` what it says of each message with the name of its place, and `explain-d0` the tree of the one at
+//!   this place.
 //!
 //! The elements of each picture and of each page are nested, and each link leads to a place. Each row runs again with
 //! each allocation refused in turn (behind the eighth not each): that is told as want of memory.
 
 use crate::drawn::{
-    are_links_there, explained, history, lanes, remark, requests, summaries, titles,
+    are_links_there, explained, history, lanes, listed, remark, requests, summaries, titles,
 };
 use crate::nesting::is_nested;
 use refusing::Refusing;
@@ -188,6 +189,7 @@ fn in_words(alloc: Global, kind: &str, octets: &[u8]) -> Result<String, Stop> {
         "remark" => remark(alloc, text),
         "history" => history(alloc, text),
         "requests" => requests(alloc, text),
+        "listed" => listed(alloc, text),
         "page" => summaries(alloc, text),
         _ => explained(alloc, kind.strip_prefix("explain-").unwrap_or(""), text),
     }

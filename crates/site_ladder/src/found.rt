@@ -53,6 +53,15 @@ impl<A: Allocator + Copy> Found<A> {
         }
     }
 
+    /// Returns how many requests are shown.
+    pub(crate) fn count_requests(&self) -> usize {
+        self.requests
+            .as_slice()
+            .iter()
+            .filter(|row| row.is_some())
+            .count()
+    }
+
     /// Returns the first row of a request, if it is shown.
     pub(crate) fn request(&self, number: u64) -> Option<usize> {
         place_of(self.requests.as_slice(), number)

@@ -28,8 +28,8 @@ th,td,details{border-color:#3a4047}
 }
 ";
 
-/// What the page does by itself: it fades the marks that aren't of the chosen station and request, and leaves out the
-/// lines of tables.
+/// What the page does by itself: it fades the marks that aren't of the chosen station and request, leaves out the lines
+/// of tables, and unfolds where a link leads.
 const SCRIPT: &str = "\
 const station=document.getElementById('station'),request=document.getElementById('request');
 const marks=document.querySelectorAll('.rows a,.rows .note,#requests tr[id],#history tr[class]');
@@ -39,6 +39,12 @@ marks.forEach(m=>m.classList.toggle('off',!(!s||m.classList.contains('all')||m.c
 !(!r||m.classList.contains(r))));
 }
 station.onchange=request.oninput=choose;
+function unfold(){
+const at=location.hash&&document.getElementById(location.hash.slice(1));
+for(let e=at;e;e=e.parentElement)if(e.tagName==='DETAILS')e.open=true;
+if(at)at.scrollIntoView();
+}
+onhashchange=unfold;unfold();
 ";
 
 /// Writes the page of a run with its picture.

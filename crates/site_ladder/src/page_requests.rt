@@ -8,7 +8,11 @@ use std::alloc::{AllocError, Allocator};
 use std::io;
 use std::io::Write;
 
-/// Writes the requests as a table. Each leads to its first row in the picture, and has the name `q` with its number.
+/// How many requests stand open above the picture: with more of them it would begin below the first screen.
+const FEW: usize = 12;
+
+/// Writes the requests as a table, which is folded where they are many. Each leads to its first row in the picture, and
+/// has the name `q` with its number.
 pub(crate) fn write_requests<A: Allocator + Copy, W: Write>(
     alloc: A,
     world: &World<A>,
@@ -16,7 +20,13 @@ pub(crate) fn write_requests<A: Allocator + Copy, W: Write>(
     out: &mut W,
 ) -> io::Result<()> {
     let ends = ends_of(alloc, world.history())?;
-    writeln!(out, "<h2>Requests</h2>\n<table id=\"requests\">")?;
+    let count = found.count_requests();
+    let open = if count <= FEW { " open=\"\"" } else { "" };
+    writeln!(out, "<h2>Requests</h2>")?;
+    writeln!(
+        out,
+        "<details{open}><summary>{count} shown</summary>\n<table id=\"requests\">"
+    )?;
     writeln!(
         out,
         "<tr><th>Request</th><th class=\"moment\">Time (ms)</th><th>Asked</th><th>Came to</th><th class=\"moment\">After (ms)</th></tr>"
@@ -31,7 +41,7 @@ pub(crate) fn write_requests<A: Allocator + Copy, W: Write>(
         }
         place = place.saturating_add(1);
     }
-    writeln!(out, "</table>")
+    writeln!(out, "</table>\n</details>")
 }
 
 /// The places in a history of the entries that close its requests, by their numbers.
