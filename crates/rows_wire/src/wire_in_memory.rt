@@ -183,6 +183,8 @@ impl Wire for WireInMemory {
         Ok(self.latest.is_some())
     }
 
+    fn wait(&mut self, _at_most_ms: u64) {}
+
     fn last(&self) -> Option<Got<'_>> {
         match &self.latest {
             Some(carried) => Some(Got {

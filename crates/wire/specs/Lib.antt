@@ -1,2 +1,5 @@
 pub mod Counts
 pub mod Datagrams
+pub mod Ends
+pub mod Turns
+pub mod Wires

@@ -62,6 +62,13 @@ pub trait Wire {
         ensures failed { OnErr result (faults self.new ≡ raised (faults self.old) 1) }
         ensures cause { IfErr result (λ fault. fault ≡ Fault.Wire) };
 
+    /// Lets time pass, until a datagram may be there, and at most so many milliseconds. It may return at once.
+    fn wait(&mut self, at_most_ms: u64)
+        ensures sends { sends self.new ≡ sends self.old }
+        ensures recvs { recvs self.new ≡ recvs self.old }
+        ensures faults { faults self.new ≡ faults self.old }
+        ensures latest { latest self.new ≡ latest self.old };
+
     /// What the latest `recv` brought: none where it brought nothing or failed.
     fn last(&self) -> Option<Got<'_>>
         ensures { option_map datagram_of result ≡ latest self.now };
