@@ -15,6 +15,4 @@ impl Timer for SteppingTimer {
         self.elapsed = self.elapsed.saturating_add(self.step);
         Ok(self.elapsed)
     }
-
-    fn rest(&mut self) {}
 }

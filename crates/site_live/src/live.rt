@@ -18,6 +18,9 @@ use tags::{Fault, Items, Octets};
 use wire::{Got, Wire};
 use words::Spelling;
 
+/// For how many milliseconds a run rests at most behind a round in which nothing happened.
+const MAX_REST_MS: u64 = 1;
+
 /// A site at a wire, and the clock that its time comes from. It is not dropped, but closed.
 pub struct Live<W: Wire + Drop, T: Timer + Drop, S: Observer<A> + Drop, A: Allocator + Copy> {
     alloc: A,
@@ -380,14 +383,14 @@ impl<W: Wire + Drop, T: Timer + Drop, S: Observer<A> + Drop, A: Allocator + Copy
         Ok(came || puts_out)
     }
 
-    /// A round, and a rest behind one in which nothing came and nothing was put out.
+    /// A round, and a rest behind one in which nothing came and nothing was put out, until the next datagram comes.
     #[tactic(auto, using(crate::proofs::LiveLaws::live_laws))]
     pub fn take_round<O: Write>(&mut self, spelling: Spelling, out: &mut O) -> io::Result<()>
         ensures lives { OnOk result (Lives spelling [] self.old self.new (O.contents out.old) (O.contents out.new)) }
     {
         let was_busy = self.round(spelling, out)?;
         if !was_busy {
-            self.timer.rest();
+            self.wire.wait(MAX_REST_MS);
         }
         Ok(())
     }

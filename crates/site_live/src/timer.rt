@@ -1,18 +1,15 @@
 //! What tells a live run the time.
 
-use std::time::{Clock, Duration, Instant};
-use std::{io, thread};
+use std::io;
+use std::time::{Clock, Instant};
 
-/// What tells a live run how much time has passed, and lets it rest.
+/// What tells a live run how much time has passed.
 pub trait Timer {
     /// The milliseconds that have passed since it was made.
     ///
     /// # Errors
     /// Those of the clock.
     fn elapsed(&mut self) -> io::Result<u64>;
-
-    /// Lets a millisecond pass.
-    fn rest(&mut self);
 }
 
 /// The clock of the system, from a moment on.
@@ -37,9 +34,5 @@ impl<R: Clock> Timer for SystemTimer<'_, R> {
     fn elapsed(&mut self) -> io::Result<u64> {
         let passed = self.start.elapsed(self.clock)?;
         Ok(u64::try_from(passed.as_millis()).unwrap_or(u64::MAX))
-    }
-
-    fn rest(&mut self) {
-        thread::sleep(self.clock, Duration::from_millis(1));
     }
 }
