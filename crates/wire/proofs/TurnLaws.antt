@@ -1,10 +1,10 @@
 -- Sockets in the order in which they are asked.
-use Rattle.std.proofs.Common.{◌≡◌, sym, ap, subst, ℕ, ◌+◌, ◌-◌, ◌*◌, ◌≤◌, ◌<◌, inl, inr, Bool, true, length, arith}
-use Rattle.std.specs.Prelude.{nat_le, if◌then◌else◌}
+use Rattle.std.proofs.Common.{◌≡◌, sym, ap, subst, ℕ, ◌+◌, ◌-◌, ◌*◌, ◌≤◌, ◌<◌, inl, inr, Bool, true, length, arith, zero, suc, [], ◌∷◌, refl, ◌∙◌, List}
+use Rattle.std.specs.Prelude.{Some, nat_le, slice_get, slice_set, if◌then◌else◌}
 use Rattle.std.proofs.lemmas.Bool.Decides.{eqb_tells, leb_tells}
 use Rattle.std.proofs.lemmas.List.{length-set}
 use Rattle.std.proofs.lemmas.Option.{slice_get_within}
-use Rattle.wire.specs.Turns.{AreUnmarked, IsFirstIn, IsInRange, IsNext, IsQuiet, IsReady, MAX_IN_ROW, TurnsState, ahead, brought, held, marked, passed, waits}
+use Rattle.wire.specs.Turns.{AreUnmarked, IsFirstIn, IsInRange, IsNext, IsQuiet, IsReady, MAX_IN_ROW, TurnsState, ahead, brought, held, marked, passed, waits, MayHaveMore}
 
 -- a place from the turn on is as far ahead as it is behind the turn ..
 ahead_from : (s : TurnsState) (p : ℕ) → s.turn ≤ p → ahead p s ≡ p - s.turn
@@ -153,3 +153,35 @@ at_most s p r ready = let bp = slice_get_within s.ready p true ready in elim (le
 ]
 
 pub ruleset fairness = (falls_at, falls_past, stays, at_most)
+
+-- nothing was told
+pub no_more : (s : TurnsState) → MayHaveMore s s
+no_more s = record { kept = λ p h. h; count = refl; turn = refl; in_row = refl }
+
+-- what was told before and what is told then
+pub more_and_more : (a b c : TurnsState) → MayHaveMore a b → MayHaveMore b c → MayHaveMore a c
+more_and_more a b c p q = record {
+  kept = λ o h. q.kept o (p.kept o h);
+  count = q.count ∙ p.count;
+  turn = q.turn ∙ p.turn;
+  in_row = q.in_row ∙ p.in_row;
+}
+
+-- a mark takes none away
+kept_by : (xs : List Bool) (o p : ℕ) → slice_get xs p ≡ Some true → slice_get (slice_set xs o true) p ≡ Some true
+kept_by [] o p h = h
+kept_by (x ∷ xs) zero zero h = refl
+kept_by (x ∷ xs) zero (suc p) h = h
+kept_by (x ∷ xs) (suc o) zero h = h
+kept_by (x ∷ xs) (suc o) (suc p) h = kept_by xs o p h
+
+-- one socket more is told of
+pub one_more : (a b : TurnsState) (o : ℕ) → MayHaveMore a b → MayHaveMore a (marked true o b)
+one_more a b o h = more_and_more a b (marked true o b) h (record {
+  kept = λ p r. kept_by b.ready o p r;
+  count = length-set b.ready o true;
+  turn = refl;
+  in_row = refl;
+})
+
+pub ruleset more_rules = (no_more, more_and_more, one_more)

@@ -53,6 +53,13 @@ held place count s =
 abbrev pub brought : ℕ → TurnsState → TurnsState
 brought place s = held place (if place == s.turn then s.in_row + 1 else 1) s
 
+-- the system told that sockets may have a datagram: none is taken away, and whose turn it is stays
+pub record MayHaveMore (old new : TurnsState) : Type 0 where
+  pub kept : (place : ℕ) → IsReady place old → IsReady place new
+  pub count : length new.ready ≡ length old.ready
+  pub turn : new.turn ≡ old.turn
+  pub in_row : new.in_row ≡ old.in_row
+
 -- no more datagrams than this are brought by others before the socket at a place is asked
 abbrev pub waits : ℕ → TurnsState → ℕ
 waits place s = MAX_IN_ROW * (ahead place s + 1) - s.in_row

@@ -1,8 +1,9 @@
 //! What the sockets of a wire have: who is asked, and when.
 
-ghost use Rattle.std.specs.Prelude.{◌≤◌, ◌<◌, length, IfOk};
+ghost use Rattle.std.specs.Prelude.{◌≡◌, ◌≤◌, ◌<◌, false, length, IfNone, IfOk, IfSome, OnErr};
 ghost use Rattle.std.specs.Option.{ForSome};
 ghost use Rattle.profile.specs.Limits as limit;
+ghost use Rattle.wire.specs.Turns.{IsNext, MayHaveMore, brought, marked, passed};
 ghost use Rattle.wire.specs.Wires.{KeepsCounts, KeepsLatest};
 
 use crate::socket::{Arrival, receive_from};
@@ -14,7 +15,10 @@ use std::io;
 use std::time::Duration;
 
 /// Notes which sockets may have a datagram, as the system told it.
-fn mark_all<A: Allocator>(turns: &mut Turns<A>, events: &Events<A>) {
+#[tactic(auto, using(crate::proofs::TurnLaws::more_rules))]
+fn mark_all<A: Allocator>(turns: &mut Turns<A>, events: &Events<A>)
+    ensures { MayHaveMore turns.old turns.new }
+{
     for event in events.iter() {
         let Token(number) = event.token();
         turns.mark(number);
@@ -41,6 +45,11 @@ impl<A: Allocator> UdpWire<A> {
     /// What the socket at a place has, if anything is there. One that fails again and again keeps no other waiting.
     fn receive_at(&mut self, place: usize) -> io::Result<Option<Arrival>>
         requires within { place < length self.old.turns.ready }
+        requires next { IsNext place self.old.turns }
+        ensures brought { IfOk result (λ came. IfSome came
+            (λ a. MayHaveMore (brought place self.old.turns) self.new.turns)) }
+        ensures silent { IfOk result (λ came. IfNone came (self.new.turns ≡ marked false place self.old.turns)) }
+        ensures failed { OnErr result (self.new.turns ≡ passed place self.old.turns) }
         ensures fits { IfOk result (λ came. ForSome came (λ a. a.count ≤ limit.MAX_DATAGRAM_OCTETS)) }
         ensures counts { KeepsCounts self.old self.new }
     {
@@ -66,9 +75,11 @@ impl<A: Allocator> UdpWire<A> {
 
     /// The socket at a place brought a datagram. Where another one is asked next, the system tells of those that were
     /// silent before.
+    #[tactic(auto, using(crate::proofs::TurnLaws::more_rules))]
     fn has_brought(&mut self, place: usize)
         requires within { place < length self.old.turns.ready }
         ensures kept { KeepsLatest self.old self.new }
+        ensures turn { MayHaveMore (brought place self.old.turns) self.new.turns }
     {
         self.turns.bring(place);
         if self.turns.is_another() {
@@ -77,8 +88,10 @@ impl<A: Allocator> UdpWire<A> {
     }
 
     /// Has the system tell which sockets may have a datagram, once so much time has passed at the latest.
+    #[tactic(auto, using(crate::proofs::TurnLaws::more_rules))]
     pub(crate) fn look(&mut self, at_most: Duration) -> io::Result<()>
         ensures kept { KeepsLatest self.old self.new }
+        ensures turns { MayHaveMore self.old.turns self.new.turns }
     {
         self.poll.poll(&mut self.events, Some(at_most))?;
         mark_all(&mut self.turns, &self.events);
