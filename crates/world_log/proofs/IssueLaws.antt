@@ -1,154 +1,31 @@
--- The numbers that are kept of keys, and how issues that a later one of their key replaced are forgotten.
+-- The numbers of the last issues, and how issues that a later one of their key replaced are forgotten.
 use Rattle.std.proofs.Common.{◌≡◌, ◌∙◌, refl, sym, ap, subst, arith, ℕ, zero, suc, ◌+◌, ◌-◌, ◌<◌, ◌≤◌, ◌^◌, Bool, true, false, List, [], ◌∷◌, ◌++◌, Option, Some, None, length, take, drop, get_or, append-nil, append_assoc}
 use Rattle.std.proofs.lemmas.Bool.{eqb-true, eq-eqb}
-use Rattle.std.proofs.lemmas.Cmp.{tied_itself}
 use Rattle.std.proofs.lemmas.List.{drop_more, length-append, length-replicate, replicate-append-replicate, take-append-drop, take_more}
-use Rattle.std.proofs.lemmas.Map.Entries.{entries_from_clone}
-use Rattle.std.specs.Prelude.{◌&&◌, ◌==◌, IfSome, IsSome, Vec, cond, is_some, replicate}
-use Rattle.std.specs.BTreeMap.{BTreeMap, IsEmpty, IsUnchanged, get, get_by}
-use Rattle.std.specs.Cmp.{both_ways, tied_then, unsigned_tied}
-use Rattle.std.specs.Map.{lookup}
-use Rattle.std.specs.Ordering.{is_eq, nat_cmp}
+use Rattle.std.specs.Prelude.{◌&&◌, ◌==◌, IfSome, IsSome, Vec, cond, replicate}
 use Rattle.std.specs.Vec.{vec_capacity, vec_len}
-use Rattle.std.specs.declared.cmp.Ordering.{Ordering}
-use Rattle.std.specs.declared.cmp.Ordering.TheVariants.{Less, Equal, Greater}
 use Rattle.carry_ends.specs.carry_world.PlainWorld as plain
 use Rattle.carry_ends.specs.carry_world.PlainWorld.{last_key, last_key_from}
-use Rattle.npdu.proofs.Stations.{one_station, station_order}
-use Rattle.npdu.specs.Mac.{same_station, station_cmp}
-use Rattle.npdu.specs.declared.mac.Mac.{Mac}
-use Rattle.npdu.specs.declared.mac.Mac.TheVariants.{One, Six}
+use Rattle.npdu.proofs.Stations.{one_station}
+use Rattle.npdu.specs.Mac.{same_station}
 use Rattle.npdu.specs.declared.mac.Station.{Station}
 use Rattle.world_log.proofs.KeyLaws.{Occurs, keeps_on, keeps_same, last_in, last_more, none_any, occurs_in, refilled}
-use Rattle.world_log.specs.Issues.{AreLast, IsKeptOf, IsReady, IsSameOf, KeepsKeys, LeadsToLast, flat, folded, gap_after}
-use Rattle.world_log.specs.Issues.{is_number, key_cmp, key_of, kept_of, keys_in, number_of, run_keys, same_key}
-use Rattle.world_log.specs.contracts.key.KeyOrd.TheImpl as impl
+use Rattle.world_log.proofs.NumberLaws.{same_of_same}
+use Rattle.world_log.specs.Issues.{AreLast, ClientNumbers, IsKeptOf, IsReady, IsSameOf, KeepsKeys, LeadsToLast, flat}
+use Rattle.world_log.specs.Issues.{folded, gap_after, is_number, key_of, kept_of, keys_in, number_of, run_keys, same_key}
 use Rattle.world_log.specs.declared.key.Key.{Key}
 use Rattle.world_log.specs.declared.key.Run.{Run}
-
--- the derived order of keys is the one of the definitions
-derived_at : (n m : ℕ) (a b : Mac) (i j : ℕ) →
-    impl.cmp-value.it (record { client = record { net = n; mac = a }; invoke_id = i })
-    (record { client = record { net = m; mac = b }; invoke_id = j })
-    ≡ key_cmp (record { client = record { net = n; mac = a }; invoke_id = i })
-    (record { client = record { net = m; mac = b }; invoke_id = j })
-derived_at n m (One a) (One b) i j = refl
-derived_at n m (One a) (Six b) i j = refl
-derived_at n m (Six a) (One b) i j = refl
-derived_at n m (Six a) (Six b) i j = refl
-
-pub derived : (a b : Key) → impl.cmp-value.it a b ≡ key_cmp a b
-derived a b = derived_at a.client.net b.client.net a.client.mac b.client.mac a.invoke_id b.invoke_id
-
--- two tests that agree find the same
-same_found : {X : Type 0} (t u : Key → Bool) → ((k : Key) → t k ≡ u k) → (es : List (Key × X)) →
-    lookup t es ≡ lookup u es
-same_found t u same [] = refl
-same_found {X} t u same (e ∷ es) =
-    ap (λ (b : Bool). cond b (Some (e.1)) (lookup t es)) (same (e.0))
-    ∙ ap (λ (o : Option X). cond (u (e.0)) (Some (e.1)) o) (same_found t u same es)
-
-pub got : (m : BTreeMap Key (Option ℕ)) (k : Key) → get impl.cmp-value.it m k ≡ kept_of m k
-got m k = same_found (λ x. is_eq (impl.cmp-value.it k x)) (λ x. is_eq (key_cmp k x)) (λ x. ap is_eq (derived k x)) m.entries
-
-pub ruleset number_rules = (got, derived)
-
-is_equal : (o : Ordering) → is_eq o ≡ true → o ≡ Equal
-is_equal Equal is = refl
-is_equal Less is = absurd (cc is)
-is_equal Greater is = absurd (cc is)
-
-same_stations : (x y : Station) → is_eq (station_cmp x y) ≡ same_station x y
-same_stations x y = both_ways (is_eq (station_cmp x y)) (same_station x y)
-    (λ e. (one_station x y).one (station_order.apart x y (is_equal (station_cmp x y) e)))
-    (λ e. ap (λ z. is_eq (station_cmp x z)) (sym ((one_station x y).same e))
-    ∙ ap is_eq (tied_itself station_order.total x))
-
--- keys that compare as equal are one
-pub same_keys : (a b : Key) → is_eq (key_cmp a b) ≡ same_key a b
-same_keys a b = sym (tied_then (station_cmp a.client b.client) (nat_cmp a.invoke_id b.invoke_id))
-    ∙ ap (λ (t : Bool). t && is_eq (nat_cmp a.invoke_id b.invoke_id)) (same_stations a.client b.client)
-    ∙ ap (λ (t : Bool). same_station a.client b.client && t) (unsigned_tied a.invoke_id b.invoke_id)
-
-both_true : (a b : Bool) → (a && b) ≡ true → (a ≡ true) × (b ≡ true)
-both_true true b e = (refl, e)
-both_true false b e = absurd (cc e)
-
-pub one_key : (a b : Key) → same_key a b ≡ true → a ≡ b
-one_key a b e =
-    let p = both_true (same_station a.client b.client) (a.invoke_id == b.invoke_id) e in
-    ap (λ (c : Station). let k : Key = record { client = c; invoke_id = a.invoke_id } in k)
-    ((one_station a.client b.client).same p.0)
-    ∙ ap (λ (i : ℕ). let k : Key = record { client = b.client; invoke_id = i } in k)
-    (eqb-true a.invoke_id b.invoke_id p.1)
 
 pub itself : (c : Station) (id : ℕ) → (same_station c c && (id == id)) ≡ true
 itself c id = ap (λ (b : Bool). b && (id == id)) ((one_station c c).one refl) ∙ eq-eqb id id refl
 
--- a key was put in with a number
-pub put_in : (m n : BTreeMap Key (Option ℕ)) (key : Key) (number : Option ℕ) →
-    ((k : Key) → get impl.cmp-value.it n k
-    ≡ cond (is_eq (impl.cmp-value.it key k)) (Some number) (get impl.cmp-value.it m k)) → IsKeptOf key number m n
-put_in m n key number puts = record {
-  kept = λ k. sym (got n k) ∙ puts k
-      ∙ ap (λ (b : Bool). cond b (Some number) (get impl.cmp-value.it m k)) (ap is_eq (derived key k) ∙ same_keys key k)
-      ∙ ap (λ (o : Option (Option ℕ)). cond (same_key key k) (Some number) o) (got m k);
-}
-
-pub is_there : (m n : BTreeMap Key (Option ℕ)) (key : Key) (number : Option ℕ) → IsKeptOf key number m n →
-    IsSome (kept_of n key)
-is_there m n key number put =
-    let is : kept_of n key ≡ Some number = put.kept key
-    ∙ ap (λ (b : Bool). cond b (Some number) (kept_of m key)) (itself key.client key.invoke_id) in
-    ap is_some is
-
-none_flat : (b : Bool) (o : Option (Option ℕ)) → (b ≡ true → o ≡ None) → flat (cond b (Some None) o) ≡ flat o
-none_flat true o h = sym (ap flat (h refl))
-none_flat false o h = refl
-
--- a key without a number is as one that isn't there
-pub same_of_none : (m n : BTreeMap Key (Option ℕ)) (key : Key) → kept_of m key ≡ None → IsKeptOf key None m n → IsSameOf m n
-same_of_none m n key none put = record {
-  same = λ k. ap flat (put.kept k) ∙ none_flat (same_key key k) (kept_of m k)
-      (λ e. ap (λ (x : Key). kept_of m x) (sym (one_key key k e)) ∙ none);
-}
-
-pub same_of_same : (m : BTreeMap Key (Option ℕ)) → IsSameOf m m
-same_of_same m = record { same = λ k. refl }
-
-pub same_entries : (m n : BTreeMap Key (Option ℕ)) → n.entries ≡ m.entries → IsSameOf m n
-same_entries m n e = record {
-  same = λ k. ap (λ (es : List (Key × Option ℕ)). flat (lookup (λ x. is_eq (key_cmp k x)) es)) e;
-}
-
-is_none : (o : Option (Option ℕ)) → is_some o ≡ false → o ≡ None
-is_none None e = refl
-is_none (Some x) e = absurd (cc e)
-
-pub absent : (m : BTreeMap Key (Option ℕ)) (key : Key) → is_some (get impl.cmp-value.it m key) ≡ false →
-    kept_of m key ≡ None
-absent m key e = sym (got m key) ∙ is_none (get impl.cmp-value.it m key) e
-
-pub present : (m : BTreeMap Key (Option ℕ)) (key : Key) → is_some (get impl.cmp-value.it m key) ≡ true →
-    IsSome (kept_of m key)
-present m key e = sym (ap is_some (got m key)) ∙ e
-
--- a key that is there isn't absent
-pub not_absent : (m : BTreeMap Key (Option ℕ)) (key : Key) → IsSome (kept_of m key) →
-    get impl.cmp-value.it m key ≡ None → ⊥
-not_absent m key some none = absurd (cc (sym some ∙ ap is_some (sym (got m key) ∙ none)))
-
-pub ruleset place_rules = (got, derived, put_in, is_there, same_of_none, same_of_same, same_entries, absent, present)
-
-pub ruleset putting_rules = (got, derived, put_in, not_absent)
-
 -- the numbers of what nobody has issued
-pub none_issued : {A : Type 0} (runs : Vec Run A) (m : BTreeMap Key (Option ℕ)) → runs.items ≡ [] → IsEmpty m →
+pub none_issued : {A : Type 0} (runs : Vec Run A) (m : List ClientNumbers) → runs.items ≡ [] → m ≡ [] →
     AreLast 0 runs m None
 none_issued runs m none empty = record {
   count = ap (λ (rs : List Run). length (keys_in rs)) (sym none);
   leads = record {
-    numbers = λ k. ap (λ (es : List (Key × Option ℕ)). flat (lookup (λ x. is_eq (key_cmp k x)) es)) empty
+    numbers = λ k. ap (λ (rows : List ClientNumbers). number_of rows k) empty
         ∙ ap (λ (rs : List Run). last_key k.client k.invoke_id (keys_in rs)) (sym none);
   };
   ready = tt;
@@ -157,18 +34,18 @@ none_issued runs m none empty = record {
 pub ruleset new_rules = (none_issued)
 
 -- .. are those of the last issues
-pub last_is : (m : BTreeMap Key (Option ℕ)) (keys : List plain.Key) (c : Station) (id : ℕ) → LeadsToLast m keys →
+pub last_is : (m : List ClientNumbers) (keys : List plain.Key) (c : Station) (id : ℕ) → LeadsToLast m keys →
     number_of m (record { client = c; invoke_id = id }) ≡ last_key c id keys
 last_is m keys c id leads = leads.numbers (record { client = c; invoke_id = id })
 
 pub ruleset last_rules = (last_is)
 
 -- and stay so where room is made
-pub same_leads : (m n : BTreeMap Key (Option ℕ)) (keys : List plain.Key) → LeadsToLast m keys → IsSameOf m n →
+pub same_leads : (m n : List ClientNumbers) (keys : List plain.Key) → LeadsToLast m keys → IsSameOf m n →
     LeadsToLast n keys
 same_leads m n keys leads same = record { numbers = λ k. same.same k ∙ leads.numbers k }
 
-pub room_made : {A : Type 0} (issued : ℕ) (old new : Vec Run A) (m n : BTreeMap Key (Option ℕ)) (ready : Option Key) →
+pub room_made : {A : Type 0} (issued : ℕ) (old new : Vec Run A) (m n : List ClientNumbers) (ready : Option Key) →
     AreLast issued old m ready → new.items ≡ old.items → IsSameOf m n → AreLast issued new n None
 room_made issued old new m n ready are same known = record {
   count = are.count ∙ ap (λ (rs : List Run). length (keys_in rs)) (sym same);
@@ -176,7 +53,7 @@ room_made issued old new m n ready are same known = record {
   ready = tt;
 }
 
-pub room_ready : {A : Type 0} (issued : ℕ) (old new : Vec Run A) (m n : BTreeMap Key (Option ℕ)) (ready : Option Key)
+pub room_ready : {A : Type 0} (issued : ℕ) (old new : Vec Run A) (m n : List ClientNumbers) (ready : Option Key)
     (key : Key) → AreLast issued old m ready → new.items ≡ old.items → IsSameOf m n → IsSome (kept_of n key) →
     vec_len new < vec_capacity new → issued + 1 < 2 ^ 64 → AreLast issued new n (Some key)
 room_ready issued old new m n ready key are same known some room lt =
@@ -202,7 +79,7 @@ flat_cond : (b : Bool) (n : ℕ) (o : Option (Option ℕ)) → flat (cond b (Som
 flat_cond true n o = refl
 flat_cond false n o = refl
 
-pub leads_further : (m n : BTreeMap Key (Option ℕ)) (key : Key) (number : ℕ) (keys more : List plain.Key) →
+pub leads_further : (m n : List ClientNumbers) (key : Key) (number : ℕ) (keys more : List plain.Key) →
     IsKeptOf key (Some number) m n → number ≡ length keys → more ≡ keys ++ key_of key ∷ [] → LeadsToLast m keys →
     LeadsToLast n more
 leads_further m n key number keys more put is longer leads = record {
@@ -214,13 +91,13 @@ leads_further m n key number keys more put is longer leads = record {
 }
 
 -- room was made for it
-pub was_ready : {A : Type 0} (issued : ℕ) (runs : Vec Run A) (m : BTreeMap Key (Option ℕ)) (ready : Option Key)
+pub was_ready : {A : Type 0} (issued : ℕ) (runs : Vec Run A) (m : List ClientNumbers) (ready : Option Key)
     (key : Key) → AreLast issued runs m ready → ready ≡ Some key → IsReady issued runs m key
 was_ready {A} issued runs m ready key are is =
     subst (λ (o : Option Key). IfSome o (λ k. IsReady issued runs m k)) is are.ready
 
 -- it was issued
-pub one_issued : {A : Type 0} (issued : ℕ) (old new : Vec Run A) (m n : BTreeMap Key (Option ℕ)) (ready : Option Key)
+pub one_issued : {A : Type 0} (issued : ℕ) (old new : Vec Run A) (m n : List ClientNumbers) (ready : Option Key)
     (key : Key) → AreLast issued old m ready → IsKeptOf key (Some issued) m n →
     new.items ≡ old.items ++ record { key = key; before = 0 } ∷ [] → AreLast (issued + 1) new n None
 one_issued issued old new m n ready key are put pushed =
@@ -297,7 +174,7 @@ number_is n (Some m) e = ap (λ (x : ℕ). Some x) (eqb-true m n e)
 is_its : (n : ℕ) (o : Option ℕ) → o ≡ Some n → is_number n o ≡ true
 is_its n o e = ap (λ (x : Option ℕ). is_number n x) e ∙ eq-eqb n n refl
 
-module _ (m : BTreeMap Key (Option ℕ)) (runs : List Run) (leads : LeadsToLast m (keys_in runs)) (i : ℕ) (r d : Run)
+module _ (m : List ClientNumbers) (runs : List Run) (leads : LeadsToLast m (keys_in runs)) (i : ℕ) (r d : Run)
     (lt : i < length runs) (is : r ≡ get_or runs i d) where
   left : drop i runs ≡ r ∷ drop (i + 1) runs
   left = drop_more runs i d lt ∙ ap (λ (x : Run). x ∷ drop (i + 1) runs) (sym is)
@@ -400,13 +277,13 @@ all_folded runs kept gap i le keeps =
 pub ruleset folding_rules = (within, number_next, gap_within, none_folded)
 
 -- what leads to the last issues leads to those of what is kept of them
-pub still_leads : (m : BTreeMap Key (Option ℕ)) (all kept : List plain.Key) → LeadsToLast m all → KeepsKeys all kept →
+pub still_leads : (m : List ClientNumbers) (all kept : List plain.Key) → LeadsToLast m all → KeepsKeys all kept →
     LeadsToLast m kept
 still_leads m all kept leads keeps = record {
   numbers = λ k. leads.numbers k ∙ sym (keeps.last k.client k.invoke_id);
 }
 
-pub still_last : {A : Type 0} (issued : ℕ) (old new : Vec Run A) (m : BTreeMap Key (Option ℕ)) (ready : Option Key) →
+pub still_last : {A : Type 0} (issued : ℕ) (old new : Vec Run A) (m : List ClientNumbers) (ready : Option Key) →
     AreLast issued old m ready → KeepsKeys (keys_in old.items) (keys_in new.items) → AreLast issued new m None
 still_last issued old new m ready are keeps = record {
   count = are.count ∙ sym keeps.count;
@@ -414,16 +291,17 @@ still_last issued old new m ready are keeps = record {
   ready = tt;
 }
 
-pub fits : {A : Type 0} (issued : ℕ) (runs : Vec Run A) (m : BTreeMap Key (Option ℕ)) (ready : Option Key) →
+pub fits : {A : Type 0} (issued : ℕ) (runs : Vec Run A) (m : List ClientNumbers) (ready : Option Key) →
     AreLast issued runs m ready → issued < 2 ^ 64 → length (keys_in runs.items) < 2 ^ 64
 fits issued runs m ready are lt = omega (arith, are.count, lt)
 
 pub ruleset forgetting_rules = (keeps_same, still_last, fits)
 
 -- a copy leads to the same
-pub copy_last : {A : Type 0} (issued : ℕ) (old new : Vec Run A) (m n : BTreeMap Key (Option ℕ)) (ready : Option Key) →
-    AreLast issued old m ready → new.items ≡ old.items → n.entries ≡ m.entries → AreLast issued new n None
-copy_last issued old new m n ready are same entries =
-    room_made issued old new m n ready are same (same_entries m n entries)
+pub copy_last : {A : Type 0} (issued : ℕ) (old new : Vec Run A) (m n : List ClientNumbers) (ready : Option Key) →
+    AreLast issued old m ready → new.items ≡ old.items → n ≡ m → AreLast issued new n None
+copy_last issued old new m n ready are same equal =
+    room_made issued old new m n ready are same
+    (record { same = λ k. ap (λ (rows : List ClientNumbers). number_of rows k) equal })
 
-pub ruleset copying_rules = (copy_last, entries_from_clone)
+pub ruleset copying_rules = (copy_last)

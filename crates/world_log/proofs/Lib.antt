@@ -2,6 +2,7 @@ pub mod PutLaws
 pub mod LogLaws
 pub mod SaidLaws
 pub mod KeyLaws
+pub mod NumberLaws
 pub mod IssueLaws
 -- What the proofs above cite of those below.
 pub use Rattle.carry_ends.proofs.carry_world as carry_world

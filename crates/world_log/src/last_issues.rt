@@ -1,19 +1,15 @@
 //! The last issue of each client under each invoke ID.
 
-ghost use Rattle.std.specs.Prelude.{◌≡◌, ◌<◌, ◌+◌, ◌^◌, Some, IfOk, IsSome, OnOk, length};
+ghost use Rattle.std.specs.Prelude.{◌≡◌, ◌<◌, ◌+◌, ◌^◌, IfOk, OnOk, length};
 ghost use Rattle.world_log.specs.Issues as spec;
-ghost use Rattle.world_log.specs.Issues.{IsKeptOf, IsSameOf, KeepsKeys, LeadsToLast, folded, gap_after, keys_in};
-ghost use Rattle.world_log.specs.Issues.{kept_of, number_of};
+ghost use Rattle.world_log.specs.Issues.{KeepsKeys, LeadsToLast, folded, gap_after, keys_in};
 
 use crate::keeping::push_reserved;
 use crate::key::{Key, Run};
+use crate::last_numbers::{LastNumbers, copy_of, make_place, number_in, put_number};
 use npdu::Station;
 use std::alloc::{AllocError, Allocator};
-use std::collections::BTreeMap;
 use std::marker::Model;
-
-/// The number of the last issue of each key, and none of a key for whose first issue there is room alone.
-type LastNumbers<A> = BTreeMap<Key, Option<usize>, A>;
 
 /// Who issued, and under which invoke ID, of each issue, in order. The last issue of each client under each invoke ID
 /// is found without a walk over the others, of which any may be forgotten.
@@ -25,6 +21,8 @@ pub struct LastIssues<A: Allocator> {
     last: LastNumbers<A>,
     /// Whose issue room was made for.
     ready: Option<Key>,
+    /// How many are kept where the next are forgotten.
+    due: usize,
 }
 
 impl<A: Allocator> Model for LastIssues<A> {
@@ -34,44 +32,7 @@ impl<A: Allocator> Model for LastIssues<A> {
 
     ghost view = { λ s. record { keys = keys_in s.runs.items; ready = s.ready } };
 
-    ghost invariant = { λ s. AreLast s.issued s.runs s.last s.ready };
-}
-
-/// Returns the number that is kept of a key.
-#[tactic(auto, using(crate::proofs::IssueLaws::number_rules))]
-fn number_in<A: Allocator>(last: &LastNumbers<A>, key: Key) -> Option<usize>
-    ensures { result ≡ number_of last.now key }
-{
-    match last.get(&key) {
-        Some(number) => *number,
-        None => None,
-    }
-}
-
-/// Makes room for the number of a key.
-///
-/// # Errors
-/// Want of memory. All is then as it was.
-#[tactic(auto, using(crate::proofs::IssueLaws::place_rules))]
-fn make_place<A: Allocator + Copy>(last: &mut LastNumbers<A>, key: Key) -> Result<(), AllocError>
-    ensures made { OnOk result (IsSome (kept_of last.new key)) }
-    ensures same { IsSameOf last.old last.new }
-{
-    if last.contains_key(&key) {
-        return Ok(());
-    }
-    last.insert(key, None)?;
-    Ok(())
-}
-
-/// A key for which there is room has this number then.
-#[tactic(auto, using(crate::proofs::IssueLaws::putting_rules))]
-fn put_number<A: Allocator + Copy>(last: &mut LastNumbers<A>, key: Key, number: usize)
-    requires { IsSome (kept_of last.old key) }
-    ensures { IsKeptOf key (Some number) last.old last.new }
-{
-    let put: Result<_, _> = last.insert(key, Some(number));
-    let _ = put.unwrap();
+    ghost invariant = { λ s. AreLast s.issued s.runs s.last.items s.ready };
 }
 
 /// Returns whether this is the number that was found.
@@ -116,7 +77,7 @@ fn last_runs<A: Allocator + Copy>(
     runs: &[Run],
     last: &LastNumbers<A>,
 ) -> Result<Vec<Run, A>, AllocError>
-    requires leads { LeadsToLast last.now (keys_in runs.now) }
+    requires leads { LeadsToLast last.now.items (keys_in runs.now) }
     requires fits { length (keys_in runs.now) < 2 ^ 64 }
     ensures { IfOk result (λ kept. KeepsKeys (keys_in runs.now) (keys_in kept.items)) }
 {
@@ -145,8 +106,9 @@ impl<A: Allocator + Copy> LastIssues<A> {
         LastIssues {
             issued: 0,
             runs: Vec::new(alloc),
-            last: BTreeMap::new(alloc),
+            last: Vec::new(alloc),
             ready: None,
+            due: 0,
         }
     }
 
@@ -196,17 +158,18 @@ impl<A: Allocator + Copy> LastIssues<A> {
         self.ready = None;
     }
 
-    /// Forgets the issues that a later one of their key replaced, once these are half of what is kept. Where memory is
-    /// wanted it forgets none.
+    /// Forgets the issues that a later one of their key replaced, once there are as many more as were kept the last time.
+    /// Where memory is wanted it forgets none.
     #[tactic(auto, using(crate::proofs::IssueLaws::forgetting_rules))]
     pub fn forget(&mut self)
         ensures { KeepsKeys self.old.keys self.new.keys }
     {
-        if self.runs.len() / 2 < self.last.len() {
+        if self.runs.len() < self.due {
             return;
         }
         let kept = last_runs(*self.runs.allocator(), self.runs.as_slice(), &self.last);
         if let Ok(kept) = kept {
+            self.due = kept.len().saturating_mul(2);
             self.runs = kept;
             self.ready = None;
         }
@@ -223,8 +186,9 @@ impl<A: Allocator + Copy> LastIssues<A> {
         Ok(LastIssues {
             issued: self.issued,
             runs: Vec::from_slice(alloc, self.runs.as_slice())?,
-            last: self.last.clone()?,
+            last: copy_of(alloc, self.last.as_slice())?,
             ready: None,
+            due: self.due,
         })
     }
 }

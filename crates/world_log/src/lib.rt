@@ -8,7 +8,7 @@
 //! told to: what is left keeps its numbers, and all issues stay as many, each with the last of its key.
 //!
 //! - `key`: who issued, and under which invoke ID.
-//! - `last_issues`: the last issue of each client under each invoke ID.
+//! - `last_issues`: the last issue of each client under each invoke ID; `last_numbers`: their numbers.
 //! - `log`: what is kept, how it grows, how it is cut back, and what it hands out and forgets.
 //! - `putting`: items and frames of what goes out.
 //! - `saying`: what is inside what was said.
@@ -21,6 +21,7 @@ mod copying;
 mod keeping;
 mod key;
 mod last_issues;
+mod last_numbers;
 mod log;
 mod putting;
 mod saying;
