@@ -105,7 +105,7 @@ impl<A: Allocator + Copy> Link<A> for SitePort<A> {
             SitePort::Ip(own) => {
                 let mut part = ip_part(change);
                 let done = own.down(&mut part, parcel, port, now, out);
-                *change = of_ip(part);
+                put_ip(change, &part);
                 done
             }
             SitePort::Bus(own) => {
@@ -132,7 +132,7 @@ impl<A: Allocator + Copy> Link<A> for SitePort<A> {
             SitePort::Ip(own) => {
                 let mut part = ip_part(change);
                 let done = own.heard(&mut part, from, octets, stamp, port, now, out);
-                *change = of_ip(part);
+                put_ip(change, &part);
                 done
             }
             SitePort::Bus(own) => {
@@ -156,7 +156,7 @@ impl<A: Allocator + Copy> Link<A> for SitePort<A> {
             SitePort::Ip(own) => {
                 let mut part = ip_part(change);
                 let done = own.on_tick(&mut part, port, now, out);
-                *change = of_ip(part);
+                put_ip(change, &part);
                 done
             }
             SitePort::Bus(own) => {
@@ -181,7 +181,7 @@ impl<A: Allocator + Copy> Link<A> for SitePort<A> {
             SitePort::Ip(own) => {
                 let mut part = ip_part(change);
                 let done = own.on_octets(&mut part, count, now);
-                *change = of_ip(part);
+                put_ip(change, &part);
                 done
             }
             SitePort::Bus(own) => {
@@ -205,7 +205,7 @@ impl<A: Allocator + Copy> Link<A> for SitePort<A> {
             SitePort::Ip(own) => {
                 let mut part = ip_part(change);
                 let done = own.register(&mut part, port, now, out);
-                *change = of_ip(part);
+                put_ip(change, &part);
                 done
             }
             SitePort::Bus(own) => {
@@ -222,7 +222,7 @@ impl<A: Allocator + Copy> Link<A> for SitePort<A> {
     {
         let mut change = change;
         match self {
-            SitePort::Ip(port) => port.settle(ip_part(&mut change), now),
+            SitePort::Ip(port) => port.settle(ip_part(&change), now),
             SitePort::Bus(port) => port.settle(bus_part(&mut change), now),
         }
     }
@@ -236,10 +236,10 @@ impl<A: Allocator + Copy> Link<A> for SitePort<A> {
 }
 
 /// What an event so far changes of a port of BACnet/IP.
-fn ip_part<A: Allocator>(change: &mut Change<SitePort<A>>) -> Change<IpPort<A>>
-    ensures { result ≡ spec.ip_part change.old }
+fn ip_part<A: Allocator>(change: &Change<SitePort<A>>) -> Change<IpPort<A>>
+    ensures { result ≡ spec.ip_part change.now }
 {
-    match mem::replace(change, Change::Nothing) {
+    match change {
         Change::Nothing => Change::Nothing,
         Change::Moment | Change::Whole(_) => Change::Moment,
     }
@@ -256,17 +256,17 @@ fn bus_part<A: Allocator>(change: &mut Change<SitePort<A>>) -> Change<BusPort<A>
     }
 }
 
-/// What an event changes of a port, where that is one of BACnet/IP.
-fn of_ip<A: Allocator + Copy>(part: Change<IpPort<A>>) -> Change<SitePort<A>>
-    ensures { AsIp part (spec.ip_part result) }
+/// Keeps what an event changes of a port of BACnet/IP: it is no more than its moment, so nothing large is moved.
+fn put_ip<A: Allocator>(change: &mut Change<SitePort<A>>, part: &Change<IpPort<A>>)
+    ensures { AsIp part.now (spec.ip_part change.new) }
 {
-    match part {
+    *change = match part {
         Change::Nothing => Change::Nothing,
         Change::Moment | Change::Whole(_) => Change::Moment,
-    }
+    };
 }
 
-/// .. where that is one on a bus.
+/// What an event changes of a port, where that is one on a bus.
 fn of_bus<A: Allocator + Copy>(part: Change<BusPort<A>>) -> Change<SitePort<A>>
     ensures { spec.bus_part result ≡ part }
 {
