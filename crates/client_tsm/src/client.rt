@@ -3,6 +3,7 @@
 ghost use Rattle.std.specs.Prelude.{◌≡◌, OnOk, OnErr, remove};
 ghost use Rattle.client_tsm.specs.Client.{changed_at, gathers, never_given, renews, sends_on};
 
+use crate::opened::OpenedTransaction;
 use crate::plan::ClientTsmChange;
 use crate::transaction::Transaction;
 use crate::waking::wake_all;
@@ -215,13 +216,13 @@ impl<A: Allocator + Copy> ClientTsm<A> {
 
     /// Opens a transaction under the next invoke ID, which no other has.
     #[tactic(auto, using(crate::proofs::Apart::apart_rules))]
-    fn open(&mut self, now: u64, transaction: Transaction<A>) -> Result<(), AllocError>
+    fn open(&mut self, now: u64, transaction: OpenedTransaction<A>) -> Result<(), AllocError>
         requires free { is_open transaction.invoke_id self.old.open_ones ≡ false }
         requires greatest { now ≤ MAX_MOMENT_MS }
         ensures opened { OnOk result (self.new ≡ opens now transaction self.old) }
         ensures unchanged { OnErr result (self.new ≡ self.old) }
     {
-        self.open_ones.push(transaction)?;
+        self.open_ones.push(transaction.into_transaction())?;
         self.free_from[self.next as usize] = now + REUSE_MS;
         self.next = self.next.wrapping_add(1);
         self.moment = now;

@@ -5,6 +5,7 @@ ghost use Rattle.client_tsm.specs.Issuing.{opening};
 
 use crate::asking::octets_of;
 use crate::client::ClientTsm;
+use crate::opened::OpenedTransaction;
 use crate::plan::{ClientTsmChange, ClientTsmIssued, ClientTsmPlan};
 use crate::transaction::Transaction;
 use bindings::{Bound, apdu_limit, begun, is_too_long};
@@ -24,7 +25,7 @@ fn opening<A: Allocator + Copy>(
     Ok(ClientTsmPlan {
         said,
         told: Items::new(alloc),
-        change: ClientTsmChange::Opens(transaction),
+        change: ClientTsmChange::Opens(OpenedTransaction::new(alloc, transaction)?),
     })
 }
 

@@ -28,7 +28,8 @@
 //!
 //! - `client`: the client, and what changes of it.
 //! - `issuing`, `hearing`, `waking`: an issue, an APDU that is heard, a wake: what is planned, and the whole step.
-//! - `transaction`, `gathering`: a request that has no end yet, and the segments of its answer.
+//! - `transaction`, `gathering`: a request that has no end yet, and the segments of its answer; `opened`: one that a plan
+//!   opens.
 //! - `asking`, `said`, `plan`: what is said of a request; what is said, told and changed.
 //! - `laws`: what holds of any client, for the proofs of the layers above.
 #![tactic(auto)]
@@ -39,6 +40,7 @@ mod gathering;
 mod hearing;
 mod issuing;
 mod laws;
+mod opened;
 mod plan;
 mod said;
 mod transaction;
@@ -48,6 +50,7 @@ pub use bindings::{Accepts, Bound};
 pub use client::ClientTsm;
 pub use gathering::Gathering;
 pub use laws::{counted_is_told, one_plan, planned_keep_apart, told_is_open, woken_are_ended};
+pub use opened::OpenedTransaction;
 pub use plan::{
     ClientTsmChange, ClientTsmIssued, ClientTsmPlan, ClientTsmTold, Outcome, TransactionOutcome,
 };

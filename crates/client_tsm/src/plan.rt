@@ -1,7 +1,7 @@
 //! What is planned for an input, before anything changes.
 
+use crate::opened::OpenedTransaction;
 use crate::said::ClientSaid;
-use crate::transaction::Transaction;
 use apdu::{AbortReason, RejectReason, Segment};
 use primitives::Reply;
 use segments::Sender;
@@ -36,7 +36,7 @@ pub enum ClientTsmChange<A: Allocator> {
     /// Nothing.
     Stays,
     /// A transaction is opened, under the next invoke ID.
-    Opens(Transaction<A>),
+    Opens(OpenedTransaction<A>),
     /// More of the request of the transaction at this place came: what goes on sending it, or none.
     Sends(usize, Option<Sender>),
     /// This segment of the answer to the transaction at this place came, with these octets; its request came whole.
