@@ -1,5 +1,6 @@
 pub mod HearingLaws
 pub mod Places
+mod Waits
 pub mod YoungestLaws
 pub mod RememberLaws
 pub mod GivenLaws

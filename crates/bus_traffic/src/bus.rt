@@ -115,21 +115,27 @@ fn ear_of(ears: &[Ear], place: usize) -> &Ear
 }
 
 /// Whether a frame may still be heard at the moment `now`, in milliseconds, and wasn't delivered yet at an address,
-/// which isn't its sender's.
+/// which isn't its sender's. Most frames were delivered there, so this is asked first.
+#[tactic(auto, using(crate::proofs::Waits::waits_rules))]
 pub(crate) fn waits_at<A: Allocator>(recent: &Recent<A>, address: u8, now: u64) -> bool
     ensures { result ≡ spec.waits_at now address recent.now }
 {
-    is_heard_in_time(recent.sending.stamp, now)
-        && address != recent.sending.sender
-        && !recent.heard[address as usize]
+    if recent.heard[address as usize] {
+        return false;
+    }
+    is_heard_in_time(recent.sending.stamp, now) && address != recent.sending.sender
 }
 
 /// Whether a frame has just these octets and waits to be delivered at an address, which isn't its sender's, at the
-/// moment `now`, in milliseconds.
+/// moment `now`, in milliseconds. Octets are compared of those alone that wait there.
+#[tactic(auto, using(crate::proofs::Waits::due_rules))]
 fn is_due_at<A: Allocator>(recent: &Recent<A>, address: u8, octets: &[u8], now: u64) -> bool
     ensures { result ≡ spec.is_due_at now address octets.now recent.now }
 {
-    is_frame(&recent.sending.octets, octets) && waits_at(recent, address, now)
+    if !waits_at(recent, address, now) {
+        return false;
+    }
+    is_frame(&recent.sending.octets, octets)
 }
 
 /// Just these octets are delivered at an address at the moment `now`, in milliseconds.
