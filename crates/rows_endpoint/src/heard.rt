@@ -69,7 +69,7 @@ fn push_executed<A: Allocator + Copy>(
     };
     push_mark(", ", out)?;
     out.push_str("executed ")?;
-    push_reply(&executed.reply, out)
+    push_reply(executed.reply(), out)
 }
 
 impl<A: Allocator + Copy> TakesInputs<A> for Device<A> {

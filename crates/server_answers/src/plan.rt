@@ -14,16 +14,18 @@ use std::alloc::{AllocError, Allocator};
 use std::marker::Model;
 use tags::{Items, Octets};
 
-/// A request that is executed.
+/// Who asked, the request, and what the objects reply to it.
 #[derive(Drop)]
-#[derive_where(PartialEq, Eq, Debug)]
+struct ExecutedRequest<A: Allocator> {
+    asker: Asker,
+    request: Request<A>,
+    reply: Reply<A>,
+}
+
+/// A request that is executed, in memory of its own: what is told of it is handed on cheaply.
+#[derive(Drop)]
 pub struct Executed<A: Allocator> {
-    /// Who asked.
-    pub asker: Asker,
-    /// The request.
-    pub request: Request<A>,
-    /// What the objects reply to it.
-    pub reply: Reply<A>,
+    held: Box<ExecutedRequest<A>, A>,
 }
 
 impl<A: Allocator> Model for Executed<A> {
@@ -31,9 +33,68 @@ impl<A: Allocator> Model for Executed<A> {
 
     ghost Value = { spec.Executed A };
 
-    ghost view = { λ s. record { asker = s.asker; request = s.request; reply = s.reply } };
+    ghost view = { λ s. record {
+      asker = s.held.value.asker;
+      request = s.held.value.request;
+      reply = s.held.value.reply;
+    } };
+}
 
-    ghost inverse = { λ s. record { asker = s.asker; request = s.request; reply = s.reply } };
+impl<A: Allocator> Executed<A> {
+    ghost use Rattle.std.specs.Prelude.{◌≡◌, IfOk};
+
+    /// Returns a request of this asker that is executed with this reply.
+    ///
+    /// # Errors
+    /// Want of memory.
+    pub fn new(
+        alloc: A,
+        asker: Asker,
+        request: Request<A>,
+        reply: Reply<A>,
+    ) -> Result<Self, AllocError>
+        ensures { IfOk result (λ executed.
+            executed ≡ record { asker = asker; request = request; reply = reply }) }
+    {
+        Ok(Executed {
+            held: Box::new(
+                alloc,
+                ExecutedRequest {
+                    asker,
+                    request,
+                    reply,
+                },
+            )?,
+        })
+    }
+
+    /// Returns who asked.
+    pub fn asker(&self) -> Asker
+        ensures { result ≡ self.now.asker }
+    {
+        self.held.asker
+    }
+
+    /// Returns the request.
+    pub fn request(&self) -> &Request<A>
+        ensures { result.now ≡ self.now.request }
+    {
+        &self.held.request
+    }
+
+    /// Returns what the objects reply to it.
+    pub fn reply(&self) -> &Reply<A>
+        ensures { result.now ≡ self.now.reply }
+    {
+        &self.held.reply
+    }
+
+    /// Returns what the objects reply to it, to be kept.
+    pub fn into_reply(self) -> Reply<A>
+        ensures { result ≡ self.reply }
+    {
+        Box::into_inner(self.held).reply
+    }
 }
 
 /// How the answer to an asker is said.

@@ -127,11 +127,7 @@ fn answering<A: Allocator + Copy>(
     ensures { IfOk result (λ plan. plan ≡ answering said request reply entry) }
 {
     push_window(alloc, &entry, &mut said)?;
-    let executed = Executed {
-        asker: entry.asker,
-        request,
-        reply,
-    };
+    let executed = Executed::new(alloc, entry.asker, request, reply)?;
     ServerPlan::executing(alloc, said, executed, entry)
 }
 

@@ -157,7 +157,7 @@ impl<E: Executor<A> + Drop, A: Allocator + Copy> ServerTsm<E, A> {
                 Ok(None)
             }
             Some(Planned::Executes(_, executed, entry)) => {
-                self.execute(&executed.request, entry, now)?;
+                self.execute(executed.request(), entry, now)?;
                 Ok(Some(executed))
             }
         }
@@ -193,7 +193,7 @@ impl<E: Executor<A> + Drop, A: Allocator + Copy> ServerTsm<E, A> {
             }
             Some(Planned::Executes(mut said, executed, entry)) => {
                 push_whole(self.alloc, &entry, &mut said)?;
-                self.execute(&executed.request, entry, now)?;
+                self.execute(executed.request(), entry, now)?;
                 Ok(ServerTold {
                     said,
                     executed: Some(executed),

@@ -96,13 +96,14 @@ pub(crate) fn tell_executed<A: Allocator + Copy>(
     ensures room { vec_capacity history.old ≤ vec_capacity history.new }
 {
     if let Some(executed) = executed {
-        let issue = keys.last(executed.asker.station, executed.asker.invoke_id);
+        let asker = executed.asker();
+        let issue = keys.last(asker.station, asker.invoke_id);
         if let Some(number) = issue {
             push_reserved(
                 history,
                 Entry::Executed {
                     number: number as u64,
-                    reply: executed.reply,
+                    reply: executed.into_reply(),
                     moment: now,
                 },
             );

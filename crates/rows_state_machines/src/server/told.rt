@@ -27,7 +27,7 @@ fn push_said<A: Allocator>(said: &ServerSaid<A>, out: &mut String) -> Result<(),
 /// Appends what is executed in words: its reply, `many` for the reply to ReadPropertyMultiple.
 fn push_executed<A: Allocator>(executed: &Executed<A>, out: &mut String) -> Result<(), AllocError> {
     push_mark(", ", out)?;
-    match &executed.reply {
+    match executed.reply() {
         Reply::Many(_) => out.push_str("executed many"),
         reply => write!(out, "executed {}", Words(reply)),
     }
