@@ -9,6 +9,7 @@ use Rattle.router.specs.Handling.{handling}
 use Rattle.router.specs.Hearing.{Comes, Drops, Hears, IsMet, IsOverfull, IsTaken, RouterHears, Teaches, heard}
 use Rattle.router.specs.Laws.{HeardOnce}
 use Rattle.router.specs.Messages.{Heard}
+use Rattle.router.specs.Plan.{parcel_of}
 use Rattle.router.specs.Router.{RouterState}
 use Rattle.router.specs.Routes.{teaches}
 use Rattle.router.specs.Said.{teaches_too_many}
@@ -29,6 +30,19 @@ module _ {X E : Type 0} where
   pub on_err : {P Q : Type 0} (r : Result X E) → (P → Q) → OnErr r P → OnErr r Q
   on_err (Ok x) f p = tt
   on_err (Err e) f p = f p
+
+-- a parcel is its parts
+module _ {A : Type 0} (port : ℕ) (p : Parcel A) (npdu : List ℕ) (st : RouterState) (same : npdu ≡ p.npdu) where
+  pub parts_heard : (now : ℕ) (out : List (PortParcel A)) (new : RouterState) →
+      RouterHears now port (parcel_of p.from p.to npdu p.stamp) st out new → RouterHears now port p st out new
+  parts_heard now out new heard =
+      subst (λ (octets : List ℕ). RouterHears now port (parcel_of p.from p.to octets p.stamp) st out new) same heard
+
+  pub parts_overfull : IsOverfull port (parcel_of {A = A} p.from p.to npdu p.stamp) st → IsOverfull port p st
+  parts_overfull over =
+      subst (λ (octets : List ℕ). IsOverfull port (parcel_of {A = A} p.from p.to octets p.stamp) st) same over
+
+pub ruleset parcel_rules = (parts_heard, parts_overfull)
 
 module _ {A : Type 0} (port : ℕ) (p : Parcel A) (st : RouterState) (at : Station) (h : Header) (there : slice_get st.ports port ≡ Some at)
     (spelled : Spells p.npdu h) where

@@ -8,7 +8,7 @@ use crate::heard::Heard;
 use crate::plan::{PortParcel, RouterChange, RouterPlan};
 use crate::router::Router;
 use crate::routes::Route;
-use npdu::{Parcel, View};
+use npdu::{Mac, Parcel, Target, View};
 use std::alloc::Allocator;
 use tags::{Fault, Items};
 
@@ -27,7 +27,7 @@ impl<A: Allocator + Copy> Router<A> {
     ghost use Rattle.npdu.specs.Header.{IsSound, header_of};
     ghost use Rattle.profile.specs.Times.{MAX_MOMENT_MS};
     ghost use Rattle.router.specs.Hearing.{Comes, IsOverfull, IsTaken, RouterHears, Teaches, handling_of};
-    ghost use Rattle.router.specs.Plan.{HasRoutes, changed, heard_of, left_by};
+    ghost use Rattle.router.specs.Plan.{HasRoutes, changed, heard_of, left_by, parcel_of};
     ghost use Rattle.router.specs.Router.{IsNumbered};
     ghost use Rattle.router.specs.Routes as routes;
     ghost use Rattle.router.specs.Said.{left, said, teaches_too_many};
@@ -39,6 +39,7 @@ impl<A: Allocator + Copy> Router<A> {
     /// # Errors
     /// `TableFull` for an announcement behind which it would know more than `MAX_LEARNED_ROUTES` routes, or `Memory`.
     /// The router is then as it was.
+    #[tactic(auto, using(crate::proofs::HearLaws::parcel_rules))]
     pub fn on_parcel(
         &mut self,
         port: usize,
@@ -53,43 +54,53 @@ impl<A: Allocator + Copy> Router<A> {
         ensures taken { OnErr result (IsTaken port parcel.now self.old) }
         ensures unchanged { OnErr result (self.new ≡ self.old) }
     {
-        let plan = self.plan_parcel(port, parcel, now)?;
+        let npdu = parcel.npdu.as_slice();
+        let plan = self.plan_npdu(port, parcel.from, parcel.to, npdu, parcel.stamp, now)?;
         let out = self.commit(plan, now);
         Ok(out)
     }
 
-    /// Returns what it does where it hears a parcel on the port of this number at the moment `now`, in milliseconds:
-    /// `commit` does it. A parcel that is dropped, for its header or its destination, takes no memory and is never
-    /// refused; only one that teaches a route that it doesn't know has its routes copied.
+    /// Returns what it does where it hears an NPDU on the port of this number, from a station of its network to one or all
+    /// there, said at the moment `stamp`, at the moment `now`, in milliseconds: `commit` does it. One that is dropped,
+    /// for its header or its destination, takes no memory and is never refused; only one that teaches a route that it
+    /// doesn't know has its routes copied.
     ///
     /// # Errors
     /// `TableFull` for an announcement behind which it would know more than `MAX_LEARNED_ROUTES` routes, or `Memory`.
-    pub fn plan_parcel(
+    pub fn plan_npdu(
         &self,
         port: usize,
-        parcel: &Parcel<A>,
+        from: Mac,
+        to: Target,
+        npdu: &[u8],
+        stamp: u64,
         now: u64,
     ) -> Result<RouterPlan<A>, Fault>
         ensures step { IfOk result (λ plan.
-            RouterHears now port parcel.now self.now plan.out (left_by now plan self.now)) }
-        ensures copied { IfOk result (λ plan. HasRoutes plan.change → Teaches port parcel.now self.now) }
+            RouterHears now port (parcel_of from to npdu.now stamp) self.now plan.out (left_by now plan self.now)) }
+        ensures copied { IfOk result (λ plan. HasRoutes plan.change →
+            Teaches port (parcel_of {A = A} from to npdu.now stamp) self.now) }
         ensures news { IfOk result (λ plan. HasRoutes plan.change →
             (left_by now plan self.now).routes ≢ self.now.routes) }
         ensures cause { IfErr result (λ fault. (fault ≡ Fault.Memory) ⊎
-            ((fault ≡ Fault.TableFull) × IsOverfull port parcel.now self.now)) }
-        ensures taken { OnErr result (IsTaken port parcel.now self.now) }
+            ((fault ≡ Fault.TableFull) × IsOverfull port (parcel_of {A = A} from to npdu.now stamp) self.now)) }
+        ensures taken { OnErr result (IsTaken port (parcel_of {A = A} from to npdu.now stamp) self.now) }
     {
         let Some(at) = self.port(port) else {
             return Ok(silence(self.alloc));
         };
-        let Ok(view) = View::read(parcel.npdu.as_slice()) else {
+        let Ok(view) = View::read(npdu) else {
             return Ok(silence(self.alloc));
         };
         let heard = Heard {
+            alloc: self.alloc,
             moment: now,
             port,
             at,
-            parcel,
+            from,
+            to,
+            npdu,
+            stamp,
             view,
         };
         self.plan_heard(&heard)
@@ -110,7 +121,7 @@ impl<A: Allocator + Copy> Router<A> {
             (teaches_too_many (heard_of heard.now) self.now (handling_of self.now (heard_of heard.now)) ≡ true))) }
         ensures taken { OnErr result (handling_of self.now (heard_of heard.now) ≢ Handling.Discard) }
     {
-        let handling = self.handling(heard.port, heard.parcel.to, &heard.view);
+        let handling = self.handling(heard.port, heard.to, &heard.view);
         let out = self.said(heard, handling)?;
         let change = self.change(heard, handling)?;
         Ok(RouterPlan { out, change })
@@ -158,7 +169,7 @@ impl<A: Allocator + Copy> Router<A> {
     {
         let route = Route {
             port: heard.port,
-            next: heard.parcel.from,
+            next: heard.from,
         };
         match self.routes.taught(self.ports(), route, heard.view.body) {
             Ok(None) => Ok(RouterChange::Nothing),

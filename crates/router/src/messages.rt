@@ -191,7 +191,6 @@ impl<'a, A: Allocator + Copy> Heard<'a, A> {
     /// Its source is told why it isn't passed on, and which network that is about.
     pub(crate) fn refused(
         &self,
-        alloc: A,
         reason: NetworkRejectReason,
         net: u16,
     ) -> Result<PortParcel<A>, Fault>
@@ -199,7 +198,7 @@ impl<'a, A: Allocator + Copy> Heard<'a, A> {
         ensures refused { IfOk result (λ o. o ≡ refused (heard_of self.now) reason net) }
         ensures memory { IfErr result (λ fault. fault ≡ Fault.Memory) }
     {
-        let mut contents = Vec::new(alloc);
+        let mut contents = Vec::new(self.alloc);
         Rejected { reason, net }.write(&mut contents)?;
         let destination = match self.view.source {
             Some(source) => Some(back_to(source)),
@@ -210,8 +209,8 @@ impl<'a, A: Allocator + Copy> Heard<'a, A> {
             port: self.port,
             parcel: Parcel {
                 from: self.at.mac,
-                to: Target::One(self.parcel.from),
-                npdu: message_npdu(alloc, message, destination, contents.as_slice())?,
+                to: Target::One(self.from),
+                npdu: message_npdu(self.alloc, message, destination, contents.as_slice())?,
                 stamp: self.moment,
             },
         })

@@ -88,7 +88,7 @@ impl<'a, A: Allocator + Copy> Heard<'a, A> {
             None => self.view,
             Some(destination) => View {
                 destination: Some(lowered(destination)),
-                source: Some(source_on(self.at, &self.parcel.from, self.view.source)),
+                source: Some(source_on(self.at, &self.from, self.view.source)),
                 ..self.view
             },
         }
@@ -103,7 +103,7 @@ impl<'a, A: Allocator + Copy> Heard<'a, A> {
     {
         View {
             destination: None,
-            source: Some(source_on(self.at, &self.parcel.from, self.view.source)),
+            source: Some(source_on(self.at, &self.from, self.view.source)),
             ..self.view
         }
     }
@@ -112,7 +112,6 @@ impl<'a, A: Allocator + Copy> Heard<'a, A> {
     #[tactic(auto, unfolding(crate::specs::Passing::passed))]
     pub(crate) fn passed(
         &self,
-        alloc: A,
         view: &View<'_>,
         port: usize,
         own: Mac,
@@ -123,12 +122,12 @@ impl<'a, A: Allocator + Copy> Heard<'a, A> {
         ensures passed { IfOk result (λ o. o ≡ passed (heard_of self.now) (header_of view.now) port own to) }
         ensures memory { IfErr result (λ fault. fault ≡ Fault.Memory) }
     {
-        let room = self.parcel.npdu.len().saturating_add(SOURCE_OCTETS);
-        let mut npdu = Vec::with_capacity(alloc, room)?;
+        let room = self.npdu.len().saturating_add(SOURCE_OCTETS);
+        let mut npdu = Vec::with_capacity(self.alloc, room)?;
         npdu::write(view, &mut npdu)?;
         if !carries(link_of(own), npdu.len(), view) {
             let reason = NetworkRejectReason::TooLong;
-            return self.refused(alloc, reason, net_of(self.view.destination));
+            return self.refused(reason, net_of(self.view.destination));
         }
         Ok(PortParcel {
             port,
@@ -136,7 +135,7 @@ impl<'a, A: Allocator + Copy> Heard<'a, A> {
                 from: own,
                 to,
                 npdu: Octets::from_vec(npdu),
-                stamp: self.parcel.stamp,
+                stamp: self.stamp,
             },
         })
     }
@@ -144,7 +143,6 @@ impl<'a, A: Allocator + Copy> Heard<'a, A> {
     /// It goes to all stations of the network of the port of this number, where it wasn't heard there.
     fn put_spread(
         &self,
-        alloc: A,
         view: &View<'_>,
         number: usize,
         station: Station,
@@ -160,17 +158,13 @@ impl<'a, A: Allocator + Copy> Heard<'a, A> {
         if number == self.port {
             return Ok(());
         }
-        let passed = self.passed(alloc, view, number, station.mac, Target::All)?;
+        let passed = self.passed(view, number, station.mac, Target::All)?;
         out.push(passed)?;
         Ok(())
     }
 
     /// It goes to all stations of the networks of all ports but the one that heard it, in order.
-    pub(crate) fn spread(
-        &self,
-        alloc: A,
-        ports: &[Station],
-    ) -> Result<Items<PortParcel<A>, A>, Fault>
+    pub(crate) fn spread(&self, ports: &[Station]) -> Result<Items<PortParcel<A>, A>, Fault>
         requires sound { IsSound (header_of self.now.view) }
         requires numbered { IsNumbered self.now.at }
         ensures spread { IfOk result (λ out. out ≡
@@ -178,9 +172,9 @@ impl<'a, A: Allocator + Copy> Heard<'a, A> {
         ensures memory { IfErr result (λ fault. fault ≡ Fault.Memory) }
     {
         let view = self.way_of();
-        let mut out = Items::new(alloc);
+        let mut out = Items::new(self.alloc);
         for (number, station) in ports.iter().enumerate() {
-            self.put_spread(alloc, &view, number, *station, &mut out)?;
+            self.put_spread(&view, number, *station, &mut out)?;
         }
         Ok(out)
     }

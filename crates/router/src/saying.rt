@@ -46,17 +46,14 @@ impl<A: Allocator + Copy> Router<A> {
         let alloc = self.alloc;
         match handling {
             Handling::Discard => Ok(Items::new(alloc)),
-            Handling::Spread => heard.spread(alloc, self.ports()),
+            Handling::Spread => heard.spread(self.ports()),
             Handling::Relay { port, own, next } => {
                 let way = heard.way_of();
-                one(
-                    alloc,
-                    heard.passed(alloc, &way, port, own, Target::One(next))?,
-                )
+                one(alloc, heard.passed(&way, port, own, Target::One(next))?)
             }
             Handling::Deliver { port, own, to } => {
                 let last = heard.last_of();
-                one(alloc, heard.passed(alloc, &last, port, own, to)?)
+                one(alloc, heard.passed(&last, port, own, to)?)
             }
             Handling::FindRoute(net) => self.find_route(heard, net),
             Handling::NameAll => {
@@ -70,7 +67,7 @@ impl<A: Allocator + Copy> Router<A> {
             Handling::Learn => self.hand_on(heard, Message::IAmRouterToNetwork),
             Handling::RefuseType => {
                 let reason = NetworkRejectReason::UnknownMessageType;
-                one(alloc, heard.refused(alloc, reason, heard.at.net)?)
+                one(alloc, heard.refused(reason, heard.at.net)?)
             }
         }
     }
@@ -87,7 +84,7 @@ impl<A: Allocator + Copy> Router<A> {
             contents: &net.to_be_bytes(),
         };
         let mut out = question.on_others(self.alloc, heard.port, self.ports())?;
-        let refused = heard.refused(self.alloc, NetworkRejectReason::NoRoute, net)?;
+        let refused = heard.refused(NetworkRejectReason::NoRoute, net)?;
         out.push(refused)?;
         Ok(out)
     }
@@ -116,12 +113,12 @@ impl<A: Allocator + Copy> Router<A> {
         message: Message,
     ) -> Result<Items<PortParcel<A>, A>, Fault>
         requires message { IsMessage message }
-        ensures said { IfOk result (λ out. out ≡ said_on_others heard.now.parcel.now.stamp message
+        ensures said { IfOk result (λ out. out ≡ said_on_others heard.now.stamp message
             heard.now.view.body.now heard.now.port self.now.ports) }
         ensures memory { IfErr result (λ fault. fault ≡ Fault.Memory) }
     {
         let announcement = Announcement {
-            stamp: heard.parcel.stamp,
+            stamp: heard.stamp,
             message,
             contents: heard.view.body,
         };

@@ -102,7 +102,10 @@ fn take_planned<A: Allocator + Copy>(
     }
     let plan = match input {
         Input::Wake => router.plan_tick(now),
-        Input::Heard(port, parcel) => router.plan_parcel(*port, parcel, now),
+        Input::Heard(port, parcel) => {
+            let npdu = parcel.npdu.as_slice();
+            router.plan_npdu(*port, parcel.from, parcel.to, npdu, parcel.stamp, now)
+        }
     };
     match plan {
         Err(fault) => said::<A>(alloc, Err(fault)),

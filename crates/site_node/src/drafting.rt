@@ -142,7 +142,6 @@ pub(crate) fn register_first<A: Allocator + Copy>(
 /// What the port refuses of octets; what the part refuses of the message in them; `TooLong` where what is said is too
 /// long for its port; or `Memory`.
 pub(crate) fn hear_on<A: Allocator + Copy>(
-    alloc: A,
     ports: &[SitePort<A>],
     part: &Part<A>,
     port: usize,
@@ -164,7 +163,7 @@ pub(crate) fn hear_on<A: Allocator + Copy>(
     let Some(up) = heard_at(ports, port, from, octets, stamp, now, draft)? else {
         return Ok(PartPlan::Nothing);
     };
-    let plan = part.plan_message(alloc, port, up, now)?;
+    let plan = part.plan_message(port, up, now)?;
     go_down(ports, &plan, now, draft)?;
     Ok(plan)
 }
@@ -174,7 +173,6 @@ pub(crate) fn hear_on<A: Allocator + Copy>(
 /// # Errors
 /// As `hear_on`.
 pub(crate) fn hear_first<A: Allocator + Copy>(
-    alloc: A,
     ports: &[SitePort<A>],
     part: &Part<A>,
     port: usize,
@@ -194,5 +192,5 @@ pub(crate) fn hear_first<A: Allocator + Copy>(
         part.now fault) }
 {
     draft.clear();
-    hear_on(alloc, ports, part, port, from, octets, stamp, now, draft)
+    hear_on(ports, part, port, from, octets, stamp, now, draft)
 }

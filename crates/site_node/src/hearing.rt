@@ -121,9 +121,7 @@ impl<A: Allocator + Copy> SiteNode<A> {
             return Ok(managed);
         }
         let ports = self.ports.as_slice();
-        let plan = hear_first(
-            self.alloc, ports, &self.part, port, from, octets, stamp, now, draft,
-        )?;
+        let plan = hear_first(ports, &self.part, port, from, octets, stamp, now, draft)?;
         Ok(plan)
     }
 
@@ -177,9 +175,7 @@ impl<A: Allocator + Copy> SiteNode<A> {
     {
         let ports = self.ports.as_slice();
         count_first(ports, port, count, now, draft)?;
-        let plan = hear_on(
-            self.alloc, ports, &self.part, port, from, octets, stamp, now, draft,
-        )?;
+        let plan = hear_on(ports, &self.part, port, from, octets, stamp, now, draft)?;
         Ok(plan)
     }
 }

@@ -47,13 +47,12 @@ pub enum Part<A: Allocator + Copy> {
     },
 }
 
-/// Returns what a router does where a message comes up on a port: what it passes on needs memory of its own.
+/// Returns what a router does where a message comes up on a port. Its octets stay where they lie.
 ///
 /// # Errors
 /// `TableFull` where it has no place for one more route; or `Memory`.
 fn route<A: Allocator + Copy>(
     router: &Router<A>,
-    alloc: A,
     port: usize,
     up: Up<'_>,
     now: u64,
@@ -63,8 +62,7 @@ fn route<A: Allocator + Copy>(
     ensures cause { IfErr result (λ fault. (fault ≡ Fault.Memory) ⊎
         ((fault ≡ Fault.TableFull) × IsOverfull port (parcel_of {A = A} up.entry) router.now)) }
 {
-    let parcel = up.to_parcel(alloc)?;
-    let plan = router.plan_parcel(port, &parcel, now)?;
+    let plan = router.plan_npdu(port, up.from, up.to, up.npdu, up.stamp, now)?;
     Ok(plan)
 }
 
@@ -120,7 +118,6 @@ impl<A: Allocator + Copy> Part<A> {
     /// `TableFull` where a client has no place for one more binding, or a router none for one more route; or `Memory`.
     pub(crate) fn plan_message(
         &self,
-        alloc: A,
         port: usize,
         up: Up<'_>,
         now: u64,
@@ -141,7 +138,7 @@ impl<A: Allocator + Copy> Part<A> {
                 let plan = client.plan_npdu(up.from, up.to, up.npdu, now)?;
                 Ok(PartPlan::Client(plan))
             }
-            Part::Router(router) => Ok(PartPlan::Router(route(router, alloc, port, up, now)?)),
+            Part::Router(router) => Ok(PartPlan::Router(route(router, port, up, now)?)),
             Part::Manager { .. } => Ok(PartPlan::Nothing),
         }
     }
