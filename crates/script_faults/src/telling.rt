@@ -57,16 +57,18 @@ pub fn tell_live_faults<A: Allocator + Copy, W: Write>(
 ) -> io::Result<bool>
     ensures told { IfOk result (IsToldLive A text.now) }
 {
-    let are_taken = match script_of(alloc, text) {
-        Ok(steps) => are_live(steps.as_slice()),
+    match script_of(alloc, text) {
+        Ok(steps) => {
+            if are_live(steps.as_slice()) {
+                return Ok(false);
+            }
+        }
         Err(BadScript::Memory) => return Err(ErrorKind::OutOfMemory.into()),
-        Err(BadScript::Line { .. }) => false,
-    };
-    if !are_taken {
-        let report = Report { file, in_colour };
-        tell_lines(alloc, report, Run::Live, text, out)?;
+        Err(BadScript::Line { .. }) => {}
     }
-    Ok(!are_taken)
+    let report = Report { file, in_colour };
+    tell_lines(alloc, report, Run::Live, text, out)?;
+    Ok(true)
 }
 
 /// What a script is run by.
