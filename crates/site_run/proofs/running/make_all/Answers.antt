@@ -34,8 +34,8 @@ returns-in-Ok g c =
     (g.W.Write.contents c.args.out.now) (g.W.Write.contents c.loop-next.out) (search rules) c.loop-next.invariant.1
     c.loop-next.invariant.3
 
-pub returns-in-Err : goal.returns-in-Err
-returns-in-Err g c =
+pub returns : goal.returns
+returns g c =
     flow_failed c.print_refused_time.result c.args.telling c.args.n (to_go c.loop-next.next c.loop-next.flow)
     c.args.world.now c.loop-next.world (g.W.Write.contents c.args.out.now) (g.W.Write.contents c.loop-next.out)
     (g.W.Write.contents c.print_refused_time.new.out) c.in-Err.fault c.moment.result c.loop-next.invariant.3
