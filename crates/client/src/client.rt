@@ -44,6 +44,7 @@ impl<A: Allocator + Copy> Client<A> {
     ghost use Rattle.unitdata.specs.Sizes.{longest_apdu};
     ghost use Rattle.client.specs.Saying.{told_of};
     ghost use Rattle.profile.specs.Times.{MAX_MOMENT_MS};
+    ghost use Rattle.due_times.specs.Until.{Until};
 
     /// A client at this address on this kind of link, that is bound to no device and has asked nothing, whose memory
     /// will be that of `alloc`. It takes answers in segments or not, in APDUs of at most what the link carries
@@ -148,6 +149,13 @@ impl<A: Allocator + Copy> Client<A> {
         ensures { result ≡ is_quiet now self.now.machine.open_ones }
     {
         self.machine.is_quiet(now)
+    }
+
+    /// Returns a moment, in milliseconds, before which nothing is due where it wakes.
+    pub fn next_due(&self) -> u64
+        ensures { Until result (λ now. is_quiet now self.now.machine.open_ones ≡ true) }
+    {
+        self.machine.next_due()
     }
 
     /// Wakes at the moment `now`, in milliseconds, where nothing is due: it says and tells nothing, and all that it

@@ -8,4 +8,5 @@ mod Apart
 mod Committing
 mod Joining
 mod Quiet
+mod Dues
 mod Silent

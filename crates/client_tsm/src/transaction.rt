@@ -5,7 +5,10 @@ use apdu::Segment;
 use bindings::{Accepts, begun, is_same_station};
 use npdu::{Station, Way};
 use primitives::Request;
-use profile::{APDU_TIMEOUT_MS, NUMBER_OF_APDU_RETRIES, gathers_still, is_in_time};
+use profile::{
+    APDU_TIMEOUT_MS, DEADLINE_MS, GATHERING_TIMEOUT_MS, NUMBER_OF_APDU_RETRIES, gathers_still,
+    is_in_time,
+};
 use segments::{Receiver, Sender, Step, Turn, granted_window};
 use services::service_of;
 use std::alloc::{AllocError, Allocator};
@@ -54,11 +57,13 @@ impl<A: Allocator> Model for Transaction<A> {
 }
 
 impl<A: Allocator> Transaction<A> {
-    ghost use Rattle.std.specs.Prelude.{◌≡◌, ◌==◌, length, Some};
+    ghost use Rattle.std.specs.Prelude.{◌≡◌, ◌==◌, length, None, Some, true};
+    ghost use Rattle.due_times.specs.Until.{Until};
+    ghost use Rattle.segments.specs.Sender.{waits};
     ghost use Rattle.services.specs.Asked.{service_asked};
     ghost use Rattle.client_tsm.specs.Client.{renews, sends_on};
     ghost use Rattle.client_tsm.specs.Open.{gathers_still, goes_on, sends_still, takes};
-    ghost use Rattle.client_tsm.specs.Waking.{again, is_overdue, turn_of};
+    ghost use Rattle.client_tsm.specs.Waking.{again, is_overdue, turn_by, turn_of};
 
     /// Whether this is its invoke ID.
     pub(crate) fn has_id(&self, invoke_id: u8) -> bool
@@ -131,6 +136,60 @@ impl<A: Allocator> Transaction<A> {
             None if self.is_overdue(now) => Turn::Sends,
             None => Turn::Waits,
         }
+    }
+
+    /// Returns a moment, in milliseconds, before which its answer isn't too old.
+    #[tactic(auto, using(crate::proofs::Dues::ending_rules))]
+    fn gathers_until(&self) -> u64
+        ensures { Until result (λ now. gathers_still now self.now.gathering ≡ true) }
+    {
+        match &self.gathering {
+            None => u64::MAX,
+            Some(gathering) => gathering.at.saturating_add(GATHERING_TIMEOUT_MS),
+        }
+    }
+
+    /// Returns a moment, in milliseconds, before which it isn't said again, where nothing is gathered of its answer.
+    #[tactic(auto, using(crate::proofs::Dues::silence_rules))]
+    fn unsaid_until(&self) -> u64
+        ensures { Until result (λ now. waits (turn_by None self.now.sending now self.now) ≡ true) }
+    {
+        match &self.sending {
+            Some(sender) => sender.next_due(),
+            None => self.sent.saturating_add(APDU_TIMEOUT_MS),
+        }
+    }
+
+    /// Returns a moment, in milliseconds, before which it isn't said again, as long as it goes on.
+    #[tactic(auto, using(crate::proofs::Dues::silence_rules))]
+    fn silent_until(&self) -> u64
+        ensures { Until result (λ now. waits (turn_by self.now.gathering self.now.sending now self.now) ≡ true) }
+    {
+        match &self.gathering {
+            Some(_) => u64::MAX,
+            None => self.unsaid_until(),
+        }
+    }
+
+    /// Returns a moment, in milliseconds, before which no window of its request was repeated in vain.
+    #[tactic(auto, using(crate::proofs::Dues::ending_rules))]
+    fn sends_until(&self) -> u64
+        ensures { Until result (λ now. sends_still now self.now.sending ≡ true) }
+    {
+        match &self.sending {
+            None => u64::MAX,
+            Some(sender) => sender.next_due(),
+        }
+    }
+
+    /// Returns a moment, in milliseconds, before which it waits where the client wakes.
+    #[tactic(auto, using(crate::proofs::Dues::waiting_rules))]
+    pub(crate) fn next_due(&self) -> u64
+        ensures { Until result (λ now. waits (turn_of now self.now) ≡ true) }
+    {
+        let end = self.at.saturating_add(DEADLINE_MS);
+        let answered = self.gathers_until().min(self.sends_until());
+        end.min(answered.min(self.silent_until()))
     }
 
     /// Returns what goes on sending it where it is said again: its window, or it from its beginning.

@@ -1,7 +1,8 @@
 //! What a client does when it wakes (5.4.4).
 
-ghost use Rattle.std.specs.Prelude.{◌≡◌, ◌++◌, OnOk};
-ghost use Rattle.client_tsm.specs.Waking.{all_left, said_of, told_of};
+ghost use Rattle.std.specs.Prelude.{◌≡◌, ◌++◌, OnOk, true};
+ghost use Rattle.client_tsm.specs.Waking.{all_left, is_quiet, said_of, told_of};
+ghost use Rattle.due_times.specs.Until.{Until};
 
 use crate::client::ClientTsm;
 use crate::plan::{ClientTsmChange, ClientTsmPlan, ClientTsmTold, Outcome, TransactionOutcome};
@@ -52,6 +53,20 @@ pub(crate) fn wake_all<A: Allocator>(open_ones: &mut Vec<Transaction<A>, A>, now
     }
 }
 
+/// Returns a moment, in milliseconds, before which nothing is due of any transaction.
+#[tactic(auto, using(crate::proofs::Dues::quiet_rules))]
+fn next_due_of<A: Allocator>(open_ones: &[Transaction<A>]) -> u64
+    ensures { Until result (λ now. is_quiet now open_ones.now ≡ true) }
+{
+    let mut due = u64::MAX;
+    let mut left = open_ones;
+    while let [first, rest @ ..] = left {
+        due = due.min(first.next_due());
+        left = rest;
+    }
+    due
+}
+
 impl<A: Allocator + Copy> ClientTsm<A> {
     ghost use Rattle.std.specs.Prelude.{◌≡◌, ◌≤◌, ◌^◌, [], true, IfOk, OnOk, OnErr};
     ghost use Rattle.client_tsm.specs.Client.{committed};
@@ -59,6 +74,7 @@ impl<A: Allocator + Copy> ClientTsm<A> {
     ghost use Rattle.client_tsm.specs.Steps.{told_of_plan};
     ghost use Rattle.client_tsm.specs.Waking.{is_quiet, woken};
     ghost use Rattle.profile.specs.Times.{MAX_MOMENT_MS};
+    ghost use Rattle.due_times.specs.Until.{Until};
 
     /// Returns what is said, told and left where the client wakes at the moment `now`, in milliseconds: one sending of
     /// a transaction, and the ends that are due, in order of issue.
@@ -105,6 +121,13 @@ impl<A: Allocator + Copy> ClientTsm<A> {
         self.open_ones
             .iter()
             .all(|transaction| transaction.turn(now).waits())
+    }
+
+    /// Returns a moment, in milliseconds, before which nothing is due where the client wakes.
+    pub fn next_due(&self) -> u64
+        ensures { Until result (λ now. is_quiet now self.now.open_ones ≡ true) }
+    {
+        next_due_of(self.open_ones.as_slice())
     }
 
     /// Wakes at the moment `now`, in milliseconds, where nothing is due: nothing is said and told, and all transactions

@@ -53,6 +53,7 @@ impl<A: Allocator + Copy> Device<A> {
     ghost use Rattle.device.specs.Plan.{ChangesSomething, IsPlanned, left_by, told_by};
     ghost use Rattle.device.specs.Saying.{told_of};
     ghost use Rattle.profile.specs.Times.{MAX_MOMENT_MS};
+    ghost use Rattle.due_times.specs.Until.{Until};
 
     /// A device at this address as it opens with the objects of its site, whose memory will be that of `alloc`.
     ///
@@ -187,6 +188,13 @@ impl<A: Allocator + Copy> Device<A> {
         ensures { result ≡ is_quiet now self.now.server.records }
     {
         self.server.is_quiet(now)
+    }
+
+    /// Returns a moment, in milliseconds, before which nothing is due where it wakes.
+    pub fn next_due(&self) -> u64
+        ensures { Until result (λ now. is_quiet now self.now.server.records ≡ true) }
+    {
+        self.server.next_due()
     }
 
     /// Wakes at the moment `now`, in milliseconds, where nothing is due: it says nothing, and forgets what is too old.

@@ -30,6 +30,7 @@ impl<A: Allocator> Model for BusPort<A> {
 }
 
 impl<A: Allocator + Copy> BusPort<A> {
+    ghost use Rattle.due_times.specs.Until.{Until};
     ghost use Rattle.std.specs.Prelude.{◌≡◌, ◌≤◌, false, None, IfOk, IfErr, OnOk, length};
     ghost use Rattle.link.specs.Carrying as carrying;
     ghost use Rattle.link.specs.Limits.{max_npdu_at};
@@ -237,6 +238,13 @@ impl<A: Allocator + Copy> BusPort<A> {
         ensures { result ≡ spec.is_due now self.now }
     {
         self.node.is_due(now)
+    }
+
+    /// Returns a moment, in milliseconds, before which nothing is due where it wakes.
+    pub fn next_due(&self) -> u64
+        ensures { Until result (λ now. spec.is_due now self.now ≡ false) }
+    {
+        self.node.next_due()
     }
 
     /// So many octets are heard on the bus at the moment `now`, in milliseconds, in a frame or not: the port is told of

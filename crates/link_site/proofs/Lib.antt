@@ -1,3 +1,4 @@
 pub mod Changes
 pub mod Foreign
 pub mod Things
+pub mod Dues

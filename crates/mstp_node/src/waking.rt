@@ -1,6 +1,7 @@
 //! What a node does at a tick, by its state (9.5.6).
 
-ghost use Rattle.std.specs.Prelude.{◌≡◌, ◌++◌, true, OnOk, OnErr, IfErr};
+ghost use Rattle.std.specs.Prelude.{◌≡◌, ◌++◌, true, false, OnOk, OnErr, IfErr};
+ghost use Rattle.due_times.specs.Until.{Until};
 ghost use Rattle.mstp_table.specs.Node as spec;
 ghost use Rattle.mstp_table.specs.Node.{all_sent, first_to};
 ghost use Rattle.mstp_table.specs.Table as table;
@@ -45,6 +46,18 @@ impl<A: Allocator + Copy> Node<A> {
         ensures { result ≡ table.is_due self.now now }
     {
         self.silence(now) >= patience(self.state, self.ts)
+    }
+
+    /// Returns a moment, in milliseconds, before which nothing is due at a tick.
+    pub fn next_due(&self) -> u64
+        ensures { Until result (λ now. table.is_due self.now now ≡ false) }
+    {
+        let patience = patience(self.state, self.ts);
+        if patience == 0 {
+            0
+        } else {
+            self.last.saturating_add(patience)
+        }
     }
 
     /// Wakes, where anything is due.

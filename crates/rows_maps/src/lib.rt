@@ -1,4 +1,5 @@
-//! Rows on a sorted map whose keys and values are numbers of an octet. The program `rows` runs them.
+//! Rows on a sorted map whose keys and values are numbers of an octet, and on moments by place (`moments`). The program
+//! `rows` runs them.
 //!
 //! `put 5 50; put 3 30; get 5; list -> new; new; 50; 3=30 5=50`: each step is taken by one map, which is empty at
 //! first.
@@ -10,6 +11,9 @@
 //! - `clear`, `list`: all are taken away; told are the entries in their order.
 #![tactic(auto)]
 
+mod moments;
+
+use moments::Moments;
 use sheets::{
     Bench, Counts, Given, Part, Report, Row, Stop, Trial, differs, number, push_mark, small,
     try_row, two_words,
@@ -42,12 +46,10 @@ fn run_row<A: Allocator + Copy>(
     row: &Row<'_>,
 ) -> Result<Counts, Stop> {
     let wanted = row.wanted()?;
-    let steps = Steps {
-        memory,
-        words: row.asked,
-    };
+    let words = row.asked;
     match name {
-        "sorted_map.txt" => try_row(given, &steps, &[], wanted),
+        "sorted_map.txt" => try_row(given, &Steps { memory, words }, &[], wanted),
+        "due_times.txt" => try_row(given, &Moments { memory, words }, &[], wanted),
         _ => Err(Stop::Unread(Part::Asked)),
     }
 }

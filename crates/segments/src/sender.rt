@@ -1,9 +1,10 @@
 //! What cuts a message into segments (5.4.4, 5.4.5).
 
-ghost use Rattle.std.specs.Prelude.{◌≡◌, ◌≤◌, length};
+ghost use Rattle.std.specs.Prelude.{◌≡◌, ◌≤◌, false, length, true};
+ghost use Rattle.due_times.specs.Until.{Until};
 ghost use Rattle.segments.specs.Pieces.{piece_count, window_rest};
 ghost use Rattle.segments.specs.Sender.{SenderState, nothing_sent, window_of, is_timed_out, has_ended, is_heard, hears};
-ghost use Rattle.segments.specs.Sender.{wakes};
+ghost use Rattle.segments.specs.Sender.{waits, wakes};
 
 use crate::pieces::Window;
 use crate::step::Turn;
@@ -112,6 +113,19 @@ impl Sender {
         ensures { result ≡ is_timed_out now self.now }
     {
         now.saturating_sub(self.at) >= APDU_SEGMENT_TIMEOUT_MS
+    }
+
+    /// Returns a moment, in milliseconds, before which it waits where it wakes, and hasn't ended.
+    #[tactic(auto, unfolding(crate::specs::Sender::wakes, crate::specs::Sender::has_ended))]
+    pub fn next_due(&self) -> u64
+        ensures waits { Until result (λ now. waits (wakes now self.now).turn ≡ true) }
+        ensures on { Until result (λ now. has_ended now self.now ≡ false) }
+    {
+        if self.sent == 0 || self.acknowledged >= self.count() {
+            0
+        } else {
+            self.at.saturating_add(APDU_SEGMENT_TIMEOUT_MS)
+        }
     }
 
     /// Whether a SegmentACK counts.

@@ -10,5 +10,6 @@ pub mod Busy
 pub mod Silent
 pub mod Fitted
 pub mod Quiet
+pub mod Dues
 -- What the proofs above cite of those below.
 pub use Rattle.server_answers.proofs.remembered as remembered

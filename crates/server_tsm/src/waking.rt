@@ -1,7 +1,9 @@
 //! What a server does when it wakes (5.4.5).
 
-ghost use Rattle.std.specs.Prelude.{◌≡◌, ◌++◌, ◌+◌, ◌&&◌, OnOk, drop};
+ghost use Rattle.std.specs.Prelude.{◌≡◌, ◌++◌, ◌+◌, ◌&&◌, OnOk, drop, true};
 ghost use Rattle.std.specs.List.{flat_map};
+ghost use Rattle.due_times.specs.Until.{Until};
+ghost use Rattle.segments.specs.Sender.{waits};
 ghost use Rattle.server_tsm.specs.Waking.{again, is_quiet, said_on_wake, saying_on_wake, turn_of};
 
 use crate::server::ServerTsm;
@@ -99,12 +101,35 @@ fn waits_at<A: Allocator + Copy>(records: &SlabRecords<A>, place: usize, now: u6
     }
 }
 
+/// Returns a moment, in milliseconds, before which nothing is due of a remembered answer.
+#[tactic(auto, using(crate::proofs::Dues::sending_rules))]
+fn due_of<A: Allocator>(entry: &Record<A>) -> u64
+    ensures { Until result (λ now. waits (turn_of now entry.now) ≡ true) }
+{
+    match &entry.sending {
+        None => u64::MAX,
+        Some(sender) => sender.next_due(),
+    }
+}
+
+/// Returns a moment, in milliseconds, before which nothing is due of the record at this place.
+fn due_at<A: Allocator + Copy>(records: &SlabRecords<A>, place: usize) -> u64
+    ensures { Until result
+        (λ now. is_quiet now (drop (place + 1) records.now) ≡ is_quiet now (drop place records.now)) }
+{
+    match records.at(place) {
+        None => u64::MAX,
+        Some(entry) => due_of(entry),
+    }
+}
+
 impl<E: Executor<A> + Drop, A: Allocator + Copy> ServerTsm<E, A> {
     ghost use Rattle.std.specs.Prelude.{◌≡◌, ◌≤◌, ◌^◌, [], true, IfOk, OnOk, OnErr};
     ghost use Rattle.server_tsm.specs.Server.{committed};
     ghost use Rattle.server_tsm.specs.Steps.{IsPlanned, told_of_plan};
     ghost use Rattle.server_tsm.specs.Waking.{is_quiet, woken};
     ghost use Rattle.profile.specs.Times.{MAX_MOMENT_MS};
+    ghost use Rattle.due_times.specs.Until.{Until};
 
     /// Returns what is said and left where the server wakes at the moment `now`, in milliseconds: windows of answers,
     /// in order of execution.
@@ -156,6 +181,18 @@ impl<E: Executor<A> + Drop, A: Allocator + Copy> ServerTsm<E, A> {
             }
         }
         true
+    }
+
+    /// Returns a moment, in milliseconds, before which nothing is due where the server wakes.
+    #[tactic(auto, using(crate::proofs::Dues::until_rules))]
+    pub fn next_due(&self) -> u64
+        ensures { Until result (λ now. is_quiet now self.now.records ≡ true) }
+    {
+        let mut due = u64::MAX;
+        for place in 0..self.records.len() {
+            due = due.min(due_at(&self.records, place));
+        }
+        due
     }
 
     /// Wakes at the moment `now`, in milliseconds, where nothing is due: nothing is said, and what is too old is

@@ -1,4 +1,5 @@
 mod Quiet
+mod Dues
 mod Stamps
 pub mod Planning
 pub mod Nodes

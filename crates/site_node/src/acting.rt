@@ -3,6 +3,7 @@
 ghost use Rattle.std.specs.Prelude.{◌≡◌, ◌≤◌, ◌⊎◌, ◌↔◌, [], true, IfOk, IfErr};
 ghost use Rattle.primitives.specs.Sound.{IsSoundRequest};
 ghost use Rattle.profile.specs.Times.{MAX_MOMENT_MS};
+ghost use Rattle.due_times.specs.Until.{Until};
 ghost use Rattle.site_node.specs.Node.{IsBefore};
 ghost use Rattle.site_node.specs.Part.{IsClient, IsNoDevice, IsPlanned, downs_of, told_by};
 ghost use Rattle.site_ports.specs.Ports.{NothingIsDue};
@@ -17,7 +18,7 @@ use crate::plan::PartPlan;
 use apdu::Limits;
 use objects::Table;
 use primitives::Request;
-use site_ports::{Draft, SitePort, is_any_due};
+use site_ports::{Draft, SitePort, is_any_due, next_due};
 use std::alloc::Allocator;
 use tags::Fault;
 
@@ -60,6 +61,14 @@ impl<A: Allocator + Copy> SiteNode<A> {
         ensures { (result ≡ true) ↔ IsQuiet now self.now }
     {
         self.part.is_quiet(now) && !is_any_due(self.ports.as_slice(), now)
+    }
+
+    /// Returns a moment, in milliseconds, before which nothing is due where it wakes.
+    #[tactic(auto, using(crate::proofs::Dues::node_rules))]
+    pub fn next_due(&self) -> u64
+        ensures { Until result (λ now. IsQuiet now self.now) }
+    {
+        self.part.next_due().min(next_due(self.ports.as_slice()))
     }
 
     /// Wakes at the moment `now`, in milliseconds, where nothing is due: nothing is said, told or put out, and its

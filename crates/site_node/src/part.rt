@@ -4,6 +4,7 @@ ghost use Rattle.std.specs.Prelude.{◌≡◌, ◌≤◌, ◌⊎◌, [], true, f
 ghost use Rattle.link.specs.Up.{parcel_of};
 ghost use Rattle.primitives.specs.Sound.{IsSoundRequest};
 ghost use Rattle.profile.specs.Times.{MAX_MOMENT_MS};
+ghost use Rattle.due_times.specs.Until.{Until};
 ghost use Rattle.router.specs.Hearing.{IsOverfull, RouterHears};
 ghost use Rattle.router.specs.Plan as routing;
 ghost use Rattle.site_node.specs.Node.{home_of, moment_of};
@@ -173,6 +174,19 @@ impl<A: Allocator + Copy> Part<A> {
             Part::Client(client) => client.is_quiet(now),
             Part::Router(router) => router.has_woken(),
             Part::Manager { .. } => true,
+        }
+    }
+
+    /// Returns a moment, in milliseconds, before which nothing is due where it wakes.
+    #[tactic(auto, using(crate::proofs::Dues::part_rules))]
+    pub(crate) fn next_due(&self) -> u64
+        ensures { Until result (λ now. spec.is_quiet now self.now ≡ true) }
+    {
+        match self {
+            Part::Device(device) => device.next_due(),
+            Part::Client(client) => client.next_due(),
+            Part::Router(router) => { if router.has_woken() { u64::MAX } else { 0 } }
+            Part::Manager { .. } => u64::MAX,
         }
     }
 

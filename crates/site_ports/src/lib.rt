@@ -13,5 +13,6 @@ mod ports;
 pub use draft::{Draft, settle};
 pub use link_site::{SitePort, link_bus};
 pub use ports::{
-    count_at, down_each, down_over, heard_at, is_any_due, register_at, restart_all, wake_all,
+    count_at, down_each, down_over, heard_at, is_any_due, next_due, register_at, restart_all,
+    wake_all,
 };

@@ -6,6 +6,7 @@ ghost use Rattle.link_site.specs.Port.{restarted};
 ghost use Rattle.link_site.specs.Steps as site;
 ghost use Rattle.link.specs.Up.{parcel_if};
 ghost use Rattle.profile.specs.Times.{MAX_MOMENT_MS};
+ghost use Rattle.due_times.specs.Until.{Until};
 ghost use Rattle.site_ports.specs.Drafts.{drafted};
 ghost use Rattle.site_ports.specs.Ports.{AreBefore, CountsAt, DownsEach, DownsOne, HearsAt, IsOneTooLong, NothingIsDue};
 ghost use Rattle.site_ports.specs.Ports.{RegistersAt, Steps, WakesAll, over, places_of};
@@ -210,6 +211,20 @@ pub fn is_any_due<A: Allocator + Copy>(ports: &[SitePort<A>], now: u64) -> bool
         left = rest;
     }
     false
+}
+
+/// Returns a moment, in milliseconds, before which nothing is due at any port where it wakes.
+#[tactic(auto, using(crate::proofs::Dues::until_rules))]
+pub fn next_due<A: Allocator + Copy>(ports: &[SitePort<A>]) -> u64
+    ensures { Until result (λ now. NothingIsDue now ports.now) }
+{
+    let mut due = u64::MAX;
+    let mut left = ports;
+    while let [first, rest @ ..] = left {
+        due = due.min(first.next_due());
+        left = rest;
+    }
+    due
 }
 
 /// A port wakes.
