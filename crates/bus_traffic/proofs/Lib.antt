@@ -8,3 +8,4 @@ pub mod TellingLaws
 pub mod KeepingLaws
 pub mod KnownLaws
 pub mod TurnLaws
+pub mod ForgettingLaws

@@ -28,7 +28,7 @@ youngest_last [] s = refl
 youngest_last (x ∷ xs) s = ap (λ r. Some (later_of x.stamp r)) (youngest_last xs s)
     ∙ ap (λ n. Some n) (later_both x.stamp s.stamp (youngest xs))
 
-known_first : {A : Type 0} (octets : List ℕ) (k : Known A) (ks : List (Known A)) → bytes_eq k.octets octets ≡ true
+pub known_first : {A : Type 0} (octets : List ℕ) (k : Known A) (ks : List (Known A)) → bytes_eq k.octets octets ≡ true
     → known_of octets (k ∷ ks) ≡ Some k.stamp
 known_first octets k ks e = ap (λ b. if b then Some k.stamp else known_of octets ks) e
 
@@ -50,7 +50,7 @@ not_same xs ys n = elim (same_is xs ys) [
 ]
 
 -- what is known of the octets that are put out
-known_same : {A : Type 0} (octets : List ℕ) (new : Known A) (ks : List (Known A)) → new.octets ≡ octets
+pub known_same : {A : Type 0} (octets : List ℕ) (new : Known A) (ks : List (Known A)) → new.octets ≡ octets
     → known_of octets (learned new ks) ≡ Some (later_of new.stamp (known_of octets ks))
 known_same octets new [] e = known_first octets new [] (are_same new.octets octets e)
 known_same octets new (k ∷ ks) e = elim (same_is k.octets new.octets) [
@@ -66,7 +66,7 @@ known_same octets new (k ∷ ks) e = elim (same_is k.octets new.octets) [
 ]
 
 -- .. and of others
-known_other : {A : Type 0} (octets : List ℕ) (new : Known A) (ks : List (Known A)) → new.octets ≢ octets
+pub known_other : {A : Type 0} (octets : List ℕ) (new : Known A) (ks : List (Known A)) → new.octets ≢ octets
     → known_of octets (learned new ks) ≡ known_of octets ks
 known_other octets new [] n = known_next octets new [] (not_same new.octets octets n)
 known_other octets new (k ∷ ks) n = elim (same_is k.octets new.octets) [

@@ -1,7 +1,7 @@
 -- What was put out on a bus, and how a frame that is heard there is judged.
-use Rattle.std.specs.Prelude.{◌≤◌, ◌<◌, ℕ, ◌-◌, ◌==◌, ◌&&◌, max, not, Bool, true, false, List, [], ◌∷◌, ◌++◌, length}
+use Rattle.std.specs.Prelude.{◌≡◌, ◌≤◌, ◌<◌, ℕ, ◌-◌, ◌==◌, ◌&&◌, max, not, Bool, true, false, List, [], ◌∷◌, ◌++◌}
 use Rattle.std.specs.Prelude.{Option, Some, None, Result, Ok, Err, bytes_eq, replicate, slice_index_or, slice_set}
-use Rattle.std.specs.Prelude.{if◌then◌else◌}
+use Rattle.std.specs.Prelude.{if◌then◌else◌, length}
 use Rattle.std.specs.List.{filter}
 use Rattle.std.specs.List.Sorted.{IsNonDecreasingBy}
 use Rattle.profile.specs.Ages.{is_heard_in_time}
@@ -39,6 +39,24 @@ judged now octets all = judged_by now (youngest (equals octets all))
 abbrev pub known_of : {A : Type 0} → (octets : List ℕ) → List (Known A) → Option ℕ
 known_of octets [] = None
 known_of octets (k ∷ ks) = if bytes_eq k.octets octets then Some k.stamp else known_of octets ks
+
+-- nothing is known
+abbrev pub is_unknown : Option ℕ → Bool
+is_unknown None = true
+is_unknown (Some stamp) = false
+
+-- whether each frame is known once, by its octets
+abbrev pub are_known_once : {A : Type 0} → List (Known A) → Bool
+are_known_once [] = true
+are_known_once (k ∷ ks) = is_unknown (known_of k.octets ks) && are_known_once ks
+
+-- each frame is known once
+abbrev pub AreKnownOnce : {A : Type 0} → List (Known A) → Type 0
+AreKnownOnce ks = are_known_once ks ≡ true
+
+-- what is known of those that may still be heard
+abbrev pub young_known : {A : Type 0} → (now : ℕ) → List (Known A) → List (Known A)
+young_known now ks = filter (λ k. is_heard_in_time k.stamp now) ks
 
 -- what is known by a sending alone
 abbrev pub known_by : {A : Type 0} → Sending A → Known A

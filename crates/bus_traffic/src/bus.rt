@@ -3,7 +3,7 @@
 ghost use Rattle.std.specs.Prelude.{◌≡◌, ◌≤◌, ◌<◌, ◌+◌, ◌++◌, ◌∷◌, [], Some, length, slice_get, true};
 ghost use Rattle.std.specs.Vec.{vec_capacity, vec_len};
 ghost use Rattle.bus_traffic.specs.Sendings as spec;
-ghost use Rattle.bus_traffic.specs.Sendings.{AreInTurn, IsBehindLast, delivered, learned};
+ghost use Rattle.bus_traffic.specs.Sendings.{AreInTurn, AreKnownOnce, IsBehindLast, delivered, learned};
 
 use crate::ear::Ear;
 use crate::hearing::{Hearing, hear};
@@ -20,14 +20,18 @@ pub struct Bus<A: Allocator> {
     pub net: u16,
     /// An ear for each station on it.
     pub ears: Vec<Ear, A>,
-    /// What was ever put out: each frame once.
+    /// What was ever put out: each frame once, until it is too old to be heard and forgotten.
     pub known: Vec<Known<A>, A>,
     /// What may still be heard, in the order in which it was put out.
     pub recent: Vec<RecentBox<A>, A>,
     /// Whether the places of these say the same order: one is then found by halves.
     pub(crate) is_in_turn: bool,
     ghost turns: { is_in_turn ≡ true → AreInTurn recent.items },
+    ghost once: { AreKnownOnce known.items },
 }
+
+/// So many frames more than twice those that it keeps of what was put out must be known before any is forgotten.
+const MORE_KNOWN: usize = 16;
 
 /// Puts a value behind others, where there is room.
 fn push_reserved<T: Drop, A: Allocator>(list: &mut Vec<T, A>, value: T)
@@ -72,6 +76,13 @@ fn keep_young<A: Allocator>(recent: &mut Vec<RecentBox<A>, A>, now: u64)
     ensures room { vec_capacity recent.old ≤ vec_capacity recent.new }
 {
     recent.retain(|held| is_heard_in_time(held.recent().sending.stamp, now));
+}
+
+/// Forgets what is known of frames that are too old to be heard at the moment `now`, in milliseconds.
+fn keep_young_known<A: Allocator>(known: &mut Vec<Known<A>, A>, now: u64)
+    ensures { known.new.items ≡ spec.young_known now known.old.items }
+{
+    known.retain(|one| is_heard_in_time(one.stamp, now));
 }
 
 /// Whether the last of these, if there is any, wasn't put out behind another, as their places say.
@@ -155,6 +166,7 @@ impl<A: Allocator + Copy> Bus<A> {
     ghost use Rattle.std.specs.Prelude.{◌≡◌, ◌<◌, ◌+◌, ℕ, Some, IfOk, OnOk, OnErr, length, slice_get};
     ghost use Rattle.bus_traffic.specs.declared.ear.Ear.{Ear};
     ghost use Rattle.bus_traffic.specs.Bus.{HasRoom, IsHearing, bus_anew, bus_of, heard_on, joined, put_out, restarted};
+    ghost use Rattle.bus_traffic.specs.Forgetting.{ForgetsKnown, ForgetsOn};
 
     /// A bus without ears, on which nothing was put out.
     pub fn new(alloc: A, net: u16) -> Self
@@ -203,6 +215,32 @@ impl<A: Allocator + Copy> Bus<A> {
         let Put { recent, known } = put;
         learn(&mut self.known, known);
         self.is_in_turn = follow(&mut self.recent, recent, self.is_in_turn, now);
+    }
+
+    /// Forgets what is known of frames that are too old to be heard at the moment `now`, in milliseconds, once twice as
+    /// many are known as it keeps of those that were put out, and 16 more.
+    fn forget_known(&mut self, now: u64)
+        ensures { ForgetsKnown now (bus_of self.old) (bus_of self.new) }
+    {
+        let few = self
+            .recent
+            .len()
+            .saturating_mul(2)
+            .saturating_add(MORE_KNOWN);
+        if self.known.len() < few {
+            return;
+        }
+        keep_young_known(&mut self.known, now);
+    }
+
+    /// Forgets what is known of frames that are too old to be heard at the moment `now`, in milliseconds, once there is
+    /// much of it, so that each frame is looked at a few times for each that was put out. It takes no memory. Whatever
+    /// bus this is kept of, what is left is kept of it. That frames were put out it forgets by itself, where the next
+    /// one is.
+    pub fn forget(&mut self, now: u64)
+        ensures { ForgetsOn now (bus_of self.old) (bus_of self.new) }
+    {
+        self.forget_known(now);
     }
 
     /// Returns what an ear of the bus makes of octets that come to it at the moment `now`, in milliseconds: the frames

@@ -4,13 +4,14 @@
 //! To the layer above it promises: a frame that an ear hears whole is judged as its youngest sending on that bus says:
 //! it is forged where nobody put its octets out, too old where each sending of them is, and else it carries the
 //! youngest one's stamp. Equal frames are known once, so that an idle ring stops growing; and what may still be heard
-//! is found without a walk through all that was ever sent. No station is known here.
+//! is found without a walk through all that was ever sent. What is too old to be heard may be forgotten: a frame that
+//! may be heard is judged as before. No station is known here.
 //!
 //! - `ear`: what a station on a bus has heard of a frame, and when.
 //! - `sending`: a frame that was put out, where it was delivered, and what is known of equal ones.
 //! - `judging`: how a frame is judged.
 //! - `hearing`: the frames that octets end at an ear, each judged.
-//! - `bus`: a bus, its ears, and what is known of it; what is put out, and what is delivered.
+//! - `bus`: a bus, its ears, and what is known of it; what is put out, delivered and forgotten.
 //! - `copying`: copies of a bus.
 //! - `finding`: which ear is meant.
 //! - `telling`: which frame an ear is told next.

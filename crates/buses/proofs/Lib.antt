@@ -3,3 +3,4 @@ pub mod RestartLaws
 pub mod FindingLaws
 pub mod KnownLaws
 pub mod HeardLaws
+pub mod ForgetLaws

@@ -3,3 +3,4 @@ pub mod Buses
 pub mod Finding
 pub mod Hearing
 pub mod Laws
+pub mod Forgetting

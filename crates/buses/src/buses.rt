@@ -1,8 +1,9 @@
 //! The buses of a world.
 
-ghost use Rattle.std.specs.Prelude.{◌≡◌, ◌+◌, ℕ, IfOk, OnOk, map};
+ghost use Rattle.std.specs.Prelude.{◌≡◌, ◌+◌, ℕ, IfOk, OnOk, length, map};
 ghost use Rattle.std.specs.List.{AllByRecursion};
 ghost use Rattle.bus_traffic.specs.Bus.{HasRoom, bus_of};
+ghost use Rattle.bus_traffic.specs.Forgetting.{ForgetsOn, KeepsEach};
 ghost use Rattle.buses.specs.Hearing as hearing;
 ghost use Rattle.buses.specs.Puts as spec;
 
@@ -89,6 +90,17 @@ fn restart_each<A: Allocator + Copy>(buses: &mut [Bus<A>], net: u16, address: u8
     }
 }
 
+/// Each bus forgets what is too old to be heard at the moment `now`, in milliseconds.
+#[tactic(auto, using(crate::proofs::ForgetLaws::forget_rules))]
+fn forget_each<A: Allocator + Copy>(buses: &mut [Bus<A>], now: u64)
+    ensures left { KeepsEach (ForgetsOn now) (map (λ o. bus_of o) buses.old) (map (λ o. bus_of o) buses.new) }
+    ensures len { length buses.new ≡ length buses.old }
+{
+    for place in 0..buses.len() {
+        buses[place].forget(now);
+    }
+}
+
 /// Equal buses.
 fn copies_of<A: Allocator + Copy>(alloc: A, buses: &[Bus<A>]) -> Result<Vec<Bus<A>, A>, AllocError>
     ensures { IfOk result (λ copies. map (λ o. bus_of o) copies.items ≡ map (λ o. bus_of o) buses.now) }
@@ -108,6 +120,7 @@ impl<A: Allocator + Copy> Buses<A> {
     ghost use Rattle.bus_traffic.specs.declared.ear.Ear.{Ear};
     ghost use Rattle.buses.specs.Buses.{HaveRoom, buses_of};
     ghost use Rattle.buses.specs.Finding.{HasEarAt, HasEarOf, HasNoEarOf};
+    ghost use Rattle.buses.specs.Forgetting.{ForgetOnEach};
     ghost use Rattle.buses.specs.Hearing.{HearsAt, ears_anew, heard_at};
     ghost use Rattle.buses.specs.Puts.{put_on, put_one};
 
@@ -212,6 +225,15 @@ impl<A: Allocator + Copy> Buses<A> {
         ensures room { (n : ℕ) → HaveRoom n self.old → HaveRoom n self.new }
     {
         restart_each(&mut self.buses, net, address, now);
+    }
+
+    /// Each bus forgets what is too old to be heard at the moment `now`, in milliseconds: that such frames were put
+    /// out, and what is known of them. Whatever buses these are kept of, what is left is kept of them. It takes no
+    /// memory.
+    pub fn forget(&mut self, now: u64)
+        ensures { ForgetOnEach now (buses_of self.old) (buses_of self.new) }
+    {
+        forget_each(&mut self.buses, now);
     }
 
     /// The frame that an ear is told next at the moment `now`, in milliseconds: the first, from whose turn it is on and

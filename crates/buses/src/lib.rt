@@ -3,11 +3,12 @@
 //!
 //! To the layer above it promises: frames are put out one after another, each on the bus of its network and in its
 //! place behind all that was put out, once the memory for them is there; what an ear hears is that of the very station
-//! that is named; and each thing that is known on a bus was put out there. No station is known here.
+//! that is named; each thing that is known on a bus was put out there; and what is too old to be heard may be
+//! forgotten. No station is known here.
 //!
 //! - `net_put`: a frame that is to be put out, with all memory of its own.
 //! - `puts`: frames that are to be put out, one after another.
-//! - `buses`: the buses, what is put out on them, and what is heard there.
+//! - `buses`: the buses, what is put out on them, what is heard there, and what is forgotten.
 //! - `laws`: what holds of all that is known, for the proofs of the layers above.
 #![tactic(auto)]
 

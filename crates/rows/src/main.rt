@@ -12,6 +12,7 @@ fn main(rt: HostRuntime) -> io::Result<()> {
     run_folder::<rows_services::Services>(&rt, "services")?;
     run_folder::<rows_objects::Objects>(&rt, "objects")?;
     run_folder::<rows_buses::BusRows>(&rt, "buses")?;
+    run_folder::<rows_past::PastRows>(&rt, "past")?;
     run_folder::<rows_site::Sites>(&rt, "site")?;
     run_folder::<rows_site_text::Texts>(&rt, "site_text")?;
     run_folder::<rows_check::Checks>(&rt, "check")?;

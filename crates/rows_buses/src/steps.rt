@@ -6,6 +6,7 @@
 //! - `2.16 restarts`.
 //! - `told`, `told from 1 2 before 5`: which frames are told to which ears, from the frame 1 at the ear of the place 2
 //!   on, and before the frame 5.
+//! - `2 forgets`: the bus of network 2 forgets what is too old to be heard.
 //! - `known 2`: how many frames are known of network 2, and how many of them may still be told.
 
 use bus_traffic::Telling;
@@ -50,6 +51,9 @@ pub(crate) enum Step {
     Told {
         from: Telling,
         before: u64,
+    },
+    Forget {
+        net: u16,
     },
     Known {
         net: u16,
@@ -149,6 +153,9 @@ pub(crate) fn step_of(alloc: Global, words: &str) -> Result<(Moments, Step), Sto
         "told" => told(behind)?,
         "known" => Step::Known {
             net: parse_number(behind)?,
+        },
+        net if behind == "forgets" => Step::Forget {
+            net: parse_number(net)?,
         },
         _ => done(alloc, station(first)?, behind)?,
     };

@@ -162,6 +162,17 @@ impl<A: Allocator + Copy> Wires<A> {
         Ok(out)
     }
 
+    /// A bus forgets.
+    fn forget(&mut self, net: u16, now: u64) -> Result<(), Stop> {
+        let Some(place) = self.place_of(net) else {
+            return Err(Stop::Unread(Part::Asked));
+        };
+        if let Some(bus) = self.buses.get_mut(place) {
+            bus.forget(now);
+        }
+        Ok(())
+    }
+
     /// How many frames are known of a bus, and how many of them may still be told.
     fn known(&self, alloc: Global, net: u16) -> Result<String, Stop> {
         let Some(bus) = self.buses.as_slice().iter().find(|bus| bus.net == net) else {
@@ -202,6 +213,10 @@ impl<A: Allocator + Copy> Wires<A> {
             }
             Step::Restart { at } => {
                 self.restart(*at, now)?;
+                None
+            }
+            Step::Forget { net } => {
+                self.forget(*net, now)?;
                 None
             }
             Step::Told { from, before } => Some(self.told(alloc, *from, *before, now)?),

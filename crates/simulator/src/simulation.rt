@@ -197,6 +197,13 @@ impl<A: Allocator + Copy> World<A> {
         Ok(World { internetwork })
     }
 
+    /// The same without the promise, to look at.
+    pub fn internetwork(&self) -> &Internetwork<A>
+        ensures same { result.now ≡ self.now }
+    {
+        &self.internetwork
+    }
+
     /// The same without the promise, for whoever lets happen what no event does.
     pub fn into_internetwork(self) -> Internetwork<A>
         ensures same { result ≡ self }

@@ -1,5 +1,5 @@
 -- Items of which some are forgotten: what is found, put behind, cut off, marked and forgotten.
-use Rattle.std.proofs.Common.{◌≡◌, ◌∙◌, refl, sym, ap, subst, arith, inl, inr, ℕ, zero, suc, ◌+◌, ◌-◌, ◌<◌, ◌≤◌, ◌^◌, true, false, List, [], ◌∷◌, ◌++◌, Option, Some, None, length, take, drop}
+use Rattle.std.proofs.Common.{◌≡◌, ◌∙◌, refl, sym, ap, subst, arith, inl, inr, ℕ, zero, suc, ◌+◌, ◌-◌, ◌<◌, ◌≤◌, ◌^◌, true, false, List, [], ◌∷◌, ◌++◌, Option, Some, None, length, max, take, drop}
 use Rattle.std.proofs.Math.Nat.{min-eq_left, min-eq_right}
 use Rattle.std.proofs.Math.Seq.{drop-append_seam}
 use Rattle.std.proofs.lemmas.Bool.{leb-false, lt-leb}
@@ -235,5 +235,12 @@ module _ {A : Type 0} (now first : ℕ) (kept new : List (Item A)) (n : ℕ) (wi
       let cut_is : length new ≡ length kept - n =
       ap (λ (l : List (Item A)). length l) (turned n kept new within cut) ∙ drop_long n kept within in
       omega (arith, cut_is, within, lt)
+
+  -- .. and the last so many are kept
+  pub left_latest : (most latest : ℕ) → n ≤ most → most ≤ length kept - latest →
+      first + n ≤ max first (length (behind_blanks (first + n) new) - latest)
+  left_latest most latest le at =
+      let count : length (behind_blanks (first + n) new) ≡ first + length kept = as_many ∙ long first kept in
+      omega (arith, le, at, count)
 
 pub ruleset forgetting_rules = (all_kept, forgotten, as_many, left_as, fits)

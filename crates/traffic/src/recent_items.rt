@@ -1,6 +1,6 @@
 //! Items by their numbers, of which those that are too old to be heard may be forgotten.
 
-ghost use Rattle.std.specs.Prelude.{◌≡◌, ◌≤◌, IfOk, false, length, take};
+ghost use Rattle.std.specs.Prelude.{◌≡◌, ◌≤◌, ◌-◌, IfOk, false, length, take};
 ghost use Rattle.std.specs.List.{AllByRecursion};
 ghost use Rattle.traffic.specs.Seeking.{is_young};
 
@@ -33,10 +33,20 @@ impl<A: Allocator> Model for RecentItems<A> {
     ghost invariant = { λ s. (s.forgotten ≡ blank) × (s.first + length s.kept.items < 2 ^ 64) };
 }
 
+/// How many of these, but for the last so many, were put out too long ago to be heard at the moment `now`, in
+/// milliseconds.
+fn most_old<A: Allocator>(items: &[Item<A>], latest: usize, now: u64) -> usize
+    ensures bound { result ≤ length items.now }
+    ensures latest { result ≤ length items.now - latest }
+{
+    first_young(items, now).min(items.len().saturating_sub(latest))
+}
+
 /// How many of these, from the first on and at most so many, are too old to be heard at the moment `now`, in
 /// milliseconds.
 fn old_count<A: Allocator>(items: &[Item<A>], most: usize, now: u64) -> usize
     ensures within { result ≤ length items.now }
+    ensures most { result ≤ most }
     ensures old { AllByRecursion (λ i. is_young now i ≡ false) (take result items.now) }
 {
     let mut count = 0;
@@ -62,7 +72,7 @@ fn copies_of<A: Allocator + Copy>(
 
 impl<A: Allocator + Copy> RecentItems<A> {
     ghost use Rattle.std.specs.Prelude.{◌≡◌, ◌≤◌, ◌<◌, [], Some, None, IfErr, IfOk, IfSome, OnErr, OnOk};
-    ghost use Rattle.std.specs.Prelude.{drop, length, slice_get};
+    ghost use Rattle.std.specs.Prelude.{◌-◌, drop, length, max, slice_get};
     ghost use Rattle.traffic.specs.Recent.{IsMarkedIn, KeepsRecent, cut_items, with_item};
     ghost use Rattle.traffic.specs.Seeking.{Waits};
 
@@ -181,16 +191,17 @@ impl<A: Allocator + Copy> RecentItems<A> {
         }
     }
 
-    /// Forgets what is too old to be heard at the moment `now`, in milliseconds, once that is half of what is kept, so
-    /// that each item is moved once for each that was put out.
+    /// Forgets what is too old to be heard at the moment `now`, in milliseconds, but for the last so many, once that is
+    /// half of what is kept, so that each item is moved once for each that was put out.
     #[tactic(auto, using(crate::proofs::RecentLaws::forgetting_rules))]
-    pub fn forget(&mut self, now: u64)
+    pub fn forget(&mut self, latest: usize, now: u64)
         ensures keeps { KeepsRecent now self.old.items self.new.items }
         ensures count { length self.new.items ≡ length self.old.items }
         ensures first { self.old.first ≤ self.new.first }
         ensures kept { drop self.new.first self.new.items ≡ drop self.new.first self.old.items }
+        ensures latest { self.new.first ≤ max self.old.first (length self.new.items - latest) }
     {
-        let most = first_young(self.kept.as_slice(), now);
+        let most = most_old(self.kept.as_slice(), latest, now);
         if most == 0 || most < self.kept.len() - most {
             return;
         }

@@ -9,6 +9,7 @@ pub mod MacLaws
 pub mod HearingLaws
 pub mod FreshLaws
 pub mod CopyLaws
+pub mod Dues
 -- What the proofs above cite of those below.
 pub use Rattle.world_log.proofs.carry_world as carry_world
 pub use Rattle.world_sites.proofs as world_sites

@@ -1,6 +1,6 @@
 -- What is left of a world where entries are handed out, and where it forgets, is kept of it.
 use Rattle.std.proofs.Common.{◌≡◌, ◌∙◌, ◌⊎◌, refl, sym, ap, subst, arith, inl, inr, false, ℕ, ◌+◌, ◌≤◌, List, [], ◌∷◌, ◌++◌, drop, length, Result, Ok, Err, OnErr, OnOk}
-use Rattle.std.proofs.lemmas.List.{length-append, length-map, map-append}
+use Rattle.std.proofs.lemmas.List.{length-map, map-append}
 use Rattle.bus_traffic.specs.Bus.{BusState}
 use Rattle.buses.specs.Puts.{BusesState}
 use Rattle.inside.specs.Inside.{Said}
@@ -12,7 +12,10 @@ use Rattle.world.proofs.ActingLaws.{seen}
 use Rattle.world.specs.Keeping as past
 use Rattle.world.specs.Keeping.{Keeps, handed_out}
 use Rattle.world.specs.Laws.{AreSteady}
-use Rattle.world.specs.Old.{KeepsBus, KeepsBuses, KeepsEach, KeepsItem, KeepsItems}
+use Rattle.bus_traffic.specs.Forgetting.{KeepsBus, KeepsEach}
+use Rattle.buses.proofs.ForgetLaws.{left_keeps}
+use Rattle.buses.specs.Forgetting.{ForgetOnEach, KeepsBuses}
+use Rattle.world.specs.Old.{KeepsItem, KeepsItems}
 use Rattle.world.specs.World.{WorldState}
 use Rattle.world_log.specs.Growing.{AreFromMacs}
 use Rattle.world_log.specs.Kept.{all_said, said_of}
@@ -61,8 +64,8 @@ macs_kept now [] (j ∷ js) macs k = absurd k
 macs_kept now (i ∷ is) [] macs k = absurd k
 macs_kept now (i ∷ is) (j ∷ js) macs k = (mac_kept now i j macs.0 k.0, macs_kept now is js macs.1 k.1)
 
-module _ {A : Type 0} (site : Parts A) (moment : ℕ) (ns : List (NodeState A)) (l0 l1 : LogState A) (b : BusesState A)
-    (w : WorldState A) (view : seen site moment ns l0 b ≡ w) where
+module _ {A : Type 0} (site : Parts A) (moment : ℕ) (ns : List (NodeState A)) (l0 l1 : LogState A)
+    (b0 b1 : BusesState A) (w : WorldState A) (view : seen site moment ns l0 b0 ≡ w) where
   -- all nodes stand where it forgets
   pub forgotten_stands : AreSteady site moment ns l0.items → Forgets moment l0 l1 → AreSteady site moment ns l1.items
   forgotten_stands steady f = record {
@@ -72,36 +75,35 @@ module _ {A : Type 0} (site : Parts A) (moment : ℕ) (ns : List (NodeState A)) 
   }
 
   -- .. and what is left is kept
-  pub forgotten_keeps : AreSteady site moment ns l0.items → Forgets moment l0 l1 → Keeps [] w (seen site moment ns l1 b)
-  forgotten_keeps steady f = subst (λ (x : WorldState A). Keeps [] x (seen site moment ns l1 b)) view (record {
+  pub forgotten_keeps : AreSteady site moment ns l0.items → Forgets moment l0 l1 → ForgetOnEach moment b0 b1 →
+      Keeps [] w (seen site moment ns l1 b1)
+  forgotten_keeps steady f g = subst (λ (x : WorldState A). Keeps [] x (seen site moment ns l1 b1)) view (record {
     site = refl;
     moment = refl;
     nodes = refl;
     items = items_kept moment l0.items l1.items steady.from f.items;
-    buses = buses_same moment b;
+    buses = left_keeps moment b0 b1 g;
     keys = f.keys;
     history = sym f.history;
+    first_entry = let none : l0.first_entry ≡ l0.first_entry + 0 = omega arith in f.first_entry ∙ none;
     gone = all_said f.gone;
     said = ap (λ (ms : List (SaidMessage A)). all_said ms) f.said ∙ map-append (λ m. said_of m) f.gone l1.said;
+    first_said = f.first_said
+        ∙ ap (λ (n : ℕ). l0.first_said + n) (sym (length-map f.gone (λ m. said_of m)));
   })
 
-  -- .. with all behind what is forgotten, and each number stays
-  pub forgotten_so : AreSteady site moment ns l0.items → Forgets moment l0 l1 → past.Forgets w (seen site moment ns l1 b)
-  forgotten_so steady f = record {
-    keeps = forgotten_keeps steady f;
+  -- .. with all behind what is forgotten
+  pub forgotten_so : AreSteady site moment ns l0.items → Forgets moment l0 l1 → ForgetOnEach moment b0 b1 →
+      past.Forgets w (seen site moment ns l1 b1)
+  forgotten_so steady f g = record {
+    keeps = forgotten_keeps steady f g;
     first_item = subst (λ (x : WorldState A). x.first_item ≤ l1.first_item) view f.first_item;
     left = subst (λ (x : WorldState A). drop l1.first_item l1.items ≡ drop l1.first_item x.items) view f.left;
-    first_entry = f.first_entry ∙ ap (λ (x : WorldState A). x.first_entry) view;
-    messages =
-        let all : length l0.said ≡ length f.gone + length l1.said =
-        ap (λ (ms : List (SaidMessage A)). length ms) f.said ∙ length-append f.gone l1.said in
-        let one : length (all_said l0.said) ≡ length l0.said = length-map l0.said (λ m. said_of m) in
-        let more : length (all_said l1.said) ≡ length l1.said = length-map l1.said (λ m. said_of m) in
-        let count : l1.first_said + length (all_said l1.said) ≡ l0.first_said + length (all_said l0.said) =
-        omega (arith, all, one, more, f.first_said) in
-        count ∙ ap (λ (x : WorldState A). x.first_said + length x.said) view;
+    buses = subst (λ (x : WorldState A). ForgetOnEach x.moment x.buses b1) view g;
   }
 
+module _ {A : Type 0} (site : Parts A) (moment : ℕ) (ns : List (NodeState A)) (l0 l1 : LogState A) (b : BusesState A)
+    (w : WorldState A) (view : seen site moment ns l0 b ≡ w) where
   -- entries were handed out, or nothing has changed
   pub handed_so : {R E : Type 0} (r : Result R E) → OnOk r (l1 ≡ log.handed_out l0) →
       OnOk r (seen site moment ns l1 b ≡ handed_out w)

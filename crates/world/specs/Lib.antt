@@ -3,7 +3,9 @@ pub mod Acting
 pub mod Hearing
 pub mod Step
 pub mod Doing
+pub mod Dues
 pub mod Refusals
+pub mod Resting
 pub mod Laws
 pub mod Old
 pub mod Keeping

@@ -1,13 +1,14 @@
 //! What a node of a world does: planned by it, and then done with all that grows by it.
 
-ghost use Rattle.std.specs.Prelude.{◌≡◌, ◌≤◌, IfErr, OnErr, OnOk, length};
+ghost use Rattle.std.specs.Prelude.{◌≡◌, ◌<◌, ◌≤◌, IfErr, OnErr, OnOk, length};
 ghost use Rattle.buses.specs.Buses as on_buses;
 ghost use Rattle.buses.specs.Puts.{put_on};
 ghost use Rattle.profile.specs.Times.{MAX_MOMENT_MS};
-ghost use Rattle.world_log.specs.site_node.Node.{node_places};
+ghost use Rattle.world_log.specs.site_node.Node.{IsBefore, node_places};
 ghost use Rattle.world_log.specs.site_node.Plan.{left_by};
-ghost use Rattle.world_log.specs.site_node.Steps.{IsQuiet};
+ghost use Rattle.world_log.specs.site_node.Steps.{IsQuiet, NodeWakes, nothing_told};
 ghost use Rattle.world.specs.Doing.{HasRested, IsDone, Logs, MayBeDone, told_of};
+ghost use Rattle.world.specs.Dues.{IsDueFrom};
 ghost use Rattle.world.specs.Refusals.{Of};
 ghost use Rattle.world_log.specs.Growing.{frames_at};
 ghost use Rattle.world_log.specs.Log.{GoesOn, caused, log_of};
@@ -15,6 +16,7 @@ ghost use Rattle.world_log.specs.node_laws.Stands.{Stands};
 
 use crate::internetwork::Internetwork;
 use buses::Buses;
+use due_times::DueTimes;
 use std::alloc::Allocator;
 use std::mem;
 use tags::{Fault, Items};
@@ -105,6 +107,69 @@ fn act<A: Allocator + Copy>(
     done
 }
 
+/// The same, and from then on it is known when anything is due of the node at its place.
+///
+/// # Errors
+/// `Memory` alone. All is then as it was.
+fn act_at<A: Allocator + Copy>(
+    alloc: A,
+    log: &mut WorldLog<A>,
+    buses: &mut Buses<A>,
+    node: &mut SiteNode<A>,
+    dues: &mut DueTimes<A>,
+    place: usize,
+    plan: PartPlan<A>,
+    draft: &mut Draft<A>,
+    cause: Cause<A>,
+    now: u64,
+) -> Result<(), Fault>
+    requires greatest { now ≤ MAX_MOMENT_MS }
+    requires stands { Stands now node.old }
+    requires planned { MayBeDone now plan draft.old node.old }
+    requires there { place < length dues.old }
+    ensures left { OnOk result (node.new ≡ left_by now plan draft.old.changes.items node.old) }
+    ensures logs { OnOk result
+        (Logs now node.old (told_of plan draft.old) (caused cause (log_of log.old)) (log_of log.new)) }
+    ensures puts { OnOk result (on_buses.buses_of buses.new ≡ put_on now (length log.old.items.items)
+        (frames_at (node_places node.old) draft.old.out) (on_buses.buses_of buses.old)) }
+    ensures due { OnOk result (IsDueFrom place node.new dues.old dues.new) }
+    ensures cause { IfErr result (λ fault. fault ≡ Fault.Memory) }
+    ensures unchanged { OnErr result (node.new ≡ node.old) }
+    ensures same { OnErr result (log_of log.new ≡ log_of log.old) }
+    ensures quiet { OnErr result (on_buses.buses_of buses.new ≡ on_buses.buses_of buses.old) }
+    ensures kept { OnErr result (dues.new ≡ dues.old) }
+{
+    act(alloc, log, buses, node, plan, draft, cause, now)?;
+    put_due(node, dues, place);
+    Ok(())
+}
+
+/// The node of a place wakes, where nothing is due of it, and from then on it is known when anything is.
+fn rest_at<A: Allocator + Copy>(
+    node: &mut SiteNode<A>,
+    dues: &mut DueTimes<A>,
+    place: usize,
+    now: u64,
+)
+    requires greatest { now ≤ MAX_MOMENT_MS }
+    requires before { IsBefore now node.old }
+    requires quiet { IsQuiet now node.old }
+    requires there { place < length dues.old }
+    ensures wakes { NodeWakes now node.old nothing_told node.new }
+    ensures due { IsDueFrom place node.new dues.old dues.new }
+{
+    node.wake_quietly(now);
+    put_due(node, dues, place);
+}
+
+/// Keeps when anything is due of the node of a place.
+fn put_due<A: Allocator + Copy>(node: &SiteNode<A>, dues: &mut DueTimes<A>, place: usize)
+    requires there { place < length dues.old }
+    ensures { IsDueFrom place node.now dues.old dues.new }
+{
+    dues.set(place, node.next_due());
+}
+
 impl<A: Allocator + Copy> Internetwork<A> {
     /// The node at a place wakes, where nothing is due of it. It takes no memory.
     pub(crate) fn rest(&mut self, place: usize)
@@ -112,7 +177,7 @@ impl<A: Allocator + Copy> Internetwork<A> {
         ensures rested { Of place self.old (HasRested self.old self.new place) }
     {
         let now = self.moment;
-        self.nodes[place].wake_quietly(now);
+        rest_at(&mut self.nodes[place], &mut self.dues, place, now);
     }
 
     /// The node at a place does what it planned, once what the event is was written down.
@@ -132,11 +197,13 @@ impl<A: Allocator + Copy> Internetwork<A> {
         ensures unchanged { OnErr result (self.new ≡ self.old) }
     {
         let (alloc, now) = (self.alloc, self.moment);
-        act(
+        act_at(
             alloc,
             &mut self.log,
             &mut self.buses,
             &mut self.nodes[place],
+            &mut self.dues,
+            place,
             plan,
             draft,
             cause,

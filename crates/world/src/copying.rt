@@ -3,6 +3,7 @@
 ghost use Rattle.std.specs.Prelude.{◌≡◌, IfErr, IfOk};
 
 use crate::internetwork::Internetwork;
+use due_times::DueTimes;
 use primitives::copy_all;
 use site_parts::Parts;
 use std::alloc::{AllocError, Allocator};
@@ -49,6 +50,7 @@ impl<A: Allocator + Copy> Internetwork<A> {
     {
         let site = site_of(self.alloc, &self.site)?;
         let nodes = nodes_in(self.alloc, self.nodes.as_slice())?;
+        let dues = DueTimes::new(self.alloc, nodes.len())?;
         let directory = Directory::new(self.alloc, nodes.as_slice())?;
         let buses = self.buses.copy(self.alloc)?;
         let log = self.log.copy(self.alloc)?;
@@ -57,6 +59,7 @@ impl<A: Allocator + Copy> Internetwork<A> {
             site,
             moment: self.moment,
             nodes,
+            dues,
             directory,
             buses,
             log,

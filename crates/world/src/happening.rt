@@ -3,6 +3,7 @@
 ghost use Rattle.std.specs.Prelude.{◌≡◌, IfErr, IfOk, OnErr, OnOk};
 ghost use Rattle.world.specs.Laws.{Stands};
 ghost use Rattle.world.specs.Refusals.{HappeningIsRefused, IsRefused};
+ghost use Rattle.world.specs.Resting.{RestsIfQuiet};
 ghost use Rattle.world.specs.Step.{Happens, HasName, IsSoundEvent, IsSoundHappening, Steps};
 ghost use Rattle.world_sites.specs.Finding.{IsNobody};
 
@@ -67,13 +68,15 @@ impl<A: Allocator + Copy> Internetwork<A> {
         done
     }
 
-    /// An event happens, or is refused: its node is looked up by its name.
+    /// An event happens, or is refused: its node is looked up by its name. A wake at which nothing is due says, tells
+    /// and puts out nothing, and changes its node alone.
     ///
     /// # Errors
     /// `NoSuch` where no node has the name; and as `happen` is refused. All is then as it was.
     pub fn step(&mut self, event: &Event<A>) -> Result<(), Fault>
         requires sound { IsSoundEvent event.now }
         ensures steps { OnOk result (Steps event.now self.old self.new) }
+        ensures rests { OnOk result (RestsIfQuiet event.now self.old self.new) }
         ensures cause { IfErr result (λ fault. IsRefused event.now self.old fault) }
         ensures unchanged { OnErr result (self.new ≡ self.old) }
         ensures stands { Stands self.old }
@@ -141,9 +144,11 @@ impl<A: Allocator + Copy> Internetwork<A> {
         }
     }
 
+    #[tactic(auto, using(crate::proofs::Dues::step_rules))]
     fn step_with(&mut self, event: &Event<A>, draft: &mut Draft<A>) -> Result<(), Fault>
         requires sound { IsSoundEvent event.now }
         ensures steps { OnOk result (Steps event.now self.old self.new) }
+        ensures rests { OnOk result (RestsIfQuiet event.now self.old self.new) }
         ensures cause { IfErr result (λ fault. IsRefused event.now self.old fault) }
         ensures unchanged { OnErr result (self.new ≡ self.old) }
     {

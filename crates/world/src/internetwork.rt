@@ -2,12 +2,16 @@
 
 use crate::macs::are_at_macs;
 use buses::Buses;
+use due_times::DueTimes;
 use std::alloc::{AllocError, Allocator};
 use std::marker::Model;
 use tags::Fault;
 use traffic::Item;
 use world_log::{Draft, SaidMessage, SiteNode, WorldEntry, WorldLog};
 use world_sites::{Directory, Site, buses_of, nodes_of};
+
+/// So many of the last items are never forgotten, however old they are: what happens at random may choose any of them.
+pub const LATEST_ITEMS: usize = 64;
 
 /// The nodes of a site, all that is on its way between them, and what happened, however it came about.
 #[derive(Drop)]
@@ -16,6 +20,8 @@ pub struct Internetwork<A: Allocator + Copy> {
     pub(crate) site: Site<A>,
     pub(crate) moment: u64,
     pub(crate) nodes: Vec<SiteNode<A>, A>,
+    /// The moment, by the place of each node, before which nothing is due of it.
+    pub(crate) dues: DueTimes<A>,
     pub(crate) directory: Directory<A>,
     pub(crate) buses: Buses<A>,
     pub(crate) log: WorldLog<A>,
@@ -25,6 +31,7 @@ pub struct Internetwork<A: Allocator + Copy> {
 
 impl<A: Allocator + Copy> Model for Internetwork<A> {
     ghost use Rattle.buses.specs.Buses.{buses_of};
+    ghost use Rattle.world.specs.Dues.{AreDues};
     ghost use Rattle.world.specs.Laws.{AreSteady};
     ghost use Rattle.world.specs.World.{WorldState};
     ghost use Rattle.world_log.specs.Kept.{all_said};
@@ -47,16 +54,19 @@ impl<A: Allocator + Copy> Model for Internetwork<A> {
     } };
 
     ghost invariant = { λ w. AreSteady w.site w.moment w.nodes.items w.log.items.items
-        × Leads w.directory w.nodes.items };
+        × Leads w.directory w.nodes.items × AreDues w.dues w.nodes.items };
 }
 
 impl<A: Allocator + Copy> Internetwork<A> {
-    ghost use Rattle.std.specs.Prelude.{◌≡◌, ◌≤◌, ◌++◌, [], IfErr, IfOk, IfSome, OnErr, OnOk, drop, length};
+    ghost use Rattle.std.specs.Prelude.{◌≡◌, ◌<◌, ◌≤◌, ◌+◌, ◌++◌, ◌^◌, [], drop, length};
+    ghost use Rattle.std.specs.Prelude.{IfErr, IfNone, IfOk, IfSome, OnErr, OnOk};
+    ghost use Rattle.std.specs.Prelude.{option_map, slice_get};
     ghost use Rattle.buses.specs.Buses as on_buses;
     ghost use Rattle.buses.specs.Buses.{buses_of};
     ghost use Rattle.profile.specs.Times.{MAX_MOMENT_MS};
     ghost use Rattle.world_sites.specs.site.Sound.{IsSound};
     ghost use Rattle.traffic.specs.Seeking.{Waits};
+    ghost use Rattle.world.specs.Dues.{AreAtRest, AreDues};
     ghost use Rattle.world.specs.Keeping.{Forgets, handed_out};
     ghost use Rattle.world.specs.Laws.{AreSteady, Stands};
     ghost use Rattle.world.specs.World.{fresh_world};
@@ -77,9 +87,10 @@ impl<A: Allocator + Copy> Internetwork<A> {
     {
         let nodes = nodes_of(alloc, &site)?;
         are_at_macs(nodes.as_slice());
+        let dues = DueTimes::new(alloc, nodes.len())?;
         let directory = Directory::new(alloc, nodes.as_slice())?;
         let buses = Buses::new(buses_of(alloc, &site)?);
-        Ok(Internetwork::open(alloc, site, nodes, directory, buses))
+        Ok(Internetwork::open(alloc, site, nodes, dues, directory, buses))
     }
 
     /// Returns these nodes and buses of a site at the moment 0: nothing was put out, issued or said.
@@ -87,11 +98,13 @@ impl<A: Allocator + Copy> Internetwork<A> {
         alloc: A,
         site: Site<A>,
         nodes: Vec<SiteNode<A>, A>,
+        dues: DueTimes<A>,
         directory: Directory<A>,
         buses: Buses<A>,
     ) -> Self
         requires steady { AreSteady {A = A} site 0 nodes.items [] }
         requires leads { Leads directory nodes.items }
+        requires dues { AreDues dues nodes.items }
         ensures { result ≡ record {
           site = site;
           moment = 0;
@@ -111,6 +124,7 @@ impl<A: Allocator + Copy> Internetwork<A> {
             site,
             moment: 0,
             nodes,
+            dues,
             directory,
             buses,
             log: WorldLog::new(alloc),
@@ -156,6 +170,17 @@ impl<A: Allocator + Copy> Internetwork<A> {
         &self.site
     }
 
+    /// Returns the place of the first node, from a place on, of which anything may be due where it wakes: of those
+    /// before it nothing is (5.4.1, 6.6.2, 9.5.6).
+    pub fn first_due(&self, from: usize) -> Option<usize>
+        ensures there { IfSome result (λ place. (from ≤ place) × (place < length self.now.nodes)) }
+        ensures fits { IfSome result (λ place. place + 1 < 2 ^ 64) }
+        ensures rest { IfSome result (λ place. AreAtRest from place self.now) }
+        ensures none { IfNone result (AreAtRest from (length self.now.nodes) self.now) }
+    {
+        self.dues.first_due(from, self.moment)
+    }
+
     /// Returns the nodes, in the order of the site.
     pub fn nodes(&self) -> &[SiteNode<A>]
         ensures { result.now ≡ self.now.nodes }
@@ -183,6 +208,22 @@ impl<A: Allocator + Copy> Internetwork<A> {
         ensures all { self.now.first_item ≡ 0 → result.now ≡ self.now.items }
     {
         self.log.items.kept()
+    }
+
+    /// Returns the item of this number, if so many were put out. In the place of one that is forgotten a blank stands,
+    /// which is as old as can be.
+    pub fn item_at(&self, number: usize) -> Option<&Item<A>>
+        ensures { option_map (λ i. i.now) result ≡ slice_get self.now.items number }
+    {
+        match self.log.items.item_at(number as u64) {
+            Ok(item) => Some(item),
+            Err(_) => None,
+        }
+    }
+
+    /// Returns how many issues aren't forgotten, of all that there were.
+    pub fn issues_kept(&self) -> usize {
+        self.log.keys.kept()
     }
 
     /// Returns the number of the next item from this one on, and before another, that was not yet delivered and may
@@ -234,12 +275,15 @@ impl<A: Allocator + Copy> Internetwork<A> {
         self.log.hand_out(told)
     }
 
-    /// Forgets what can no longer matter: items that are too old to be heard, issues that a later one of their client
-    /// under their invoke ID replaced, and what was said. Whatever world this is kept of, what is left is kept of it.
+    /// Forgets what can no longer matter: items that are too old to be heard, but for the last `LATEST_ITEMS`, what is
+    /// known of frames that are, issues that a later one of their client under their invoke ID replaced, and what was
+    /// said. Whatever world this is kept of, what is left is kept of it. Each list is looked through once about half of
+    /// it can go.
     pub fn forget(&mut self)
         ensures { Forgets self.old self.new }
     {
         let now = self.moment;
-        self.log.forget(now);
+        self.log.forget(LATEST_ITEMS, now);
+        self.buses.forget(now);
     }
 }

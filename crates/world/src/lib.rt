@@ -26,7 +26,7 @@ mod stepping;
 mod straying;
 
 pub use happening::Happening;
-pub use internetwork::Internetwork;
+pub use internetwork::{Internetwork, LATEST_ITEMS};
 pub use listener::Listener;
 pub use site_events::Event;
 pub use world_log::{SaidMessage, WorldEntry};

@@ -9,6 +9,7 @@ ghost use Rattle.world_log.specs.site_node.Part.{IsDevice, IsNoDevice};
 ghost use Rattle.world_log.specs.site_node.Steps.{IsNotForeign};
 ghost use Rattle.world.specs.Laws.{IsSteady};
 ghost use Rattle.world.specs.Refusals.{HappeningIsRefused, IsForeign, IsNoTick, Of, RefusesIt};
+ghost use Rattle.world.specs.Resting.{RestsAt};
 ghost use Rattle.world.specs.Step as spec;
 ghost use Rattle.world.specs.Step.{Asks, Delivers, Issues, PassesNow, Registers, Restarts, Ticks, Wakes};
 ghost use Rattle.world.specs.Step.{deafened, restart_entry};
@@ -93,8 +94,10 @@ impl<A: Allocator + Copy> Internetwork<A> {
     }
 
     /// The node at a place wakes (5.4.1, 6.6.2, J.5.2.3). Where nothing is due, nothing is planned.
+    #[tactic(auto, using(crate::proofs::Dues::rest_rules))]
     pub(crate) fn wake(&mut self, place: usize, draft: &mut Draft<A>) -> Result<(), Fault>
         ensures wakes { OnOk result (Wakes place self.old self.new) }
+        ensures rests { OnOk result (Of place self.old (RestsAt self.old self.new place)) }
         ensures cause { IfErr result (λ fault. HappeningIsRefused (happening.Wake place) self.old fault) }
         ensures unchanged { OnErr result (self.new ≡ self.old) }
     {

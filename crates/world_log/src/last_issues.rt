@@ -119,6 +119,12 @@ impl<A: Allocator + Copy> LastIssues<A> {
         self.issued
     }
 
+    /// Returns how many of them aren't forgotten: the last of each client under each invoke ID, and at most as many
+    /// that were replaced, once [`Self::forget`] was called.
+    pub fn kept(&self) -> usize {
+        self.runs.len()
+    }
+
     /// Returns the number of the last issue of a client under an invoke ID (5.4.1).
     #[tactic(auto, using(crate::proofs::IssueLaws::last_rules))]
     pub fn last(&self, client: Station, invoke_id: u8) -> Option<usize>

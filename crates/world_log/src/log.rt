@@ -192,13 +192,13 @@ impl<A: Allocator + Copy> WorldLog<A> {
         Ok(())
     }
 
-    /// Forgets what is too old to be heard at the moment `now`, in milliseconds, the issues that later ones replaced,
-    /// and what was said.
+    /// Forgets items that are too old to be heard at the moment `now`, in milliseconds, but for the last so many, the
+    /// issues that later ones replaced, and what was said.
     #[tactic(auto, using(crate::proofs::LogLaws::forgetting_rules))]
-    pub fn forget(&mut self, now: u64)
+    pub fn forget(&mut self, latest: usize, now: u64)
         ensures { Forgets now (log_of self.old) (log_of self.new) }
     {
-        self.items.forget(now);
+        self.items.forget(latest, now);
         self.keys.forget();
         if let Some(first) = self.first_said.checked_add(self.said.len()) {
             self.first_said = first;

@@ -1,6 +1,7 @@
 -- Buses of which what is too old may be forgotten.
 use Rattle.std.proofs.Common.{◌≡◌, ◌∙◌, inl, refl, sym, ap, subst, ℕ, ◌+◌, ◌≤◌, Bool, true, false, List, [], ◌∷◌, ◌++◌, map}
 use Rattle.std.specs.Prelude.{◌==◌, ◌&&◌, Option, Some, bytes_eq, cond, if◌then◌else◌, not, slice_set}
+use Rattle.bus_traffic.proofs.ForgettingLaws.{young_twice}
 use Rattle.bus_traffic.proofs.Places.{delivered_first}
 use Rattle.bus_traffic.proofs.RememberLaws.{delivered_next}
 use Rattle.bus_traffic.specs.Bus.{BusState, heard_on, put_out}
@@ -15,9 +16,9 @@ use Rattle.buses.specs.Hearing.{anew_at, anew_of, anew_on, ears_anew, heard_at}
 use Rattle.buses.specs.Puts.{BusesState, counted, put_at, put_on, put_one, sending_of}
 use Rattle.traffic.specs.declared.frame.FramePut.{FramePut}
 use Rattle.world_past.proofs.EachLaws.{each_if, each_map, each_on, each_set}
-use Rattle.world_past.proofs.ItemLaws.{still_old}
 use Rattle.world_past.proofs.StampLaws.{known_more, stamp_later, stamp_on}
-use Rattle.world.specs.Old.{KeepsBus, KeepsBuses, KeepsEach}
+use Rattle.bus_traffic.specs.Forgetting.{KeepsBus, KeepsEach}
+use Rattle.buses.specs.Forgetting.{KeepsBuses}
 
 pub bus_on : {A : Type 0} (now : ℕ) (a b c : BusState A) → KeepsBus now a b → KeepsBus now b c → KeepsBus now a c
 bus_on now a b c p q = record {
@@ -27,23 +28,6 @@ bus_on now a b c p q = record {
       (p.known octets) (q.known octets);
   recent = q.recent ∙ p.recent;
 }
-
--- what may still be heard later may be heard now
-both_young : {A : Type 0} (now later : ℕ) (r : Recent A) (rs : List (Recent A)) → now ≤ later →
-    young later (young now rs) ≡ young later rs → (b : Bool) → is_young now r.sending ≡ b →
-    young later (young now (r ∷ rs)) ≡ young later (r ∷ rs)
-both_young now later r rs le rest true e =
-    ap (λ (b : Bool). young later (cond b (r ∷ young now rs) (young now rs))) e
-    ∙ ap (λ (ys : List (Recent _)). cond (is_young later r.sending) (r ∷ ys) ys) rest
-both_young now later r rs le rest false e =
-    ap (λ (b : Bool). young later (cond b (r ∷ young now rs) (young now rs))) e ∙ rest
-    ∙ sym (ap (λ (b : Bool). cond b (r ∷ young later rs) (young later rs)) (still_old r.sending.stamp now later le e))
-
-pub young_twice : {A : Type 0} (now later : ℕ) (rs : List (Recent A)) → now ≤ later →
-    young later (young now rs) ≡ young later rs
-young_twice now later [] le = refl
-young_twice now later (r ∷ rs) le =
-    both_young now later r rs le (young_twice now later rs le) (is_young now r.sending) refl
 
 bus_later : {A : Type 0} (now later : ℕ) → now ≤ later → (b c : BusState A) → KeepsBus now b c → KeepsBus later b c
 bus_later {A} now later le b c p = record {

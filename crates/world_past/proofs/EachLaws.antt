@@ -1,7 +1,7 @@
 -- Lists of which each is kept, in order.
 use Rattle.std.proofs.Common.{◌≡◌, refl, ap, subst, ℕ, zero, suc, List, [], ◌∷◌, ◌++◌, length, map, Some, None}
 use Rattle.std.specs.Prelude.{slice_get, slice_set}
-use Rattle.world.specs.Old.{KeepsEach}
+use Rattle.bus_traffic.specs.Forgetting.{KeepsEach}
 
 some_same : {X : Type 0} (x y : X) → Some x ≡ Some y → x ≡ y
 some_same x y e = cc

@@ -19,7 +19,7 @@ use Rattle.world_past.proofs.ItemLaws.{items_later, items_set, young_there}
 use Rattle.world_past.proofs.KeepingLaws.{acts_keep, over}
 use Rattle.world_past.proofs.KeyLaws.{keys_more}
 use Rattle.world.specs.Keeping.{Keeps}
-use Rattle.world.specs.Old.{KeepsBuses}
+use Rattle.buses.specs.Forgetting.{KeepsBuses}
 
 deaf_keeps : {A : Type 0} (now net : ℕ) (mac : Mac) (b c : BusesState A) → KeepsBuses now b c →
     KeepsBuses now (deafened_at now net mac b) (deafened_at now net mac c)
@@ -37,8 +37,10 @@ module _ {A : Type 0} (past : WorldHistory A) (w k : WorldState A) (p : Keeps pa
     buses = p.buses;
     keys = p.keys;
     history = p.history;
+    first_entry = p.first_entry;
     gone = p.gone;
     said = p.said;
+    first_said = p.first_said;
   }
 
   -- a client has issued
@@ -54,8 +56,10 @@ module _ {A : Type 0} (past : WorldHistory A) (w k : WorldState A) (p : Keeps pa
     history = ap (λ (h : WorldHistory A). h ++ Issue (length w.keys) client instance request w.moment ∷ []) p.history
         ∙ append_assoc past k.history (Issue (length w.keys) client instance request w.moment ∷ [])
         ∙ ap (λ (n : ℕ). past ++ (k.history ++ Issue n client instance request w.moment ∷ [])) (sym p.keys.count);
+    first_entry = p.first_entry;
     gone = p.gone;
     said = p.said;
+    first_said = p.first_said;
   }
 
   -- a device has restarted
@@ -69,8 +73,10 @@ module _ {A : Type 0} (past : WorldHistory A) (w k : WorldState A) (p : Keeps pa
     keys = p.keys;
     history = ap (λ (h : WorldHistory A). h ++ restart_entry w.moment part) p.history
         ∙ append_assoc past k.history (restart_entry w.moment part);
+    first_entry = p.first_entry;
     gone = p.gone;
     said = p.said;
+    first_said = p.first_said;
   }
 
 -- each as it happens to what is kept, in the words of the whole
@@ -87,8 +93,10 @@ module _ {A : Type 0} (past : WorldHistory A) (w k l : WorldState A) (p : Keeps 
       buses = buses_later w.moment (w.moment + n) w.buses k.buses (omega arith) p.buses;
       keys = p.keys;
       history = p.history;
+      first_entry = p.first_entry;
       gone = p.gone;
       said = p.said;
+      first_said = p.first_said;
     });
   }
 

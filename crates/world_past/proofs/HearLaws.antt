@@ -26,7 +26,7 @@ use Rattle.world_past.proofs.KeepingLaws as keeping
 use Rattle.world_past.proofs.KeepingLaws.{acts_keep, over_is}
 use Rattle.world_past.proofs.StampLaws.{RefusesToo, judges_not, judges_on}
 use Rattle.world.specs.Keeping.{Keeps}
-use Rattle.world.specs.Old.{KeepsBus, KeepsEach}
+use Rattle.bus_traffic.specs.Forgetting.{KeepsBus, KeepsEach}
 
 -- octets end so in the whole where they end so in what is kept
 abbrev pub EndsAs : (kept whole : Ending) → Type 0
@@ -185,8 +185,10 @@ module _ {A : Type 0} (past : WorldHistory A) where
           buses = buses_heard w.moment bus_place ear_place octets kept s.ear b.one s.bus w.buses k.buses one p.buses;
           keys = p.keys;
           history = p.history;
+          first_entry = p.first_entry;
           gone = p.gone;
           said = p.said;
+          first_said = p.first_said;
         });
       }
 

@@ -1,9 +1,7 @@
 -- Items of which those that are too old may be forgotten.
-use Rattle.std.proofs.Common.{◌≡◌, ◌∙◌, inl, inr, refl, sym, ap, subst, arith, ℕ, ◌+◌, ◌≤◌, Bool, true, false, List, [], ◌∷◌, ◌++◌, Some}
+use Rattle.std.proofs.Common.{◌≡◌, ◌∙◌, inl, inr, refl, sym, ap, subst, ℕ, ◌≤◌, Bool, true, false, List, [], ◌∷◌, ◌++◌, Some}
 use Rattle.std.specs.Prelude.{slice_get, slice_set}
-use Rattle.std.proofs.lemmas.Bool.{leb-false, lt-leb}
-use Rattle.profile.specs.Ages.{is_heard_in_time}
-use Rattle.profile.specs.Times.{LIFE_MS}
+use Rattle.bus_traffic.proofs.ForgettingLaws.{still_old}
 use Rattle.traffic.specs.Seeking.{is_young}
 use Rattle.traffic.specs.declared.item.Item.{Item}
 use Rattle.world.specs.node_laws.Out.{IsMac}
@@ -14,12 +12,6 @@ use Rattle.world.specs.Old.{AreTooOld, KeepsItem, KeepsItems}
 
 pub true_false : (b : Bool) → b ≡ true → b ≡ false → ⊥
 true_false b t f = cc
-
--- what is too old stays so
-pub still_old : (stamp now later : ℕ) → now ≤ later → is_heard_in_time stamp now ≡ false →
-    is_heard_in_time stamp later ≡ false
-still_old stamp now later le e =
-    let past = leb-false now (stamp + LIFE_MS) e in lt-leb later (stamp + LIFE_MS) (omega (arith, le, past))
 
 pub items_same : {A : Type 0} (now : ℕ) (xs : List (Item A)) → KeepsItems now xs xs
 items_same now xs = each_same (KeepsItem now) (λ x. inl refl) xs

@@ -1,6 +1,6 @@
 -- What a node does in what is kept it does in the whole.
-use Rattle.std.proofs.Common.{◌≡◌, ◌∙◌, refl, sym, ap, subst, ℕ, List, [], ◌++◌, length}
-use Rattle.std.proofs.lemmas.List.{append_assoc}
+use Rattle.std.proofs.Common.{◌≡◌, ◌∙◌, refl, sym, ap, subst, arith, ℕ, ◌+◌, List, [], ◌++◌, length}
+use Rattle.std.proofs.lemmas.List.{append_assoc, length-append}
 use Rattle.std.specs.Prelude.{slice_set}
 use Rattle.buses.specs.Puts.{put_on}
 use Rattle.inside.specs.Inside.{Said}
@@ -16,7 +16,8 @@ use Rattle.world_past.proofs.EachLaws.{each_length}
 use Rattle.world_past.proofs.ItemLaws.{items_more, items_on, items_same}
 use Rattle.world_past.proofs.KeyLaws.{keys_on, keys_same, tells_behind}
 use Rattle.world.specs.Keeping.{Keeps}
-use Rattle.world.specs.Old.{KeepsBuses, KeepsItem, KeepsItems}
+use Rattle.buses.specs.Forgetting.{KeepsBuses}
+use Rattle.world.specs.Old.{KeepsItem, KeepsItems}
 
 -- a world keeps itself
 pub keeps_all : {A : Type 0} (w : WorldState A) → Keeps [] w w
@@ -28,8 +29,10 @@ keeps_all w = record {
   buses = buses_same w.moment w.buses;
   keys = keys_same w.keys;
   history = refl;
+  first_entry = let none : w.first_entry ≡ w.first_entry + 0 = omega arith in none;
   gone = [];
   said = refl;
+  first_said = let none : w.first_said ≡ w.first_said + 0 = omega arith in none;
 }
 
 -- what is kept of what is kept is kept of the whole
@@ -45,8 +48,12 @@ keeps_on {A} past u v k p q = record {
       (subst (λ (m : ℕ). KeepsBuses m v.buses k.buses) p.moment q.buses);
   keys = keys_on u.keys v.keys k.keys p.keys q.keys;
   history = p.history ∙ ap (λ (h : WorldHistory A). past ++ h) q.history;
+  first_entry = let none : v.first_entry + 0 ≡ v.first_entry = omega arith in q.first_entry ∙ none ∙ p.first_entry;
   gone = p.gone ++ q.gone;
   said = p.said ∙ ap (λ (l : List Said). p.gone ++ l) q.said ∙ sym (append_assoc p.gone q.gone k.said);
+  first_said =
+      let all : length (p.gone ++ q.gone) ≡ length p.gone + length q.gone = length-append p.gone q.gone in
+      omega (arith, p.first_said, q.first_said, all);
 }
 
 -- what is kept, in the words of the whole
@@ -94,8 +101,10 @@ module _ {A : Type 0} (past : WorldHistory A) (w k : WorldState A) (p : Keeps pa
         (buses_put w.moment (length w.items) (frames_at (node_places n) t.out) w.buses k.buses p.buses);
     keys = p.keys;
     history = tells_behind w.moment past w.keys k.keys p.keys (home_of n.part) t.told w.history k.history p.history;
+    first_entry = p.first_entry;
     gone = p.gone;
     said = ap (λ (l : List Said). l ++ fresh) p.said ∙ append_assoc p.gone k.said fresh;
+    first_said = p.first_said;
   }
 
   -- a node acts

@@ -21,7 +21,7 @@ use Rattle.world_past.proofs.EachLaws.{each_back, each_get}
 use Rattle.world_past.proofs.HearLaws.{EndsAs, HearsThere, each_keeps, ended, heard_there, take_over}
 use Rattle.world_past.proofs.KeepingLaws.{over, over_is}
 use Rattle.world.specs.Keeping.{Keeps}
-use Rattle.world.specs.Old.{KeepsBus, KeepsEach}
+use Rattle.bus_traffic.specs.Forgetting.{KeepsBus, KeepsEach}
 use Rattle.world_past.specs.Refusing.{RefusesIt}
 
 -- an ear of the whole is one of what is kept, and the other way round

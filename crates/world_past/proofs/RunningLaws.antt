@@ -1,5 +1,6 @@
 -- Whole lists of events, and what is legal.
-use Rattle.std.proofs.Common.{◌∙◌, inl, inr, refl, sym, subst, List, [], ◌∷◌, ◌++◌, append-nil}
+use Rattle.std.proofs.Common.{◌≡◌, ◌∙◌, inl, inr, refl, sym, subst, arith, ◌+◌, List, [], ◌∷◌, ◌++◌, append-nil, length}
+use Rattle.std.proofs.lemmas.List.{length-append}
 use Rattle.world.specs.World.{WorldState}
 use Rattle.world.specs.site_node.Node.{NodeState}
 use Rattle.world.specs.world_log.Growing.{WorldHistory}
@@ -50,8 +51,11 @@ keeps_handed past w k p = record {
   buses = p.buses;
   keys = p.keys;
   history = p.history ∙ sym (append-nil (past ++ k.history));
+  first_entry = let all : length (past ++ k.history) ≡ length past + length k.history = length-append past k.history in
+      omega (arith, p.first_entry, all);
   gone = p.gone;
   said = p.said;
+  first_said = p.first_said;
 }
 
 pub keeps_forgotten : {A : Type 0} → ForgetsInAll A

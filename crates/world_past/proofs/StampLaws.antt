@@ -1,19 +1,17 @@
 -- What is known of frames, where that of old ones may be forgotten: how they are judged, and what becomes known.
-use Rattle.std.proofs.Common.{◌≡◌, ◌≢◌, ◌∙◌, ◌⊎◌, inl, inr, refl, sym, ap, subst, arith, ℕ, ◌+◌, ◌≤◌, max, Bool, true, false, List, [], ◌∷◌}
-use Rattle.std.specs.Prelude.{Option, Result, Some, None, Ok, Err, bytes_eq, if◌then◌else◌}
+use Rattle.std.proofs.Common.{◌≡◌, ◌∙◌, ◌⊎◌, inl, inr, refl, sym, ap, subst, arith, ℕ, ◌+◌, ◌≤◌, max, Bool, true, false, List}
+use Rattle.std.specs.Prelude.{Option, Result, Some, None, Ok, Err, if◌then◌else◌}
 use Rattle.std.proofs.lemmas.Bool.{leb-false, leb-true, lt-leb}
-use Rattle.std.proofs.lemmas.Slice.Eq.{bytes_eq-Decides}
-use Rattle.bus_traffic.proofs.Places.{learned_first}
-use Rattle.bus_traffic.proofs.RememberLaws.{known_next, learned_next}
+use Rattle.bus_traffic.proofs.ForgettingLaws.{still_old}
+use Rattle.bus_traffic.proofs.RememberLaws.{known_other, known_same}
 use Rattle.bus_traffic.proofs.YoungestLaws.{other, same, same_is}
-use Rattle.bus_traffic.specs.Sendings.{aged, judged_by, known_of, later_of, learned}
+use Rattle.bus_traffic.specs.Sendings.{judged_by, known_of, later_of, learned}
 use Rattle.bus_traffic.specs.declared.sending.Known.{Known}
 use Rattle.profile.specs.Ages.{is_heard_in_time}
 use Rattle.profile.specs.Times.{LIFE_MS}
 use Rattle.tags.specs.declared.fault.Fault.{Fault}
 use Rattle.tags.specs.declared.fault.Fault.TheVariants.{Expired, Forged}
-use Rattle.world_past.proofs.ItemLaws.{still_old}
-use Rattle.world.specs.Old.{IsOld, IsOldOrUnknown, KeepsKnown, KeepsStamp}
+use Rattle.bus_traffic.specs.Forgetting.{IsOld, IsOldOrUnknown, KeepsKnown, KeepsStamp}
 
 -- old is old or unknown
 weaker : (now : ℕ) (o : Option ℕ) → IsOld now o → IsOldOrUnknown now o
@@ -118,57 +116,17 @@ pub again : (now s : ℕ) (a k : Option ℕ) → KeepsStamp now a k →
 again now s a k (inl e) = inl (ap (λ (o : Option ℕ). Some (later_of s o)) e)
 again now s a k (inr o) = again_by now s a k (is_heard_in_time s now) refl o.0 o.1
 
-are_same : (xs ys : List ℕ) → xs ≡ ys → bytes_eq xs ys ≡ true
-are_same xs ys e = (bytes_eq-Decides xs ys).1 e
-
-not_same : (xs ys : List ℕ) → xs ≢ ys → bytes_eq xs ys ≡ false
-not_same xs ys n = elim (same_is xs ys) [
-  | same b e ↦ absurd (n e)
-  | other b m ↦ b
-]
-
-pub known_first : {A : Type 0} (octets : List ℕ) (k : Known A) (ks : List (Known A)) → bytes_eq k.octets octets ≡ true →
-    known_of octets (k ∷ ks) ≡ Some k.stamp
-known_first octets k ks e = ap (λ (b : Bool). if b then Some k.stamp else known_of octets ks) e
-
--- what is known of the octets that were learned, and of others
-learned_same : {A : Type 0} (octets : List ℕ) (new : Known A) (ks : List (Known A)) → new.octets ≡ octets →
-    known_of octets (learned new ks) ≡ Some (later_of new.stamp (known_of octets ks))
-learned_same octets new [] e = known_first octets new [] (are_same new.octets octets e)
-learned_same octets new (k ∷ ks) e = elim (same_is k.octets new.octets) [
-  | same b q ↦ let here : bytes_eq k.octets octets ≡ true = are_same k.octets octets (q ∙ e) in
-      let m : max k.stamp new.stamp ≡ max new.stamp k.stamp = omega arith in
-      ap (λ xs. known_of octets xs) (learned_first new k ks b)
-      ∙ known_first octets (aged new.stamp k) ks here ∙ ap (λ n. Some n) m
-      ∙ sym (ap (λ r. Some (later_of new.stamp r)) (known_first octets k ks here))
-  | other b n ↦ let later : bytes_eq k.octets octets ≡ false = not_same k.octets octets (λ q. n (q ∙ sym e)) in
-      ap (λ xs. known_of octets xs) (learned_next new k ks b)
-      ∙ known_next octets k (learned new ks) later ∙ learned_same octets new ks e
-      ∙ sym (ap (λ r. Some (later_of new.stamp r)) (known_next octets k ks later))
-]
-
-pub learned_other : {A : Type 0} (octets : List ℕ) (new : Known A) (ks : List (Known A)) → new.octets ≢ octets →
-    known_of octets (learned new ks) ≡ known_of octets ks
-learned_other octets new [] n = known_next octets new [] (not_same new.octets octets n)
-learned_other octets new (k ∷ ks) n = elim (same_is k.octets new.octets) [
-  | same b q ↦ let later : bytes_eq k.octets octets ≡ false = not_same k.octets octets (λ p. n (sym q ∙ p)) in
-      ap (λ xs. known_of octets xs) (learned_first new k ks b)
-      ∙ known_next octets (aged new.stamp k) ks later ∙ sym (known_next octets k ks later)
-  | other b m ↦ ap (λ xs. known_of octets xs) (learned_next new k ks b)
-      ∙ ap (λ r. if bytes_eq k.octets octets then Some k.stamp else r) (learned_other octets new ks n)
-]
-
 -- what is learned is kept
 pub known_more : {A : Type 0} (now : ℕ) (new : Known A) (all kept : List (Known A)) → KeepsKnown now all kept →
     KeepsKnown now (learned new all) (learned new kept)
 known_more now new all kept p octets = elim (same_is new.octets octets) [
   | same b e ↦ subst (λ (o : Option ℕ). KeepsStamp now o (known_of octets (learned new kept)))
-      (sym (learned_same octets new all e))
+      (sym (known_same octets new all e))
       (subst (λ (o : Option ℕ). KeepsStamp now (Some (later_of new.stamp (known_of octets all))) o)
-      (sym (learned_same octets new kept e))
+      (sym (known_same octets new kept e))
       (again now new.stamp (known_of octets all) (known_of octets kept) (p octets)))
   | other b n ↦ subst (λ (o : Option ℕ). KeepsStamp now o (known_of octets (learned new kept)))
-      (sym (learned_other octets new all n))
-      (subst (λ (o : Option ℕ). KeepsStamp now (known_of octets all) o) (sym (learned_other octets new kept n))
+      (sym (known_other octets new all n))
+      (subst (λ (o : Option ℕ). KeepsStamp now (known_of octets all) o) (sym (known_other octets new kept n))
       (p octets))
 ]

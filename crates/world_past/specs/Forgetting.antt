@@ -1,10 +1,10 @@
 -- The least that is kept of a world: all that can be is forgotten at once.
-use Rattle.std.specs.Prelude.{◌≡◌, ◌==◌, ℕ, suc, Bool, false, List, [], ◌∷◌, Option, None, Some, if◌then◌else◌, map}
-use Rattle.std.specs.List.{AllByRecursion, filter}
+use Rattle.std.specs.Prelude.{◌≡◌, ◌==◌, ℕ, suc, ◌+◌, Bool, false, List, [], ◌∷◌, Option, None, Some, length, map}
+use Rattle.std.specs.Prelude.{if◌then◌else◌}
+use Rattle.std.specs.List.{AllByRecursion}
 use Rattle.bus_traffic.specs.Bus.{BusState}
-use Rattle.bus_traffic.specs.Sendings.{known_of, learned, young}
+use Rattle.bus_traffic.specs.Sendings.{AreKnownOnce, learned, young, young_known}
 use Rattle.bus_traffic.specs.declared.sending.Known.{Known}
-use Rattle.profile.specs.Ages.{is_heard_in_time}
 use Rattle.traffic.specs.Seeking.{is_young}
 use Rattle.traffic.specs.declared.item.Item.{Item}
 use Rattle.world.specs.World.{WorldState}
@@ -27,7 +27,7 @@ abbrev pub bus_kept : {A : Type 0} → (now : ℕ) → BusState A → BusState A
 bus_kept now b = record {
   net = b.net;
   ears = b.ears;
-  known = filter (λ k. is_heard_in_time k.stamp now) b.known;
+  known = young_known now b.known;
   recent = young now b.recent;
 }
 
@@ -60,16 +60,13 @@ least blank w = record w {
   items = map (item_kept w.moment blank) w.items;
   buses = record { buses = map (bus_kept w.moment) w.buses.buses; frames = w.buses.frames };
   keys = keys_kept w.keys;
+  first_entry = w.first_entry + length w.history;
   history = [];
+  first_said = w.first_said + length w.said;
   said = [];
 }
 
--- each frame is known once, by its octets
-abbrev pub AreKnownOnce : {A : Type 0} → List (Known A) → Type 0
-AreKnownOnce [] = Unit {0}
-AreKnownOnce (k ∷ ks) = (known_of k.octets ks ≡ None) × AreKnownOnce ks
-
--- so it stays where a frame is put out
+-- each frame is known once still where one is put out
 abbrev pub KnownOnceStill : Type 0 → Type 0
 KnownOnceStill A = (new : Known A) (ks : List (Known A)) → AreKnownOnce ks → AreKnownOnce (learned new ks)
 

@@ -5,7 +5,7 @@ use Rattle.traffic.specs.Seeking.{is_young}
 
 -- so far
 abbrev pub invariant-loop-count : goal.invariant-loop-count
-invariant-loop-count g l = (l.count ≤ length l.items)
+invariant-loop-count g l = (l.count ≤ length l.items) × (l.count ≤ l.most)
     × AllByRecursion (λ i. is_young l.now i ≡ false) (take l.count l.items)
 
 abbrev pub decreases-loop-count : goal.decreases-loop-count

@@ -10,4 +10,5 @@ invariant_of-self g c = record {
       (c.deliver.ensures ∙ ap (λ xs. delivered c.args.now c.after-ear.result.address c.args.octets.now xs)
       c.deref_mut.ensures.value)
       (sym c.deref_mut.ensures.len ∙ ap (λ xs. length xs) c.deref_mut.ensures.value);
+  once = c.args.self.now.once;
 }

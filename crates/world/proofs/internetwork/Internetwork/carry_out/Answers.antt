@@ -3,6 +3,7 @@ use Rattle.std.proofs.lemmas.Option.{slice_get_read}
 use Rattle.std.specs.Prelude.{slice_get}
 use Rattle.buses.specs.Buses.{buses_of}
 use Rattle.world.proofs.ActingLaws.{done_act, may_here_of, moved_not, steady_act, unchanged_act}
+use Rattle.world.proofs.Dues.{due_there, dues_act}
 use Rattle.world.proofs.EventLaws.{before_end, read_there}
 use Rattle.world.proofs.Standing.{all_at}
 use Rattle.world.proofs.internetwork.Internetwork.carry_out.Goals as goal
@@ -18,8 +19,8 @@ index_mut-requires g c =
     (ap (λ (w : WorldState _). slice_get w.nodes c.args.place) c.self.view_is ∙ c.requires.planned.there)
     in omega (arith, lt, c.self.inside.nodes.ok.0)
 
-pub act-requires-clause-stands : goal.act-requires-clause-stands
-act-requires-clause-stands g c =
+pub act_at-requires-clause-stands : goal.act_at-requires-clause-stands
+act_at-requires-clause-stands g c =
     let there = read_there c.self.inside.nodes.items c.args.place c.requires.planned.n c.index_mut.result.now
     (ap (λ (w : WorldState _). slice_get w.nodes c.args.place) c.self.view_is ∙ c.requires.planned.there)
     c.index_mut.ensures.value in
@@ -27,14 +28,21 @@ act-requires-clause-stands g c =
     c.index_mut.result.now c.self.invariant.0.each there in
     one.stands
 
-pub act-requires-clause-planned : goal.act-requires-clause-planned
-act-requires-clause-planned g c =
+pub act_at-requires-clause-planned : goal.act_at-requires-clause-planned
+act_at-requires-clause-planned g c =
     let there = read_there c.self.inside.nodes.items c.args.place c.requires.planned.n c.index_mut.result.now
     (ap (λ (w : WorldState _). slice_get w.nodes c.args.place) c.self.view_is ∙ c.requires.planned.there)
     c.index_mut.ensures.value in
     may_here_of c.self.inside.site c.self.inside.moment c.self.inside.nodes.items (log_of c.self.inside.log)
     (buses_of c.self.inside.buses) c.args.place c.index_mut.result.now c.args.plan c.args.draft.now there c.args.self.now
     c.self.view_is c.requires.planned
+
+pub act_at-requires-clause-there : goal.act_at-requires-clause-there
+act_at-requires-clause-there g c =
+    let there = read_there c.self.inside.nodes.items c.args.place c.requires.planned.n c.index_mut.result.now
+    (ap (λ (w : WorldState _). slice_get w.nodes c.args.place) c.self.view_is ∙ c.requires.planned.there)
+    c.index_mut.ensures.value in
+    due_there c.self.inside.dues c.self.inside.nodes.items c.args.place c.index_mut.result.now c.self.invariant.2 there
 
 pub invariant_of-self : goal.invariant_of-self
 invariant_of-self g c =
@@ -44,18 +52,21 @@ invariant_of-self g c =
     let may = may_here_of c.self.inside.site c.self.inside.moment c.self.inside.nodes.items (log_of c.self.inside.log)
     (buses_of c.self.inside.buses) c.args.place c.index_mut.result.now c.args.plan c.args.draft.now there c.args.self.now
     c.self.view_is c.requires.planned in
-    let still = moved_not c.act.result c.self.inside.site c.self.inside.moment c.self.inside.nodes.items
-    (log_of c.self.inside.log) (log_of c.act.new.log) (buses_of c.self.inside.buses) (buses_of c.act.new.buses)
-    c.args.place c.index_mut.result.now c.act.new.node c.args.plan c.args.draft.now c.args.cause there c.args.self.now
+    let still = moved_not c.act_at.result c.self.inside.site c.self.inside.moment c.self.inside.nodes.items
+    (log_of c.self.inside.log) (log_of c.act_at.new.log) (buses_of c.self.inside.buses) (buses_of c.act_at.new.buses)
+    c.args.place c.index_mut.result.now c.act_at.new.node c.args.plan c.args.draft.now c.args.cause there c.args.self.now
     c.self.view_is may
-    c.act.ensures.left c.act.ensures.unchanged in (
-      steady_act c.act.result c.self.inside.site c.self.inside.moment c.self.inside.nodes.items
-          (log_of c.self.inside.log) (log_of c.act.new.log) (buses_of c.self.inside.buses) (buses_of c.act.new.buses)
-          c.args.place c.index_mut.result.now c.act.new.node c.args.plan c.args.draft.now c.args.cause there c.args.self.now
+    c.act_at.ensures.left c.act_at.ensures.unchanged in (
+      steady_act c.act_at.result c.self.inside.site c.self.inside.moment c.self.inside.nodes.items
+          (log_of c.self.inside.log) (log_of c.act_at.new.log) (buses_of c.self.inside.buses) (buses_of c.act_at.new.buses)
+          c.args.place c.index_mut.result.now c.act_at.new.node c.args.plan c.args.draft.now c.args.cause there c.args.self.now
           c.self.view_is may
-          c.act.ensures.left c.act.ensures.unchanged c.act.ensures.logs c.act.ensures.same c.self.invariant.0,
-      leads_still c.self.inside.directory c.self.inside.nodes.items c.args.place c.index_mut.result.now c.act.new.node
+          c.act_at.ensures.left c.act_at.ensures.unchanged c.act_at.ensures.logs c.act_at.ensures.same c.self.invariant.0,
+      leads_still c.self.inside.directory c.self.inside.nodes.items c.args.place c.index_mut.result.now c.act_at.new.node
           c.self.invariant.1 there still.0 still.1,
+      dues_act c.act_at.result c.self.inside.dues c.act_at.new.dues c.self.inside.nodes.items c.args.place
+          c.index_mut.result.now c.act_at.new.node there c.act_at.ensures.due c.act_at.ensures.unchanged
+          c.act_at.ensures.kept c.self.invariant.2,
     )
 
 pub returns-clause-done : goal.returns-clause-done
@@ -66,19 +77,19 @@ returns-clause-done g c =
     let may = may_here_of c.self.inside.site c.self.inside.moment c.self.inside.nodes.items (log_of c.self.inside.log)
     (buses_of c.self.inside.buses) c.args.place c.index_mut.result.now c.args.plan c.args.draft.now there c.args.self.now
     c.self.view_is c.requires.planned in
-    done_act c.act.result c.self.inside.site c.self.inside.moment c.self.inside.nodes.items
-    (log_of c.self.inside.log) (log_of c.act.new.log) (buses_of c.self.inside.buses) (buses_of c.act.new.buses)
-    c.args.place c.index_mut.result.now c.act.new.node c.args.plan c.args.draft.now c.args.cause there c.args.self.now
-    c.self.view_is may c.act.ensures.left
-    c.act.ensures.logs c.act.ensures.puts
+    done_act c.act_at.result c.self.inside.site c.self.inside.moment c.self.inside.nodes.items
+    (log_of c.self.inside.log) (log_of c.act_at.new.log) (buses_of c.self.inside.buses) (buses_of c.act_at.new.buses)
+    c.args.place c.index_mut.result.now c.act_at.new.node c.args.plan c.args.draft.now c.args.cause there c.args.self.now
+    c.self.view_is may c.act_at.ensures.left
+    c.act_at.ensures.logs c.act_at.ensures.puts
 
 pub returns-clause-unchanged : goal.returns-clause-unchanged
 returns-clause-unchanged g c =
     let there = read_there c.self.inside.nodes.items c.args.place c.requires.planned.n c.index_mut.result.now
     (ap (λ (w : WorldState _). slice_get w.nodes c.args.place) c.self.view_is ∙ c.requires.planned.there)
     c.index_mut.ensures.value in
-    unchanged_act c.act.result c.self.inside.site c.self.inside.moment c.self.inside.nodes.items
-    (log_of c.self.inside.log) (log_of c.act.new.log) (buses_of c.self.inside.buses) (buses_of c.act.new.buses)
-    c.args.place c.index_mut.result.now c.act.new.node c.args.plan c.args.draft.now c.args.cause there c.args.self.now
+    unchanged_act c.act_at.result c.self.inside.site c.self.inside.moment c.self.inside.nodes.items
+    (log_of c.self.inside.log) (log_of c.act_at.new.log) (buses_of c.self.inside.buses) (buses_of c.act_at.new.buses)
+    c.args.place c.index_mut.result.now c.act_at.new.node c.args.plan c.args.draft.now c.args.cause there c.args.self.now
     c.self.view_is
-    c.act.ensures.unchanged c.act.ensures.same c.act.ensures.quiet
+    c.act_at.ensures.unchanged c.act_at.ensures.same c.act_at.ensures.quiet

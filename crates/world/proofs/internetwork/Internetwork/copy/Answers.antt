@@ -1,6 +1,7 @@
-use Rattle.std.proofs.Common.{◌∙◌, sym, subst, List}
+use Rattle.std.proofs.Common.{◌∙◌, sym, subst, List, arith}
 use Rattle.buses.specs.Buses.{buses_of}
 use Rattle.world_log.specs.site_node.Node.{NodeState}
+use Rattle.world.proofs.Dues.{dues_none}
 use Rattle.world.proofs.CopyLaws.{copy_seen, copy_stands}
 use Rattle.world.proofs.internetwork.Internetwork.copy.Goals as goal
 use Rattle.world_log.specs.Log.{log_of}
@@ -14,6 +15,8 @@ invariant_of-result g c = (
       (c.in_ok-nodes.ensures ∙ c.as_slice.ensures.value) c.in_ok-log.ensures c.self.invariant.0,
   subst (λ (ns : List (NodeState _)). Leads c.in_ok-directory.directory ns) c.as_slice-2.ensures.value
       c.in_ok-directory.ensures,
+  dues_none c.in_ok-dues.dues c.in_ok-nodes.nodes.items c.len.result c.in_ok-dues.ensures
+      (omega (arith, c.len.ensures, c.in_ok-nodes.nodes.ok.0)),
 )
 
 -- it is seen the same

@@ -13,6 +13,7 @@ invariant_of-self g c = (
   subst (λ (s : RecentState _). AreSteady c.self.inside.site c.self.inside.moment c.self.inside.nodes.items s.items)
       (sym c.hand_out.ensures.items) c.self.invariant.0,
   c.self.invariant.1,
+  c.self.invariant.2,
 )
 
 pub returns-clause-handed : goal.returns-clause-handed

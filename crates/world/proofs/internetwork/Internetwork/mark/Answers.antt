@@ -33,4 +33,5 @@ invariant_of-self g c = (
       (steady_marked c.self.inside.site c.self.inside.moment c.self.inside.nodes.items c.self.inside.log.items.items
       c.args.number c.mark.ensures.item c.mark.ensures.there c.self.invariant.0),
   c.self.invariant.1,
+  c.self.invariant.2,
 )

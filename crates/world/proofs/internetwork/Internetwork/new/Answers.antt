@@ -1,9 +1,10 @@
-use Rattle.std.proofs.Common.{◌∙◌, sym, ap, subst, List}
+use Rattle.std.proofs.Common.{◌∙◌, sym, ap, subst, List, arith}
 use Rattle.std.specs.List.{AllByRecursion}
 use Rattle.bus_traffic.specs.Bus.{BusState}
 use Rattle.buses.specs.Buses.{buses_of}
 use Rattle.buses.specs.Puts.{BusesState}
 use Rattle.world_log.specs.site_node.Node.{NodeState}
+use Rattle.world.proofs.Dues.{dues_none}
 use Rattle.world.proofs.FreshLaws.{steady_new}
 use Rattle.world.proofs.internetwork.Internetwork.new.Goals as goal
 use Rattle.world.specs.Laws.{HasMacs}
@@ -17,6 +18,8 @@ open-requires g c = record {
       (subst (λ (ns : List (NodeState _)). AllByRecursion HasMacs ns) c.as_slice.ensures.value c.are_at_macs.ensures);
   leads = subst (λ (ns : List (NodeState _)). Leads c.in_ok-directory.directory ns) c.as_slice-2.ensures.value
       c.in_ok-directory.ensures;
+  dues = dues_none c.in_ok-dues.dues c.in_ok-nodes.nodes.items c.len.result c.in_ok-dues.ensures
+      (omega (arith, c.len.ensures, c.in_ok-nodes.nodes.ok.0));
 }
 
 -- it is fresh
@@ -26,3 +29,7 @@ returns-clause-fresh g c = c.open.ensures
     record (fresh_world c.args.site) { nodes = ns; buses = buses_of c.new-buses.result }) c.in_ok-nodes.ensures.nodes
     ∙ ap (λ (bs : BusesState _). record (fresh_world c.args.site) { buses = bs }) (c.new-buses.ensures
     ∙ ap (λ (xs : List (BusState _)). record { buses = xs; frames = 0 }) c.in_ok-buses_of.ensures)
+
+-- it was judged
+pub returns-clause-sound : goal.returns-clause-sound
+returns-clause-sound g c = c.in_ok-nodes.ensures.sound

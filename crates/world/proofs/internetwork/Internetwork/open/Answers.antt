@@ -10,4 +10,5 @@ invariant_of-result g c = (
   subst (λ (is : List (Item _)). AreSteady c.args.site 0 c.args.nodes.items is)
       (sym (ap (λ (l : LogState _). l.items) c.new.ensures)) c.requires.steady,
   c.requires.leads,
+  c.requires.dues,
 )

@@ -23,6 +23,7 @@ invariant_of-self g c =
       steady_later c.self.inside.site c.self.inside.moment (c.self.inside.moment + c.args.n) c.self.inside.nodes.items
           c.self.inside.log.items.items (omega arith) passes.greatest c.self.invariant.0,
       c.self.invariant.1,
+      c.self.invariant.2,
     )
 
 pub returns-clause-ticks : goal.returns-clause-ticks
