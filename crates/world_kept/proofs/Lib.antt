@@ -1,0 +1,3 @@
+pub mod KeptLaws
+pub mod DeedLaws
+pub mod HistoryLaws
