@@ -5,3 +5,4 @@ pub mod SenderLaws
 pub mod StrayLaws
 pub mod TurnLaws
 pub mod HearingLaws
+pub mod SendingLaws

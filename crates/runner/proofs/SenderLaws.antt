@@ -1,15 +1,17 @@
 -- Who sent the items of a world stays known as it goes on: items come behind those that are there.
-use Rattle.std.proofs.Common.{◌≡◌, ◌∙◌, inl, inr, refl, sym, ap, subst, ℕ, zero, suc, true, List, [], ◌∷◌, ◌++◌, map, Some, arith}
+use Rattle.std.proofs.Common.{◌≡◌, ◌∙◌, inl, inr, refl, sym, ap, subst, ℕ, zero, suc, ◌-◌, ◌≤◌, true, List, [], ◌∷◌, ◌++◌, drop, map, Some, arith}
 use Rattle.std.proofs.lemmas.List.{append_assoc, append-nil, map-append}
 use Rattle.std.proofs.lemmas.Option.{none-some, same_Some}
 use Rattle.std.specs.Prelude.{slice_get, slice_set}
 use Rattle.bus_traffic.specs.declared.hearing.HeardFrame.{HeardFrame}
 use Rattle.npdu.specs.declared.mac.Mac.{Mac}
 use Rattle.runner.specs.Strays.{TakesStray}
-use Rattle.senders.proofs.SendersLaws.{known_on}
+use Rattle.senders.proofs.SendersLaws.{known_behind, known_on}
 use Rattle.senders.specs.Senders.{AreKnown, Grows, SendersState, senders_of}
 use Rattle.simulator.specs.world.Acting.{Acts}
+use Rattle.simulator.proofs.LedLaws.{as_whole}
 use Rattle.simulator.specs.world.Hearing.{Hears, IsTold, TakesEach}
+use Rattle.simulator.specs.world.Keeping.{Forgets}
 use Rattle.simulator.specs.world.Step.{Happens, Steps}
 use Rattle.simulator.specs.world.Straying.{Strays}
 use Rattle.simulator.specs.world.World.{WorldState}
@@ -23,6 +25,12 @@ use Rattle.simulator.specs.site_node.Steps.{NodeTold}
 use Rattle.traffic.specs.declared.item.Item.{Item}
 use Rattle.wire.specs.Datagrams.{Datagram}
 
+-- behind nothing stands nothing
+drop_none : {X : Type 0} (n : ℕ) (xs : List X) → xs ≡ [] → drop n xs ≡ []
+drop_none zero xs none = none
+drop_none (suc n) [] none = refl
+drop_none (suc n) (x ∷ xs) none = absurd (cc none)
+
 grows_none : (xs : List Mac) → Grows xs xs
 grows_none xs = record { more = []; is = sym (append-nil xs) }
 
@@ -34,6 +42,13 @@ grows_then xs ys zs first then = record {
   more = first.more ++ then.more;
   is = then.is ∙ ap (λ (l : List Mac). l ++ then.more) first.is ∙ append_assoc xs first.more then.more;
 }
+
+-- .. and those behind the first so many
+grows_behind : (f : ℕ) (xs ys : List Mac) → Grows xs ys → Grows (drop f xs) (drop f ys)
+grows_behind zero xs ys g = g
+grows_behind (suc f) [] ys g = record { more = drop (suc f) ys; is = refl }
+grows_behind (suc f) (x ∷ xs) ys g = subst (λ (l : List Mac). Grows (drop f xs) (drop (suc f) l)) (sym g.is)
+    (grows_behind f xs (xs ++ g.more) (record { more = g.more; is = refl }))
 
 module _ {A : Type 0} where
   -- the mark that an item was delivered changes no sender
@@ -111,17 +126,64 @@ module _ {A : Type 0} where
   strays_grow : (i : Item A) (w v : WorldState A) → Strays i w v → GrowsTo w v
   strays_grow i w v h = acts_grow w v h.place h.n h.next h.told h.acts
 
+  -- those that are kept
+  kept_senders : (f : ℕ) (items : List (Item A)) → drop f (senders_of items) ≡ senders_of (drop f items)
+  kept_senders zero items = refl
+  kept_senders (suc f) [] = refl
+  kept_senders (suc f) (i ∷ is) = kept_senders f is
+
+  -- who sent those of a world that are kept
+  abbrev pub senders_kept : WorldState A → List Mac
+  senders_kept w = senders_of (drop w.first_item w.items)
+
+  kept_grow : (w v : WorldState A) → v.first_item ≡ w.first_item → GrowsTo w v → Grows (senders_kept w) (senders_kept v)
+  kept_grow w v same grows =
+      subst (λ (f : ℕ). Grows (senders_kept w) (senders_of (drop f v.items))) (sym same)
+      (subst (λ (xs : List Mac). Grows xs (senders_of (drop w.first_item v.items))) (kept_senders w.first_item w.items)
+      (subst (λ (ys : List Mac). Grows (drop w.first_item (senders_of w.items)) ys) (kept_senders w.first_item v.items)
+      (grows_behind w.first_item (senders_of w.items) (senders_of v.items) grows)))
+
   -- an event
-  pub known_after : (s : SendersState) (e : Event A) (w v : WorldState A) → AreKnown s (senders_of w.items) →
-      Steps e w v → AreKnown s (senders_of v.items)
-  known_after s e w v known steps =
-      known_on s (senders_of w.items) (senders_of v.items) (steps_grow e w v steps) known
+  pub known_after : (s : SendersState) (e : Event A) (w v : WorldState A) → AreKnown s (senders_kept w) →
+      Steps e w v → AreKnown s (senders_kept v)
+  known_after s e w v known steps = known_on s (senders_kept w) (senders_kept v)
+      (kept_grow w v (as_whole e w v steps).first_item (steps_grow e w v steps)) known
 
   -- a stray
-  pub known_after_stray : (s : SendersState) (d : Datagram) (w v : WorldState A) → AreKnown s (senders_of w.items) →
-      TakesStray d w v → AreKnown s (senders_of v.items)
-  known_after_stray s d w v known takes =
-      known_on s (senders_of w.items) (senders_of v.items) (strays_grow _ w v takes.strays) known
+  pub known_after_stray : (s : SendersState) (d : Datagram) (w v : WorldState A) → AreKnown s (senders_kept w) →
+      TakesStray d w v → AreKnown s (senders_kept v)
+  known_after_stray s d w v known takes = known_on s (senders_kept w) (senders_kept v)
+      (kept_grow w v (ap (λ (x : WorldState A). x.first_item) takes.strays.acts.is) (strays_grow _ w v takes.strays))
+      known
+
+  -- .. and where something is forgotten
+  fewer_kept : (f g : ℕ) (items : List (Item A)) → f ≤ g → drop (g - f) (drop f items) ≡ drop g items
+  fewer_kept zero g items le = ap (λ (n : ℕ). drop n items) (let same : g - 0 ≡ g = omega arith in same)
+  fewer_kept (suc f) zero items le = absurd (omega (arith, le))
+  fewer_kept (suc f) (suc g) [] le = drop_none (suc g - suc f) (drop (suc f) []) refl
+  fewer_kept (suc f) (suc g) (i ∷ is) le =
+      ap (λ (n : ℕ). drop n (drop f is)) (let same : suc g - suc f ≡ g - f = omega arith in same)
+      ∙ fewer_kept f g is (omega (arith, le))
+
+  pub known_forgotten : (s : SendersState) (w v : WorldState A) → AreKnown s (senders_kept w) → Forgets w v →
+      AreKnown (record s { seen = s.seen - (v.first_item - w.first_item) }) (senders_kept v)
+  known_forgotten s w v known f =
+      let n = v.first_item - w.first_item in
+      subst (λ (xs : List Mac). AreKnown (record s { seen = s.seen - n }) xs)
+      (kept_senders n (drop w.first_item w.items)
+      ∙ ap (λ (is : List (Item A)). senders_of is)
+      (fewer_kept w.first_item v.first_item w.items f.first_item ∙ sym f.left))
+      (known_behind s (senders_kept w) n known)
+
+  -- .. by the numbers of the first that were kept before and are kept then
+  pub known_forgotten_so : (s t : SendersState) (before after less : ℕ) (w v : WorldState A) →
+      before ≡ w.first_item → after ≡ v.first_item → less ≡ after - before →
+      t ≡ record s { seen = s.seen - less } → AreKnown s (senders_kept w) → Forgets w v → AreKnown t (senders_kept v)
+  known_forgotten_so s t before after less w v at_before at_after by is known f =
+      subst (λ (x : SendersState). AreKnown x (senders_kept v))
+      (sym (is ∙ ap (λ (n : ℕ). record s { seen = s.seen - n }) (by ∙ ap (λ (n : ℕ). n - before) at_after
+      ∙ ap (λ (n : ℕ). v.first_item - n) at_before)))
+      (known_forgotten s w v known f)
 
 -- nothing was seen
 pub none_seen : (senders : List Mac) → AreKnown (record { known = []; seen = 0 }) senders

@@ -1,15 +1,20 @@
 -- What any number of turns leaves.
 use Rattle.std.specs.Prelude.{◌≡◌, true, List, [], ◌∷◌, Option, Result}
 use Rattle.std.specs.List.{AllByRecursion}
+use Rattle.simulator.specs.Laws.{IsLed}
 use Rattle.simulator.specs.Runs.{Runs}
+use Rattle.simulator.specs.world.Keeping.{Keeps}
 use Rattle.simulator.specs.world.Step.{IsSoundEvent, IsSoundIfAny}
 use Rattle.simulator.specs.world.World.{WorldState}
 use Rattle.simulator.specs.world.site_events.declared.event.Event.{Event}
+use Rattle.simulator.specs.world_log.Growing.{WorldHistory}
 use Rattle.tags.specs.declared.fault.Fault.{Fault}
 use Rattle.wire.specs.Datagrams.{Datagram}
 use Rattle.runner.specs.Runner.{RunnerState}
 use Rattle.runner.specs.Turns.{IsTurn}
 use Rattle.runner.specs.declared.turned.Turned.{Turned}
+use Rattle.world_kept.specs.Deeds.{LeadsTo}
+use Rattle.world_kept.specs.Kept.{IsKeptBehind}
 
 -- a turn: what it is given, what the wire brings, and what it answers
 pub record Turn (A : Type 0) : Type 0 where
@@ -34,7 +39,20 @@ pub record AreEvents {A : Type 0} (w v : WorldState A) : Type 0 where
   pub sound : AllByRecursion IsSoundEvent events
   pub runs : Runs events w v
 
--- what any turns leave, whatever the wire brings, is what events leave, where no stray was heard
+-- what any turns leave, whatever the wire brings, is what events leave, where no stray was heard, and nothing handed out
+-- or forgotten
 abbrev pub TurnsAreSteps : Type 0 → Type 0
 TurnsAreSteps A = (ts : List (Turn A)) (old new : RunnerState A) → AllByRecursion (λ t. IsSoundIfAny t.next) ts →
-    Turns ts old new → new.is_led ≡ true → AreEvents old.world new.world
+    Turns ts old new → new.is_led ≡ true → new.is_whole ≡ true → AreEvents old.world new.world
+
+-- .. and of what is kept of a world, with all its past: events led that on, and what the turns leave is kept of it
+abbrev pub TurnsLead : Type 0 → Type 0
+TurnsLead A = (ts : List (Turn A)) (past : WorldHistory A) (w : WorldState A) (old new : RunnerState A) →
+    AllByRecursion (λ t. IsSoundIfAny t.next) ts → Turns ts old new → new.is_led ≡ true → IsLed w →
+    Keeps past w old.world → LeadsTo past w new.world
+
+-- .. whichever world it is kept of
+abbrev pub TurnsKeep : Type 0 → Type 0
+TurnsKeep A = (ts : List (Turn A)) (past : WorldHistory A) (old new : RunnerState A) →
+    AllByRecursion (λ t. IsSoundIfAny t.next) ts → Turns ts old new → new.is_led ≡ true →
+    IsKeptBehind past old.world → IsKeptBehind past new.world

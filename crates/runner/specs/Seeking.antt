@@ -47,6 +47,10 @@ pub record EndsLate {A : Type 0} (now : ℕ) (items : List (Item A)) : Type 0 wh
   pub parts : items ≡ before ++ item ∷ []
   pub late : is_recent now item ≡ false
 
+-- there is none of these, or they end with one that isn't recent
+abbrev pub AreLate : {A : Type 0} → (now : ℕ) → List (Item A) → Type 0
+AreLate now items = (items ≡ []) ⊎ EndsLate now items
+
 -- nobody of the site sent a datagram: no item is it, of those behind one that isn't recent (they stand in the order in
 -- which they were put out)
 pub record IsStray {A : Type 0} (now : ℕ) (d : Datagram) (items : List (Item A)) : Type 0 where
@@ -54,4 +58,4 @@ pub record IsStray {A : Type 0} (now : ℕ) (d : Datagram) (items : List (Item A
   pub recent : List (Item A)
   pub parts : items ≡ older ++ recent
   pub none : HasNoMatch now d recent
-  pub rest : (older ≡ []) ⊎ EndsLate now older
+  pub rest : AreLate now older

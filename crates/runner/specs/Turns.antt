@@ -2,6 +2,7 @@
 use Rattle.std.specs.Prelude.{◌≡◌, ◌⊎◌, ℕ, true, false, Option, Some, None, Result, Ok, Err}
 use Rattle.simulator.specs.Heard.{HasBrought}
 use Rattle.simulator.specs.world.Refusals.{IsRefused}
+use Rattle.simulator.specs.world.Resting.{RestsIfQuiet}
 use Rattle.simulator.specs.world.Step.{Steps}
 use Rattle.simulator.specs.world.site_events.declared.event.Event.{Event}
 use Rattle.simulator.specs.world.site_events.declared.event.Event.TheVariants.{Deliver}
@@ -14,15 +15,20 @@ use Rattle.runner.specs.Seeking.{IsLastMatch, IsStray}
 use Rattle.runner.specs.Strays.{IsRefusedStray, TakesStray}
 use Rattle.runner.specs.declared.turned.Turned.{Turned}
 use Rattle.runner.specs.declared.turned.Turned.TheVariants.{Stepped, Stray, Dropped, Nothing}
+use Rattle.world_kept.specs.Kept.{BringsToAll}
 
 -- nothing has changed, but that the latest turn had no stray
 abbrev pub IsIdle : {A : Type 0} → (old new : RunnerState A) → Type 0
 IsIdle old new = new ≡ record old { strayed = false }
 
--- the step of an event was made; where no stray was heard so far, what it brought was said, issued and whole
+-- the step of an event was made, by which a station of which nothing is due said and told nothing; where no stray was
+-- heard and nothing handed out or forgotten so far, what it brought was said, issued and whole; and always so in
+-- whatever world, with all its past, that events alone led to and of which the old one is kept
 pub record HasMade {A : Type 0} (e : Event A) (old new : RunnerState A) : Type 0 where
   pub steps : Steps e old.world new.world
-  pub brought : old.is_led ≡ true → HasBrought e old.world new.world
+  pub rests : RestsIfQuiet e old.world new.world
+  pub brought : old.is_led ≡ true → old.is_whole ≡ true → HasBrought e old.world new.world
+  pub brings : BringsToAll e old.world
   pub rest : new ≡ record old { world = new.world; strayed = false }
 
 -- a datagram came that is an item, which was delivered

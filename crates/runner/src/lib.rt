@@ -4,6 +4,8 @@
 //! brought, and nothing else. One that a station of the site sent at most 1000 ms ago is delivered; any other is
 //! dropped, or, in an open runner, heard by its station. Whatever is put out is sent, all of it also where one sending
 //! fails. As long as no stranger's datagram was heard, what turns leave is what events leave, so the history is legal.
+//! It hands out and forgets where it is asked to: then that is so of the whole, and the entries that were handed out
+//! with those that it has behind them are legal.
 //!
 //! - `runner`: what it keeps, and its turn.
 //! - `turned`: what a turn comes to.

@@ -1,29 +1,43 @@
 //! All that was put out is sent.
 
-ghost use Rattle.std.specs.Prelude.{◌≡◌, ◌-◌, IfErr, OnOk, OnErr, length};
+ghost use Rattle.std.specs.Prelude.{◌≡◌, ◌-◌, ◌<◌, true, false, IfErr, OnErr, OnOk, length};
 ghost use Rattle.wire.specs.Counts.{IsRisen, raised};
 
+use crate::seeking::item_at;
+use simulator::Internetwork;
 use std::alloc::Allocator;
 use tags::Fault;
-use traffic::Item;
 use wire::Wire;
 
-/// The items behind so many.
-pub(crate) fn behind<A: Allocator>(items: &[Item<A>], count: usize) -> &[Item<A>]
-    ensures { length result.now ≡ length items.now - count }
+/// Sends the item of a number. Tells whether it could be sent.
+fn send_one<A: Allocator + Copy, W: Wire>(
+    wire: &mut W,
+    world: &Internetwork<A>,
+    number: usize,
+) -> bool
+    requires there { number < length world.now.items }
+    ensures sends { W.sends wire.new ≡ raised (W.sends wire.old) 1 }
+    ensures recvs { W.recvs wire.new ≡ W.recvs wire.old }
+    ensures latest { W.latest wire.new ≡ W.latest wire.old }
+    ensures sound { result ≡ true → W.faults wire.new ≡ W.faults wire.old }
+    ensures failed { result ≡ false → W.faults wire.new ≡ raised (W.faults wire.old) 1 }
 {
-    match items.get(count..) {
-        Some(rest) => rest,
-        None => &[],
-    }
+    let item = item_at(world, number);
+    wire.send(item.from, item.to, item.octets.as_slice())
+        .is_ok()
 }
 
-/// Sends each item, all of them also where one fails.
+/// Sends each item behind the first so many, all of them also where one fails.
 ///
 /// # Errors
 /// `Wire` where one failed.
-pub(crate) fn send_all<A: Allocator, W: Wire>(wire: &mut W, items: &[Item<A>]) -> Result<(), Fault>
-    ensures sends { W.sends wire.new ≡ raised (W.sends wire.old) (length items.now) }
+#[tactic(auto, using(crate::proofs::SendingLaws::sending_rules))]
+pub(crate) fn send_all<A: Allocator + Copy, W: Wire>(
+    wire: &mut W,
+    world: &Internetwork<A>,
+    sent: usize,
+) -> Result<(), Fault>
+    ensures sends { W.sends wire.new ≡ raised (W.sends wire.old) (length world.now.items - sent) }
     ensures recvs { W.recvs wire.new ≡ W.recvs wire.old }
     ensures latest { W.latest wire.new ≡ W.latest wire.old }
     ensures sound { OnOk result (W.faults wire.new ≡ W.faults wire.old) }
@@ -33,13 +47,12 @@ pub(crate) fn send_all<A: Allocator, W: Wire>(wire: &mut W, items: &[Item<A>]) -
     // Counts are read where their range is to be known.
     let _counts = (wire.sends(), wire.faults());
     let mut failed = false;
-    for item in items {
-        if wire
-            .send(item.from, item.to, item.octets.as_slice())
-            .is_err()
-        {
+    let mut number = sent;
+    while number < world.item_count() {
+        if !send_one(wire, world, number) {
             failed = true;
         }
+        number += 1;
     }
     if failed { Err(Fault::Wire) } else { Ok(()) }
 }

@@ -1,5 +1,5 @@
 -- Who is known among senders, and who is none of them.
-use Rattle.std.proofs.Common.{◌≡◌, ◌∙◌, refl, sym, ap, subst, ℕ, zero, suc, ◌+◌, ◌≤◌, ◌<◌, Bool, true, false, List, [], ◌∷◌, ◌++◌, length, take, get_or, arith}
+use Rattle.std.proofs.Common.{◌≡◌, ◌∙◌, refl, sym, ap, subst, ℕ, zero, suc, ◌+◌, ◌-◌, ◌≤◌, ◌<◌, Bool, true, false, List, [], ◌∷◌, ◌++◌, length, drop, take, get_or, arith}
 use Rattle.std.specs.Prelude.{◌||◌}
 use Rattle.std.specs.List.{AllByRecursion}
 use Rattle.std.specs.Cmp.Lexicographic.{bytes_decides}
@@ -111,6 +111,41 @@ known_on s old new grows h = subst (λ (l : List Mac). AreKnown s l) (sym grows.
     longer (x ∷ xs) ys zero below = omega (arith, below)
     longer (x ∷ xs) ys (suc n) below =
         let more = longer xs ys n (omega (arith, below)) in omega (arith, more)
+
+-- what is known stays so where the first so many are gone
+known_fewer : (all senders : List Mac) (seen n : ℕ) → AllByRecursion (λ m. is_among m all ≡ true) (take seen senders) →
+    AllByRecursion (λ m. is_among m all ≡ true) (take (seen - n) (drop n senders))
+known_fewer all senders seen zero h =
+    subst (λ (m : ℕ). AllByRecursion (λ x. is_among x all ≡ true) (take m senders))
+    (let same : seen ≡ seen - 0 = omega arith in same) h
+known_fewer all [] seen (suc n) h = none_taken (seen - suc n)
+  where
+    none_taken : (k : ℕ) → AllByRecursion (λ m. is_among m all ≡ true) (take k [])
+    none_taken zero = tt
+    none_taken (suc k) = tt
+known_fewer all (m ∷ ms) zero (suc n) h =
+    subst (λ (k : ℕ). AllByRecursion (λ x. is_among x all ≡ true) (take k (drop n ms)))
+    (let none : 0 ≡ 0 - suc n = omega arith in none) (nothing (drop n ms))
+  where
+    nothing : (xs : List Mac) → AllByRecursion (λ m. is_among m all ≡ true) (take 0 xs)
+    nothing [] = tt
+    nothing (x ∷ xs) = tt
+known_fewer all (m ∷ ms) (suc seen) (suc n) h =
+    subst (λ (k : ℕ). AllByRecursion (λ x. is_among x all ≡ true) (take k (drop n ms)))
+    (let fewer : seen - n ≡ suc seen - suc n = omega arith in fewer) (known_fewer all ms seen n (h.1))
+
+left_long : (xs : List Mac) (seen n : ℕ) → seen ≤ length xs → seen - n ≤ length (drop n xs)
+left_long xs seen zero le = omega (arith, le)
+left_long [] seen (suc n) le = let none : seen ≡ 0 = omega (arith, le) in omega (arith, none)
+left_long (x ∷ xs) zero (suc n) le = omega arith
+left_long (x ∷ xs) (suc seen) (suc n) le = let rest = left_long xs seen n (omega (arith, le)) in omega (arith, rest)
+
+pub known_behind : (s : SendersState) (senders : List Mac) (n : ℕ) → AreKnown s senders →
+    AreKnown (record s { seen = s.seen - n }) (drop n senders)
+known_behind s senders n h = record {
+  seen = left_long senders s.seen n h.seen;
+  known = known_fewer s.known senders s.seen n h.known;
+}
 
 -- whoever isn't known is none of those that were seen, where all were
 pub others_of : (known senders : List Mac) (from : Mac) → is_among from known ≡ false →

@@ -1,6 +1,6 @@
 //! Who sent the first so many items.
 
-ghost use Rattle.std.specs.Prelude.{◌≡◌, [], true, false};
+ghost use Rattle.std.specs.Prelude.{◌≡◌, ◌-◌, [], true, false};
 ghost use Rattle.senders.specs.Senders as spec;
 ghost use Rattle.senders.specs.Senders.{AreKnown, AreOthers, senders_of};
 
@@ -69,6 +69,13 @@ impl<A: Allocator> Senders<A> {
             }
             self.seen += 1;
         }
+    }
+
+    /// The first so many of the items are gone: whoever sent them is known still.
+    pub fn forget(&mut self, count: usize)
+        ensures { self.new ≡ record self.old { seen = self.old.seen - count } }
+    {
+        self.seen = self.seen.saturating_sub(count);
     }
 
     /// Whether it saw all items, and none of them is from this address.

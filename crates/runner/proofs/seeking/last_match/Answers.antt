@@ -1,25 +1,28 @@
-use Rattle.std.proofs.Common.{◌≡◌, sym, subst, ℕ, suc, ◌<◌, ◌-◌, drop, false, arith, rules}
-use Rattle.traffic.specs.declared.item.Item.{Item}
-use Rattle.runner.proofs.SeekingLaws.{late_before, none_before}
-use Rattle.runner.specs.Seeking.{AreOthers, is_recent}
+use Rattle.std.proofs.Common.{◌≡◌, ◌∙◌, sym, subst, ℕ, ◌<◌, true, false, arith, rules}
+use Rattle.runner.proofs.SeekingLaws.{passed_at, stray_behind}
+use Rattle.runner.specs.Seeking.{IsStray}
 use Rattle.wire.specs.Datagrams.{datagram_of}
 use Rattle.runner.proofs.seeking.last_match.Goals as goal
 
 -- the item before isn't recent
-pub returns-else-is_heard_in_time-clause-stray : goal.returns-else-is_heard_in_time-clause-stray
-returns-else-is_heard_in_time-clause-stray g c =
+pub returns-then-not-is_recent-clause-stray : goal.returns-then-not-is_recent-clause-stray
+returns-then-not-is_recent-clause-stray g c =
     let some : 0 < c.loop-number.number = search rules in
-    let up : suc (c.loop-number.number - 1) ≡ c.loop-number.number = omega (arith, some) in
-    late_before c.args.now (datagram_of c.args.got.now) c.args.items.now (c.loop-number.number - 1)
-    c.index-items-number.result (omega (arith, some, c.loop-number.invariant.0))
-    (subst (λ (i : Item _). is_recent c.args.now i ≡ false) c.index-items-number.is (search rules))
-    (subst (λ (n : ℕ). AreOthers c.args.now (datagram_of c.args.got.now) (drop n c.args.items.now)) (sym up)
-    c.loop-number.invariant.1)
+    let late : c.is_recent.result ≡ false = search rules in
+    subst (λ (t : ℕ). IsStray t (datagram_of c.args.got.now) c.args.world.now.items) (c.loop-number.invariant.0)
+    (stray_behind c.moment-now.result (datagram_of c.args.got.now) c.args.world.now.items c.loop-number.number
+    c.item_at-item.result.now some c.item_at-item.ensures (sym c.is_recent.ensures ∙ late) (c.loop-number.invariant.2))
 
--- there is no item before
-pub returns-after-loop-number-clause-stray : goal.returns-after-loop-number-clause-stray
-returns-after-loop-number-clause-stray g c =
-    let first : c.loop-number.number ≡ 0 = search rules in
-    none_before c.args.now (datagram_of c.args.got.now) c.args.items.now
-    (subst (λ (n : ℕ). AreOthers c.args.now (datagram_of c.args.got.now) (drop n c.args.items.now)) first
-    c.loop-number.invariant.1)
+-- it is recent, and another
+pub loop-number-preserved : goal.loop-number-preserved
+loop-number-preserved g c =
+    let some : 0 < c.loop-number.number = search rules in
+    let recent : c.is_recent.result ≡ true = search rules in
+    let other : c.is_match.result ≡ false = search rules in
+    let most = c.loop-number.invariant.1 in (
+      c.loop-number.invariant.0,
+      omega (arith, most),
+      passed_at c.moment-now.result (datagram_of c.args.got.now) c.args.world.now.items c.loop-number.number
+          c.item_at-item.result.now some c.item_at-item.ensures (sym c.is_recent.ensures ∙ recent)
+          (λ same. absurd (cc (sym other ∙ c.is_match.ensures.1 same))) (c.loop-number.invariant.2),
+    )
