@@ -1,6 +1,6 @@
 //! Rows of live runs over memory: `SITE-NAME.live` is a script, before whose lines may stand those that tell of the
-//! wire in rows of turns, and `names` where the standard's names are printed. A millisecond passes in each round. What
-//! is wanted is what is printed.
+//! wire in rows of turns, and `names` where the standard's names are printed. The clock tells a millisecond more each
+//! round; in the first one no time passes yet. What is wanted is what is printed.
 
 use crate::timer::SteppingTimer;
 use rows_wire::{Course, Row, WireInMemory, row_of, said, take_word, text_of, wanted_of};
@@ -42,7 +42,7 @@ fn found_of(alloc: Global, row: &Row) -> io::Result<String> {
     printed_of(alloc, alloc, row.site.as_slice(), script.as_str(), over)
 }
 
-/// The script of a row, and how its site is run: a millisecond passes in each round.
+/// The script of a row, and how its site is run: the clock tells a millisecond more in each round.
 ///
 /// # Errors
 /// Want of memory.
@@ -70,7 +70,7 @@ pub(crate) fn over_memory(alloc: Global, row: &Row) -> io::Result<(String, OverM
 #[derive(Drop)]
 pub(crate) struct OverMemory {
     pub(crate) wire: WireInMemory,
-    /// The milliseconds that pass in each round.
+    /// How many milliseconds more the clock tells in each round.
     pub(crate) step: u64,
     pub(crate) is_open: bool,
     pub(crate) spelling: Spelling,

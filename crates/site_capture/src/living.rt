@@ -45,24 +45,15 @@ impl<W: Write + Drop, A: Allocator + Copy> LiveCapture<W, A> {
         stray: Option<Got<'_>>,
         more: &mut Vec<u8, A>,
     ) -> Result<(), Fault> {
-        let buses = site.buses();
         if !self.is_begun {
-            let networks = networks(self.alloc, buses.buses.as_slice())?;
+            let networks = networks(self.alloc, site.buses().buses.as_slice())?;
             write_start(networks.as_slice(), more)?;
             put_names(self.alloc, site.site().stations(), more)?;
         }
         if let Some(Got { from, to, octets }) = stray {
             put_datagram(from, to, octets, site.moment(), "", more)?;
         }
-        put_behind(
-            self.alloc,
-            self.seen,
-            site.items(),
-            buses,
-            site.site().stations(),
-            site.moment(),
-            more,
-        )
+        put_behind(self.alloc, self.seen, site, more)
     }
 }
 
@@ -73,7 +64,7 @@ impl<W: Write + Drop, A: Allocator + Copy> Observer<A> for LiveCapture<W, A> {
             return Err(error_of(fault));
         }
         self.is_begun = true;
-        self.seen = Seen::all(site.items(), site.buses());
+        self.seen = Seen::all(site);
         if more.is_empty() {
             return Ok(());
         }

@@ -2,10 +2,10 @@
 
 use crate::hosts::ends_of;
 use bus_traffic::Bus;
-use buses::Buses;
 use bvll::Address;
 use captures::{Datagram, write_datagram, write_frame};
 use npdu::Mac;
+use site_live::Internetwork;
 use site_parts::Station;
 use std::alloc::{AllocError, Allocator};
 use tags::Fault;
@@ -41,32 +41,39 @@ impl Seen {
         }
     }
 
-    /// All of this.
-    pub(crate) fn all<A: Allocator>(items: &[Item<A>], buses: &Buses<A>) -> Self {
+    /// All that a site put out.
+    pub(crate) fn all<A: Allocator + Copy>(site: &Internetwork<A>) -> Self {
         Seen {
-            items: items.len(),
-            frames: buses.frames,
+            items: site.item_count(),
+            frames: site.buses().frames,
         }
     }
 }
 
-/// Writes what was put out behind what stands in the file, the frames at this moment, in milliseconds, with the names
-/// of their ends.
+/// Writes what a site put out behind what stands in the file, as far as it is kept, the frames at the moment of the
+/// site, in milliseconds, with the names of their ends.
 pub(crate) fn put_behind<A: Allocator + Copy, B: Allocator>(
     alloc: A,
     seen: Seen,
-    items: &[Item<A>],
-    buses: &Buses<A>,
-    stations: &[Station<A>],
-    moment: u64,
+    site: &Internetwork<A>,
     file: &mut Vec<u8, B>,
 ) -> Result<(), Fault> {
-    if let Some(items) = items.get(seen.items..) {
+    let kept = seen.items.saturating_sub(site.first_item());
+    if let Some(items) = site.items().get(kept..) {
         put_items(items, file)?;
     }
+    let stations = site.site().stations();
     let mut place = 0u16;
-    for bus in &buses.buses {
-        put_bus(alloc, place, bus, seen.frames, stations, moment, file)?;
+    for bus in &site.buses().buses {
+        put_bus(
+            alloc,
+            place,
+            bus,
+            seen.frames,
+            stations,
+            site.moment(),
+            file,
+        )?;
         place = place.saturating_add(1);
     }
     Ok(())

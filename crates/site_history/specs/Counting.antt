@@ -30,3 +30,16 @@ counts_of h = record {
   answered = count Answered h;
   ended = count Ended h;
 }
+
+-- the counts of no entry
+abbrev pub none_counted : Counts
+none_counted = record { issued = 0; executed = 0; answered = 0; ended = 0 }
+
+-- these counts with those of more entries
+abbrev pub counted_on : {A : Type 0} → Counts → List (Entry Station (Request A) (Reply A)) → Counts
+counted_on c h = record {
+  issued = c.issued + count Issue h;
+  executed = c.executed + count Executed h;
+  answered = c.answered + count Answered h;
+  ended = c.ended + count Ended h;
+}

@@ -1,6 +1,6 @@
 //! What the last line counts.
 
-ghost use Rattle.std.specs.Prelude.{◌≡◌};
+ghost use Rattle.std.specs.Prelude.{◌≡◌, IfSome};
 ghost use Rattle.site_history.specs.Counting as spec;
 
 use faulty_flow::WorldEntry;
@@ -23,6 +23,33 @@ pub struct Counts {
     pub executed: usize,
     pub answered: usize,
     pub ended: usize,
+}
+
+impl Counts {
+    /// Returns the counts of no entry.
+    pub fn none() -> Self
+        ensures { result ≡ spec.none_counted }
+    {
+        Counts {
+            issued: 0,
+            executed: 0,
+            answered: 0,
+            ended: 0,
+        }
+    }
+
+    /// Returns these counts with those of more entries, or none where there are too many to be counted.
+    pub fn with<A: Allocator>(self, more: &[WorldEntry<A>]) -> Option<Self>
+        ensures { IfSome result (λ counts. counts ≡ spec.counted_on self more.now) }
+    {
+        let more = counted(more);
+        Some(Counts {
+            issued: self.issued.checked_add(more.issued)?,
+            executed: self.executed.checked_add(more.executed)?,
+            answered: self.answered.checked_add(more.answered)?,
+            ended: self.ended.checked_add(more.ended)?,
+        })
+    }
 }
 
 /// How many entries of each kind these are.

@@ -1,5 +1,5 @@
 -- The lines of a turn, one behind another.
-use Rattle.std.proofs.Common.{◌≡◌, sym, subst, ℕ, Bool, List, ◌++◌, Option, None, Some, Result, Ok, Err, OnOk, drop}
+use Rattle.std.proofs.Common.{◌≡◌, refl, sym, subst, ℕ, Bool, List, ◌++◌, Option, None, Some, Result, Ok, Err, OnOk, drop}
 use Rattle.std.specs.Io.KnownBytes.{Appends, Keeps}
 use Rattle.runner.specs.world_log.Growing.{WorldHistory}
 use Rattle.runner.specs.Runner.{RunnerState}
@@ -18,6 +18,13 @@ kept None mid new a p q = tt
 kept (Some xs) None new a p q = absurd p
 kept (Some xs) (Some ys) None a p q = absurd q
 kept (Some xs) (Some ys) (Some zs) a p q = subst (λ (l : List ℕ). l ≡ xs ++ a) (sym q) p
+
+-- what isn't flushed stays too
+pub keeps_same : (k : Known) → Keeps k k
+keeps_same None = tt
+keeps_same (Some xs) = refl
+
+pub ruleset flush_laws = (keeps_same)
 
 -- three texts, which are flushed then
 pub told_printed : {T E : Type 0} (r : Result T E) (k0 k1 k2 k3 k4 : Known) (a b c : List ℕ) → Appends k0 k1 a →

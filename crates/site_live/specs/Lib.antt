@@ -1,3 +1,4 @@
+pub mod Laps
 pub mod Printed
 pub mod Running
 pub mod Runs

@@ -1,18 +1,21 @@
 //! A live run, round by round.
 
-ghost use Rattle.std.specs.Prelude.{◌≡◌, OnOk};
+ghost use Rattle.std.specs.Prelude.{◌≡◌, ◌<◌, IfOk, OnOk, length};
 ghost use Rattle.runner.specs.world.Step.{IsSoundIfAny};
+ghost use Rattle.site_live.specs.Laps.{HasNameAt};
 
+use crate::lap::Lap;
 use crate::observer::Observer;
 use crate::timer::Timer;
 use crate::turning::print_turn;
+use due_times::DueTimes;
 use profile::MAX_TICK_MS;
-use runner::{Event, Heard, Internetwork, Runner, World, next_hear};
+use runner::{Event, Heard, Internetwork, Runner, World, WorldEntry, next_hear};
 use script::Step;
-use site_history::{AskedFor, print_refusal, print_refused_time};
+use site_history::{AskedFor, Counts, print_refusal, print_refused_time};
 use std::alloc::{AllocError, Allocator};
 use std::io;
-use std::io::Write;
+use std::io::{ErrorKind, Write};
 use std::marker::Model;
 use tags::{Fault, Items, Octets};
 use wire::{Got, Wire};
@@ -21,40 +24,63 @@ use words::Spelling;
 /// For how many milliseconds a run rests at most behind a round in which nothing happened.
 const MAX_REST_MS: u64 = 1;
 
+/// How many datagrams are received in a round at most.
+const MAX_IN_ROUND: u32 = 16;
+
 /// A site at a wire, and the clock that its time comes from. It is not dropped, but closed.
 pub struct Live<W: Wire + Drop, T: Timer + Drop, S: Observer<A> + Drop, A: Allocator + Copy> {
     alloc: A,
     runner: Runner<A>,
+    /// How many entries of each kind were handed out.
+    counts: Counts,
+    /// It holds entries that are handed out, until they are let go of, and keeps its memory.
+    told: Vec<WorldEntry<A>, A>,
     wire: W,
     timer: T,
     /// Who looks on.
     observer: S,
     /// How far the frames of the buses were heard.
     heard: Heard,
-    /// The moment at which each station of the site registers next, in milliseconds, where it is a foreign device.
-    due: Vec<u64, A>,
+    /// How far it has come round the site, where stations wake.
+    lap: Lap,
+    /// The moment, in milliseconds, at which each station of the site registers next: never, where it is no foreign
+    /// device.
+    due: DueTimes<A>,
 }
 
 impl<W: Wire + Drop, T: Timer + Drop, S: Observer<A> + Drop, A: Allocator + Copy> Model
     for Live<W, T, S, A> {
-    ghost use Rattle.runner.specs.Runner.{RunnerState};
+    ghost use Rattle.site_live.specs.Running.{LiveState};
 
-    ghost Value = { RunnerState A };
+    ghost Value = { LiveState A };
 
-    ghost view = { λ l. l.runner };
+    ghost view = { λ l. record { runner = l.runner; counts = l.counts; lap = l.lap } };
 }
 
-/// The moment 0, so many times.
-fn nothing_yet<A: Allocator>(alloc: A, count: usize) -> Result<Vec<u64, A>, AllocError> {
-    let mut due = Vec::new(alloc);
-    for _ in 0..count {
-        due.push(0)?;
+/// Returns whether time passes by an event, if there is one.
+fn is_tick<A: Allocator>(next: &Option<Event<A>>) -> bool {
+    match next {
+        Some(Event::Tick(_)) => true,
+        Some(_) | None => false,
     }
-    Ok(due)
 }
 
-/// The name of the station at this place of a site, in memory of `alloc`.
+/// Returns the name of the node at this place of a site, in memory of `alloc`.
+#[tactic(auto, using(crate::proofs::LapLaws::name_laws))]
 fn name_at<A: Allocator + Copy>(
+    alloc: A,
+    world: &Internetwork<A>,
+    place: usize,
+) -> Result<Octets<A>, AllocError>
+    requires there { place < length world.now.nodes }
+    ensures named { IfOk result (λ name. HasNameAt place name world.now) }
+{
+    let node = &world.nodes()[place];
+    Items::from_slice(alloc, node.name())
+}
+
+/// Returns the name of the station at this place of a site, if there is one, in memory of `alloc`.
+fn station_name_at<A: Allocator + Copy>(
     alloc: A,
     world: &Internetwork<A>,
     place: usize,
@@ -72,19 +98,35 @@ fn seconds_to_live<A: Allocator + Copy>(world: &Internetwork<A>, place: usize) -
     Some(foreign.seconds_to_live)
 }
 
+/// Returns the moment, in milliseconds, at which the station at this place of a site registers next, where it does at
+/// this one: half of its seconds to live later, or never, where it is no foreign device (J.5.2.3).
+fn next_registration<A: Allocator + Copy>(
+    world: &Internetwork<A>,
+    place: usize,
+    moment: u64,
+) -> u64 {
+    match seconds_to_live(world, place) {
+        Some(seconds) => moment.saturating_add(500 * u64::from(seconds)),
+        None => u64::MAX,
+    }
+}
+
 /// The datagram of a stranger that the latest turn had, if it had one that was heard.
 fn stray_of<'w, W: Wire, A: Allocator + Copy>(runner: &Runner<A>, wire: &'w W) -> Option<Got<'w>> {
     if runner.strayed() { wire.last() } else { None }
 }
 
 impl<W: Wire + Drop, T: Timer + Drop, S: Observer<A> + Drop, A: Allocator + Copy> Live<W, T, S, A> {
-    ghost use Rattle.std.specs.Prelude.{◌≡◌, ◌<◌, [], true, false, IfOk, OnOk};
+    ghost use Rattle.std.specs.Prelude.{◌≡◌, ◌<◌, ◌≤◌, ◌+◌, ◌-◌, ◌^◌, [], true, false, Some, length};
+    ghost use Rattle.std.specs.Prelude.{IfOk, IfSome, OnOk};
+    ghost use Rattle.runner.specs.simulator.Laws.{IsLed};
     ghost use Rattle.runner.specs.world.Step.{IsSoundEvent};
     ghost use Rattle.runner.specs.Hearing.{left_to_hear};
-    ghost use Rattle.runner.specs.Runner.{RunnerState};
     ghost use Rattle.site_history.specs.Asked.{refused_time_text};
     ghost use Rattle.site_history.specs.Printed.{refused_text};
-    ghost use Rattle.site_live.specs.Running.{IsToldOf, Lives, PrintsNothing};
+    ghost use Rattle.site_live.specs.Laps.{GoesOn, places_left, start_of};
+    ghost use Rattle.site_live.specs.Running.{HandsOut, IsToldOf, LetsGo, Lives, MissesOne, PassesOver, PrintsNothing};
+    ghost use Rattle.site_live.specs.Runs.{begun};
     ghost use Rattle.script.specs.Steps.{IsSoundStep};
     ghost use Rattle.site_live.specs.Steps.{asked_at, asked_by, asked_in};
 
@@ -100,17 +142,20 @@ impl<W: Wire + Drop, T: Timer + Drop, S: Observer<A> + Drop, A: Allocator + Copy
         timer: T,
         observer: S,
     ) -> Result<Self, AllocError>
-        ensures { IfOk result (λ live.
-            live ≡ record { world = world; is_open = is_open; strayed = false; is_led = true }) }
+        ensures begun { IfOk result (λ live. live ≡ begun is_open world) }
+        ensures led { OnOk result (IsLed world) }
     {
-        match nothing_yet(alloc, world.site().stations().len()) {
+        match DueTimes::new(alloc, world.site().stations().len()) {
             Ok(due) => Ok(Live {
                 alloc,
                 runner: Runner::new(world, is_open),
+                counts: Counts::none(),
+                told: Vec::new(alloc),
                 wire,
                 timer,
                 observer,
                 heard: Heard::new(),
+                lap: Lap::At(0),
                 due,
             }),
             Err(error) => {
@@ -125,10 +170,13 @@ impl<W: Wire + Drop, T: Timer + Drop, S: Observer<A> + Drop, A: Allocator + Copy
         let Live {
             alloc: _alloc,
             runner,
+            counts: _counts,
+            told: _told,
             wire: _wire,
             timer: _timer,
             observer: _observer,
             heard: _heard,
+            lap: _lap,
             due: _due,
         } = self;
         runner.close()
@@ -136,40 +184,108 @@ impl<W: Wire + Drop, T: Timer + Drop, S: Observer<A> + Drop, A: Allocator + Copy
 
     /// The site at the wire.
     pub fn runner(&self) -> &Runner<A>
-        ensures { result.now ≡ self.now }
+        ensures { result.now ≡ self.now.runner }
     {
         &self.runner
     }
 
+    /// Returns how many entries of each kind were handed out.
+    pub fn counts(&self) -> Counts
+        ensures { result ≡ self.now.counts }
+    {
+        self.counts
+    }
+
     fn world(&self) -> &Internetwork<A>
-        ensures { result.now ≡ self.now.world }
+        ensures { result.now ≡ self.now.runner.world }
     {
         self.runner.world()
     }
 
-    /// Takes a turn, lets it be seen, and prints what comes of it, and behind its refusal what is told of its event.
+    /// Takes a turn, by which the run comes so far round the site, lets it be seen, and prints what comes of it, and
+    /// behind its refusal what is told of its event. What was printed is handed out then, and what can no longer matter
+    /// is forgotten. Where time passes, the lines of the millisecond before are flushed.
     fn take_turn<O: Write>(
         &mut self,
         next: Option<Event<A>>,
+        lap: Lap,
         asked: Option<AskedFor<A>>,
         spelling: Spelling,
         out: &mut O,
     ) -> io::Result<()>
         requires sound { IsSoundIfAny next }
+        requires goes_on { GoesOn next self.old.lap lap self.old.runner.world }
         requires told { IsToldOf asked spelling next }
-        ensures { OnOk result
+        ensures lives { OnOk result
             (Lives spelling (asked_in next) self.old self.new (O.contents out.old) (O.contents out.new)) }
+        ensures lap { OnOk result (self.new.lap ≡ lap) }
     {
         let entries = self.runner.history().len();
+        let passes = is_tick(&next);
         let answer = self.runner.turn(&mut self.wire, next);
+        self.lap = lap;
         let stray = stray_of(&self.runner, &self.wire);
         self.observer.see(self.runner.world(), stray)?;
-        print_turn(spelling, &self.runner, entries, asked.as_ref(), answer, out)
+        print_turn(
+            spelling,
+            &self.runner,
+            entries,
+            asked.as_ref(),
+            answer,
+            passes,
+            out,
+        )?;
+        self.let_go(spelling)
+    }
+
+    /// Hands out what was printed, where nothing is looked up in it, and forgets what can no longer matter.
+    ///
+    /// # Errors
+    /// Where there are too many entries to be counted.
+    fn let_go(&mut self, spelling: Spelling) -> io::Result<()>
+        ensures { OnOk result (LetsGo spelling self.old self.new) }
+    {
+        self.hand_out(spelling)?;
+        self.runner.forget();
+        Ok(())
+    }
+
+    /// Hands out what was printed, where nothing is looked up in it. Where memory is wanting, it is handed out later.
+    ///
+    /// # Errors
+    /// Where there are too many entries to be counted.
+    fn hand_out(&mut self, spelling: Spelling) -> io::Result<()>
+        ensures { OnOk result (HandsOut spelling self.old self.new) }
+    {
+        match spelling {
+            Spelling::Numbers => self.hand_out_all(),
+            Spelling::Names => Ok(()),
+        }
+    }
+
+    /// Hands out what was printed, and counts it, or leaves it where memory is wanting.
+    ///
+    /// # Errors
+    /// Where there are too many entries to be counted.
+    fn hand_out_all(&mut self) -> io::Result<()>
+        ensures { OnOk result (HandsOut Spelling.Numbers self.old self.new) }
+    {
+        let Some(counts) = self.counts.with(self.runner.history()) else {
+            return Err(ErrorKind::OutOfMemory.into());
+        };
+        match self.runner.hand_out(&mut self.told) {
+            Ok(()) => {
+                self.counts = counts;
+                self.told.clear();
+                Ok(())
+            }
+            Err(_) => Ok(()),
+        }
     }
 
     /// Takes a turn with an event of a script. With the standard's names, its refusal tells the script's line and the
     /// event, where there is memory for that.
-    #[tactic(auto, using(crate::proofs::LiveLaws::live_laws))]
+    #[tactic(auto, using(crate::proofs::LapLaws::asked_laws))]
     fn take_asked<O: Write>(
         &mut self,
         event: Event<A>,
@@ -178,6 +294,7 @@ impl<W: Wire + Drop, T: Timer + Drop, S: Observer<A> + Drop, A: Allocator + Copy
         out: &mut O,
     ) -> io::Result<()>
         requires sound { IsSoundEvent event }
+        requires goes_on { GoesOn (Some event) self.old.lap self.old.lap self.old.runner.world }
         ensures { OnOk result
             (Lives spelling (asked_by event) self.old self.new (O.contents out.old) (O.contents out.new)) }
     {
@@ -185,13 +302,14 @@ impl<W: Wire + Drop, T: Timer + Drop, S: Observer<A> + Drop, A: Allocator + Copy
             Spelling::Numbers => None,
             Spelling::Names => AskedFor::of(self.alloc, script_line, &event).ok(),
         };
-        self.take_turn(Some(event), asked, spelling, out)
+        let lap = self.lap;
+        self.take_turn(Some(event), lap, asked, spelling, out)
     }
 
     /// Prints that something is refused that is no turn.
     #[tactic(auto, using(crate::proofs::LiveLaws::refusal_laws))]
     fn refuse<O: Write>(&mut self, fault: Fault, out: &mut O) -> io::Result<()>
-        ensures { OnOk result (PrintsNothing (refused_text fault self.old.world.moment) self.old self.new
+        ensures { OnOk result (PrintsNothing (refused_text fault self.old.runner.world.moment) self.old self.new
             (O.contents out.old) (O.contents out.new)) }
     {
         print_refusal(fault, self.world().moment(), out)
@@ -207,73 +325,112 @@ impl<W: Wire + Drop, T: Timer + Drop, S: Observer<A> + Drop, A: Allocator + Copy
         out: &mut O,
     ) -> io::Result<()>
         ensures { OnOk result
-            (PrintsNothing (refused_time_text spelling script_line n Fault.NoSuch self.old.world.moment)
+            (PrintsNothing (refused_time_text spelling script_line n Fault.NoSuch self.old.runner.world.moment)
             self.old self.new (O.contents out.old) (O.contents out.new)) }
     {
         let moment = self.world().moment();
         print_refused_time(spelling, script_line, n, Fault::NoSuch, moment, out)
     }
 
-    /// Time passes, up to so many milliseconds from the beginning on, but at most a minute at once.
+    /// Time passes, up to so many milliseconds from the beginning on, but at most a minute at once, and not before each
+    /// station had its turn to wake.
     #[tactic(auto, using(crate::proofs::LiveLaws::live_laws))]
     fn pass<O: Write>(&mut self, elapsed: u64, spelling: Spelling, out: &mut O) -> io::Result<()>
         ensures { OnOk result (Lives spelling [] self.old self.new (O.contents out.old) (O.contents out.new)) }
     {
         let passed = elapsed.saturating_sub(self.world().moment());
-        if passed == 0 {
-            return Ok(());
+        match self.lap {
+            Lap::Over if passed > 0 => self.take_turn(
+                Some(Event::Tick(passed.min(MAX_TICK_MS))),
+                Lap::At(0),
+                None,
+                spelling,
+                out,
+            ),
+            Lap::Over | Lap::At(_) => Ok(()),
         }
-        self.take_turn(
-            Some(Event::Tick(passed.min(MAX_TICK_MS))),
-            None,
-            spelling,
-            out,
-        )
     }
 
-    /// The station at this place of the site wakes.
-    #[tactic(auto, using(crate::proofs::LiveLaws::live_laws))]
+    /// Prints that there is no memory to wake the station at this place, to which the run has come, and goes on to the
+    /// next.
+    #[tactic(auto, using(crate::proofs::LapLaws::lap_laws))]
+    fn miss<O: Write>(&mut self, place: usize, out: &mut O) -> io::Result<()>
+        requires here { self.old.lap ≡ Lap.At place }
+        requires fits { place + 1 < 2 ^ 64 }
+        ensures misses { OnOk result (MissesOne self.old self.new (O.contents out.old) (O.contents out.new)) }
+        ensures next { self.new.lap ≡ Lap.At (place + 1) }
+    {
+        let moment = self.world().moment();
+        self.lap = Lap::At(place + 1);
+        print_refusal(Fault::Memory, moment, out)
+    }
+
+    /// The station at this place wakes, to which the run has come, and it goes on to the next.
+    #[tactic(auto, using(crate::proofs::LapLaws::wake_laws))]
     fn wake<O: Write>(&mut self, place: usize, spelling: Spelling, out: &mut O) -> io::Result<()>
-        ensures { OnOk result (Lives spelling [] self.old self.new (O.contents out.old) (O.contents out.new)) }
+        requires here { self.old.lap ≡ Lap.At place }
+        requires there { place < length self.old.runner.world.nodes }
+        requires fits { place + 1 < 2 ^ 64 }
+        ensures lives { OnOk result (Lives spelling [] self.old self.new (O.contents out.old) (O.contents out.new)) }
+        ensures next { OnOk result (self.new.lap ≡ Lap.At (place + 1)) }
     {
         match name_at(self.alloc, self.world(), place) {
-            Ok(Some(name)) => self.take_turn(Some(Event::Wake(name)), None, spelling, out),
-            Ok(None) => Ok(()),
-            Err(_) => self.refuse(Fault::Memory, out),
+            Ok(name) => self.take_turn(
+                Some(Event::Wake(name)),
+                Lap::At(place + 1),
+                None,
+                spelling,
+                out,
+            ),
+            Err(_) => self.miss(place, out),
         }
     }
 
-    /// Each station wakes, in the order of the site.
+    /// Passes over stations of which nothing is due, from where the run has come to, or in a new lap. Returns the place
+    /// of the next one of which anything may be due, or none where the lap ends.
+    #[tactic(auto, using(crate::proofs::LapLaws::lap_laws))]
+    fn pass_over(&mut self) -> Option<usize>
+        ensures passes { PassesOver self.old self.new }
+        ensures here { IfSome result (λ place. self.new.lap ≡ Lap.At place) }
+        ensures there { IfSome result (λ place. place < length self.new.runner.world.nodes) }
+        ensures on { IfSome result (λ place. start_of self.old.lap ≤ place) }
+        ensures fits { IfSome result (λ place. place + 1 < 2 ^ 64) }
+    {
+        match self.world().first_due(self.lap.start()) {
+            Some(place) => {
+                self.lap = Lap::At(place);
+                Some(place)
+            }
+            None => {
+                self.lap = Lap::Over;
+                None
+            }
+        }
+    }
+
+    /// The next station of the lap wakes of which anything may be due. Tells whether there was one.
+    #[tactic(auto, using(crate::proofs::LapLaws::next_laws))]
+    fn wake_next<O: Write>(&mut self, spelling: Spelling, out: &mut O) -> io::Result<bool>
+        ensures lives { OnOk result (Lives spelling [] self.old self.new (O.contents out.old) (O.contents out.new)) }
+        ensures less { IfOk result (λ more. more ≡ true → places_left self.new.lap < places_left self.old.lap) }
+    {
+        let Some(place) = self.pass_over() else {
+            return Ok(false);
+        };
+        self.wake(place, spelling, out)?;
+        Ok(true)
+    }
+
+    /// Each station wakes of which anything is due, in the order of the site.
     #[tactic(auto, using(crate::proofs::LiveLaws::live_laws))]
-    fn wake_all<O: Write>(&mut self, spelling: Spelling, out: &mut O) -> io::Result<()>
+    fn wake_due<O: Write>(&mut self, spelling: Spelling, out: &mut O) -> io::Result<()>
         ensures { OnOk result (Lives spelling [] self.old self.new (O.contents out.old) (O.contents out.new)) }
     {
-        let count = self.due.len();
-        for place in 0..count {
-            self.wake(place, spelling, out)?;
-        }
+        while self.wake_next(spelling, out)? {}
         Ok(())
     }
 
-    /// Whether the station at this place of the site registers at this moment; then the next time is half of its
-    /// seconds to live from now.
-    fn is_due(&mut self, place: usize) -> bool
-        ensures { self.new ≡ self.old }
-    {
-        let moment = self.world().moment();
-        let Some(seconds) = seconds_to_live(self.world(), place) else {
-            return false;
-        };
-        match self.due.get_mut(place) {
-            Some(due) if *due <= moment => {
-                *due = moment.saturating_add(500 * u64::from(seconds));
-                true
-            }
-            Some(_) | None => false,
-        }
-    }
-
-    /// The station at this place of the site registers, if it is time for it (J.5.2.3).
+    /// The station at this place of the site registers (J.5.2.3).
     #[tactic(auto, using(crate::proofs::LiveLaws::live_laws))]
     fn register<O: Write>(
         &mut self,
@@ -283,37 +440,97 @@ impl<W: Wire + Drop, T: Timer + Drop, S: Observer<A> + Drop, A: Allocator + Copy
     ) -> io::Result<()>
         ensures { OnOk result (Lives spelling [] self.old self.new (O.contents out.old) (O.contents out.new)) }
     {
-        if !self.is_due(place) {
-            return Ok(());
-        }
-        match name_at(self.alloc, self.world(), place) {
-            Ok(Some(name)) => self.take_turn(Some(Event::Register(name)), None, spelling, out),
+        let lap = self.lap;
+        match station_name_at(self.alloc, self.world(), place) {
+            Ok(Some(name)) => {
+                self.take_turn(Some(Event::Register(name)), lap, None, spelling, out)
+            }
             Ok(None) => Ok(()),
             Err(_) => self.refuse(Fault::Memory, out),
         }
     }
 
-    /// Each foreign device registers for which it is time.
+    /// Returns the place of the next station, from this one on, whose time to register has come, and whether it is a
+    /// foreign device: its next time is then known.
+    #[tactic(auto, using(crate::proofs::LapLaws::register_laws))]
+    fn next_to_register(&mut self, from: usize) -> Option<(usize, bool)>
+        ensures same { self.new ≡ self.old }
+        ensures on { IfSome result (λ r. from ≤ r.0) }
+        ensures fits { IfSome result (λ r. r.0 + 1 < 2 ^ 64) }
+    {
+        let moment = self.world().moment();
+        match self.due.first_due(from, moment) {
+            Some(place) => {
+                let next = next_registration(self.world(), place, moment);
+                self.due.set(place, next);
+                Some((place, next < u64::MAX))
+            }
+            None => None,
+        }
+    }
+
+    /// The next station registers, from this place on, if it is time for one. Tells whether there may be another.
+    #[tactic(auto, using(crate::proofs::LiveLaws::live_laws))]
+    fn register_next<O: Write>(
+        &mut self,
+        from: &mut usize,
+        spelling: Spelling,
+        out: &mut O,
+    ) -> io::Result<bool>
+        ensures lives { OnOk result (Lives spelling [] self.old self.new (O.contents out.old) (O.contents out.new)) }
+        ensures less { IfOk result (λ more. more ≡ true → 2 ^ 64 - from.new < 2 ^ 64 - from.old) }
+    {
+        let Some((place, is_foreign)) = self.next_to_register(*from) else {
+            return Ok(false);
+        };
+        *from = place + 1;
+        if is_foreign {
+            self.register(place, spelling, out)?;
+        }
+        Ok(true)
+    }
+
+    /// Each foreign device registers for which it is time, in the order of the site.
     #[tactic(auto, using(crate::proofs::LiveLaws::live_laws))]
     fn register_all<O: Write>(&mut self, spelling: Spelling, out: &mut O) -> io::Result<()>
         ensures { OnOk result (Lives spelling [] self.old self.new (O.contents out.old) (O.contents out.new)) }
     {
-        let count = self.due.len();
-        for place in 0..count {
-            self.register(place, spelling, out)?;
-        }
+        let mut from = 0;
+        while self.register_next(&mut from, spelling, out)? {}
         Ok(())
     }
 
-    /// Time passes, and at most one datagram is received. Tells whether one came.
+    /// At most one datagram is received. Tells whether one came.
+    #[tactic(auto, using(crate::proofs::LiveLaws::live_laws))]
+    fn receive_one<O: Write>(&mut self, spelling: Spelling, out: &mut O) -> io::Result<bool>
+        ensures { OnOk result (Lives spelling [] self.old self.new (O.contents out.old) (O.contents out.new)) }
+    {
+        let lap = self.lap;
+        self.take_turn(None, lap, None, spelling, out)?;
+        Ok(self.wire.last().is_some())
+    }
+
+    /// Datagrams are received, until none comes, and sixteen at most: then a round goes on. Tells whether one came.
     #[tactic(auto, using(crate::proofs::LiveLaws::live_laws))]
     fn receive<O: Write>(&mut self, spelling: Spelling, out: &mut O) -> io::Result<bool>
         ensures { OnOk result (Lives spelling [] self.old self.new (O.contents out.old) (O.contents out.new)) }
     {
+        for count in 0..MAX_IN_ROUND {
+            if !self.receive_one(spelling, out)? {
+                return Ok(count > 0);
+            }
+        }
+        Ok(true)
+    }
+
+    /// Time passes, and datagrams are received. Tells whether one came.
+    #[tactic(auto, using(crate::proofs::LiveLaws::live_laws))]
+    fn pass_and_receive<O: Write>(&mut self, spelling: Spelling, out: &mut O) -> io::Result<bool>
+        ensures { OnOk result (Lives spelling [] self.old self.new (O.contents out.old) (O.contents out.new)) }
+    {
         let elapsed = self.timer.elapsed()?;
         self.pass(elapsed, spelling, out)?;
-        self.take_turn(None, None, spelling, out)?;
-        Ok(self.wire.last().is_some())
+        self.receive(spelling, out)
     }
 
     /// A station hears the next frame, if one has its turn. Tells whether there may be another.
@@ -329,7 +546,8 @@ impl<W: Wire + Drop, T: Timer + Drop, S: Observer<A> + Drop, A: Allocator + Copy
     {
         match next_hear(self.world(), heard) {
             Ok(Some(event)) => {
-                self.take_turn(Some(event), None, spelling, out)?;
+                let lap = self.lap;
+                self.take_turn(Some(event), lap, None, spelling, out)?;
                 Ok(true)
             }
             Ok(None) => Ok(false),
@@ -352,16 +570,17 @@ impl<W: Wire + Drop, T: Timer + Drop, S: Observer<A> + Drop, A: Allocator + Copy
         Ok(())
     }
 
-    /// Frames are heard, and each station wakes.
+    /// Frames are heard, and each station wakes of which anything is due.
     #[tactic(auto, using(crate::proofs::LiveLaws::live_laws))]
     fn hear_and_wake<O: Write>(&mut self, spelling: Spelling, out: &mut O) -> io::Result<()>
         ensures { OnOk result (Lives spelling [] self.old self.new (O.contents out.old) (O.contents out.new)) }
     {
         self.hear_all(spelling, out)?;
-        self.wake_all(spelling, out)
+        self.wake_due(spelling, out)
     }
 
-    /// What stations do besides: frames are heard, each station wakes, and foreign devices register.
+    /// What stations do besides: frames are heard, each station wakes of which anything is due, and foreign devices
+    /// register.
     #[tactic(auto, using(crate::proofs::LiveLaws::live_laws))]
     fn act<O: Write>(&mut self, spelling: Spelling, out: &mut O) -> io::Result<()>
         ensures { OnOk result (Lives spelling [] self.old self.new (O.contents out.old) (O.contents out.new)) }
@@ -370,16 +589,17 @@ impl<W: Wire + Drop, T: Timer + Drop, S: Observer<A> + Drop, A: Allocator + Copy
         self.register_all(spelling, out)
     }
 
-    /// A round: time passes, at most one datagram is received, frames are heard, each station wakes, and foreign
-    /// devices register. Tells whether any datagram came or was put out: what goes over a bus takes its time there.
+    /// A round: time passes, datagrams are received, frames are heard, each station wakes of which anything is due, and
+    /// foreign devices register. Tells whether any datagram came or was put out: what goes over a bus takes its time
+    /// there.
     #[tactic(auto, using(crate::proofs::LiveLaws::live_laws))]
     fn round<O: Write>(&mut self, spelling: Spelling, out: &mut O) -> io::Result<bool>
         ensures { OnOk result (Lives spelling [] self.old self.new (O.contents out.old) (O.contents out.new)) }
     {
-        let sent = self.world().items().len();
-        let came = self.receive(spelling, out)?;
+        let sent = self.world().item_count();
+        let came = self.pass_and_receive(spelling, out)?;
         self.act(spelling, out)?;
-        let puts_out = self.world().items().len() > sent;
+        let puts_out = self.world().item_count() > sent;
         Ok(came || puts_out)
     }
 
@@ -410,7 +630,8 @@ impl<W: Wire + Drop, T: Timer + Drop, S: Observer<A> + Drop, A: Allocator + Copy
         Ok(())
     }
 
-    /// Takes a step that a line of a script asks for: an event, or 1 to 60000 ms in which the run makes its own.
+    /// Takes a step that a line of a script asks for: an event, or 1 to 60000 ms in which the run makes its own. Those
+    /// that it makes of itself, and faults of the network, it doesn't take from a script.
     #[tactic(auto, using(crate::proofs::LiveLaws::live_laws))]
     pub fn take_step<O: Write>(
         &mut self,
@@ -424,6 +645,8 @@ impl<W: Wire + Drop, T: Timer + Drop, S: Observer<A> + Drop, A: Allocator + Copy
             (Lives spelling (asked_at step) self.old self.new (O.contents out.old) (O.contents out.new)) }
     {
         match step {
+            Step::Happens(Event::Tick(_) | Event::Wake(_) | Event::Deliver(_) | Event::Hear { .. })
+            | Step::Disturbs(_) => Ok(()),
             Step::Happens(event) => self.take_asked(event, script_line, spelling, out),
             Step::Flow(n) => {
                 if n == 0 || n > MAX_TICK_MS {
@@ -431,7 +654,6 @@ impl<W: Wire + Drop, T: Timer + Drop, S: Observer<A> + Drop, A: Allocator + Copy
                 }
                 self.let_pass(n, spelling, out)
             }
-            Step::Disturbs(_) => Ok(()),
         }
     }
 }

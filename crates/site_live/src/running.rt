@@ -3,11 +3,12 @@
 ghost use Rattle.std.specs.Prelude.{◌≡◌, ◌≤◌, [], IfOk, OnOk};
 ghost use Rattle.std.specs.Io.KnownBytes.{Appends};
 ghost use Rattle.std.specs.List.{AllByRecursion};
-ghost use Rattle.site_live.specs.Running.{AreEventsIfLed, Lives};
-ghost use Rattle.site_live.specs.Runs.{IsLegalIfLed, IsOpened, PrintsLiveRun, RunsLive, begun};
+ghost use Rattle.runner.specs.simulator.Laws.{IsLed};
+ghost use Rattle.site_live.specs.Running.{Lives};
+ghost use Rattle.site_live.specs.Runs.{IsOpened, PrintsLiveRun, RunsLive, begun};
 ghost use Rattle.script.specs.Steps.{IsSoundStep};
 ghost use Rattle.site_live.specs.Steps.{SaysLive, asked_of};
-ghost use Rattle.site_history.specs.Counting.{counts_of};
+ghost use Rattle.site_history.specs.Counting.{counted_on};
 ghost use Rattle.site_history.specs.Printed.{end_text, line};
 
 use crate::live::Live;
@@ -19,13 +20,13 @@ use console::{say_failed, say_refused};
 use npdu::Mac;
 use runner::{Runner, World};
 use script::{LineNumbers, Step};
-use site_history::{EndLine, Stop, counted, say_stop};
+use site_history::{Counts, EndLine, Stop, say_stop};
 use site_parts::Station;
 use site_text::site_of;
 use site_views::addresses;
 use std::alloc::{Allocator, Global};
 use std::io;
-use std::io::Write;
+use std::io::{ErrorKind, Write};
 use std::net::Net;
 use std::time::Clock;
 use tags::{Fault, Items};
@@ -163,12 +164,13 @@ fn print_all<W: Wire + Drop, T: Timer + Drop, S: Observer<A> + Drop, A: Allocato
     out: &mut O,
 ) -> io::Result<()>
     requires sound { AllByRecursion IsSoundStep steps }
-    requires begins { live.old ≡ begun live.old.is_open live.old.world }
-    ensures { OnOk result (PrintsLiveRun settings.spelling live.old.is_open steps live.old.world
+    requires begins { live.old ≡ begun live.old.runner.is_open live.old.runner.world }
+    requires led { IsLed live.old.runner.world }
+    ensures { OnOk result (PrintsLiveRun settings.spelling live.old.runner.is_open steps live.old.runner.world
         (O.contents out.old) (O.contents out.new)) }
 {
     take_all(live, steps, lines, settings, out)?;
-    print_end(live.runner(), out)
+    print_end(live.runner(), live.counts(), out)
 }
 
 /// The first round, the steps of a script, and what comes behind them.
@@ -180,9 +182,8 @@ fn take_all<W: Wire + Drop, T: Timer + Drop, S: Observer<A> + Drop, A: Allocator
     out: &mut O,
 ) -> io::Result<()>
     requires sound { AllByRecursion IsSoundStep steps }
-    ensures lives { OnOk result
+    ensures { OnOk result
         (Lives settings.spelling (asked_of steps) live.old live.new (O.contents out.old) (O.contents out.new)) }
-    ensures events { OnOk result (AreEventsIfLed live.old live.new) }
 {
     live.take_round(settings.spelling, out)?;
     take_steps(live, steps, lines, settings.spelling, out)?;
@@ -233,14 +234,20 @@ fn go_on<W: Wire + Drop, T: Timer + Drop, S: Observer<A> + Drop, A: Allocator + 
     }
 }
 
-/// Prints what there was of all.
-fn print_end<A: Allocator + Copy, W: Write>(runner: &Runner<A>, out: &mut W) -> io::Result<()>
-    ensures printed { OnOk result (Appends (W.contents out.old) (W.contents out.new)
-        (line (end_text (counts_of runner.now.world.history) runner.now.world.moment))) }
-    ensures legal { IsLegalIfLed runner.now }
+/// Prints what there was of all: of the entries that were handed out, which these counts are of, and of those that are
+/// kept.
+fn print_end<A: Allocator + Copy, W: Write>(
+    runner: &Runner<A>,
+    counts: Counts,
+    out: &mut W,
+) -> io::Result<()>
+    ensures { OnOk result (Appends (W.contents out.old) (W.contents out.new)
+        (line (end_text (counted_on counts runner.now.world.history) runner.now.world.moment))) }
 {
     let moment = runner.world().moment();
-    let counts = counted(runner.history());
+    let Some(counts) = counts.with(runner.history()) else {
+        return Err(ErrorKind::OutOfMemory.into());
+    };
     writeln!(out, "{}", EndLine { counts, moment })
 }
 

@@ -1,7 +1,7 @@
 //! What is printed of a turn.
 
 ghost use Rattle.std.specs.Prelude.{◌≡◌, ◌++◌, OnOk, drop, option_map};
-ghost use Rattle.std.specs.Io.KnownBytes.{Appends};
+ghost use Rattle.std.specs.Io.KnownBytes.{Appends, Keeps};
 ghost use Rattle.site_live.specs.Printed.{answer_text, stray_text, turn_text};
 ghost use Rattle.site_history.specs.Printed.{entries_text};
 
@@ -15,7 +15,7 @@ use tags::Fault;
 use words::Spelling;
 
 /// Prints what came of a turn, before which the history had so many entries: that a stray was heard, what is new in the
-/// history, and the turn's refusal with what is told of its event.
+/// history, and the turn's refusal with what is told of its event. All lines are flushed then, where that is asked for.
 ///
 /// # Errors
 /// Those of writing.
@@ -26,6 +26,7 @@ pub(crate) fn print_turn<A: Allocator + Copy, W: Write>(
     entries: usize,
     asked: Option<&AskedFor<A>>,
     answer: Result<Turned, Fault>,
+    flushes: bool,
     out: &mut W,
 ) -> io::Result<()>
     ensures { OnOk result (Appends (W.contents out.old) (W.contents out.new)
@@ -42,11 +43,12 @@ pub(crate) fn print_turn<A: Allocator + Copy, W: Write>(
         asked,
         answer,
         world.moment(),
+        flushes,
         out,
     )
 }
 
-/// Prints the lines of a turn, each on its way out then.
+/// Prints the lines of a turn, and flushes them with those before, where that is asked for.
 fn print_told<A: Allocator, W: Write>(
     spelling: Spelling,
     stations: &[Station<A>],
@@ -56,6 +58,7 @@ fn print_told<A: Allocator, W: Write>(
     asked: Option<&AskedFor<A>>,
     answer: Result<Turned, Fault>,
     moment: u64,
+    flushes: bool,
     out: &mut W,
 ) -> io::Result<()>
     ensures { OnOk result (Appends (W.contents out.old) (W.contents out.new) (stray_text strayed moment
@@ -65,7 +68,15 @@ fn print_told<A: Allocator, W: Write>(
     print_stray(strayed, moment, out)?;
     print_entries(spelling, stations, history, entries, out)?;
     print_answer(asked, answer, moment, out)?;
-    out.flush()
+    flush_if(flushes, out)
+}
+
+/// Flushes what was printed, where that is asked for.
+#[tactic(auto, using(crate::proofs::PrintLaws::flush_laws))]
+fn flush_if<W: Write>(flushes: bool, out: &mut W) -> io::Result<()>
+    ensures { Keeps (W.contents out.old) (W.contents out.new) }
+{
+    if flushes { out.flush() } else { Ok(()) }
 }
 
 /// Prints that a stray was heard, if one was.

@@ -1,7 +1,10 @@
-use Rattle.std.proofs.Common.{[]}
+use Rattle.std.proofs.Common.{[], ◌-◌, ◌^◌}
 use Rattle.site_live.specs.Running.{Lives}
 use Rattle.site_live.proofs.live.Live.register_all.Given as goal
 
 -- so far
-abbrev pub invariant-loop-place : goal.invariant-loop-place
-invariant-loop-place g l = Lives l.spelling [] l.fn.self l.self (g.O.Write.contents l.fn.out) (g.O.Write.contents l.out)
+abbrev pub invariant-loop : goal.invariant-loop
+invariant-loop g l = Lives l.spelling [] l.fn.self l.self (g.O.Write.contents l.fn.out) (g.O.Write.contents l.out)
+
+abbrev pub decreases-loop : goal.decreases-loop
+decreases-loop g l = 2 ^ 64 - l.from
