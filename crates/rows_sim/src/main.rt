@@ -70,5 +70,6 @@ fn main(rt: HostRuntime) -> io::Result<()> {
     rows_search::run_file(&rt)?;
     sheets::run_folder::<rows_ladder::LadderRows>(&rt, "ladder")?;
     rows_ladder::run_file(&rt)?;
-    rows_storm::run_sites(&rt)
+    rows_storm::run_sites(&rt)?;
+    rows_weeks::run_weeks(&rt)
 }

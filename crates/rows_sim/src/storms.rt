@@ -1,18 +1,25 @@
 //! Storms behind the scripts of the examples: what is printed of a storm is what is printed of the script that it puts
-//! down, its counts are those of the same storm, and where an allocation is refused it says so.
+//! down. A storm that is counted, in a world that forgets, puts down the same script, and its counts are those of a
+//! world that keeps all behind that. Where an allocation is refused it says so.
 
 use crate::examples::{read, sites};
 use refusing::Refusing;
 use site_run::simulate;
-use site_storm::{Chances, Spelling, Weather, storm, storm_counted};
+use site_storm::{
+    Chances, CountLine, Opened, Spelling, Telling, Weather, counts_of, open, storm, storm_counted,
+    take_steps,
+};
 use std::alloc::{Allocator, Global};
 use std::io;
 
 /// The seeds at each example.
 const SEEDS: [u64; 5] = [1, 2, 3, 4, 5];
 
-/// How many events a storm has, and one in which each allocation is refused in turn.
+/// How many events a storm has, one in which what can no longer matter is forgotten again and again, and one in which
+/// each allocation is refused in turn.
 const STEPS: u64 = 300;
+
+const MANY_STEPS: u64 = 3000;
 
 const FEW_STEPS: u64 = 40;
 
@@ -61,13 +68,30 @@ fn storms_at(rt: &HostRuntime, name: &str) -> io::Result<String> {
     let script = read(rt, name, "script")?;
     let mut alike = 0u64;
     for seed in SEEDS {
-        if is_alike(alloc, site.as_slice(), script.as_slice(), seed)? {
+        if is_alike(
+            alloc,
+            site.as_slice(),
+            script.as_slice(),
+            weather(seed, STEPS),
+        )? {
             alike = alike.saturating_add(1);
         }
     }
+    let weather = weather(1, MANY_STEPS);
+    let long = if is_alike(alloc, site.as_slice(), script.as_slice(), weather)? {
+        "a long one too"
+    } else {
+        "a long one doesn't"
+    };
     let refused = refused_in(alloc, site.as_slice())?;
+    let told = if are_told_where_counted(alloc, site.as_slice())? {
+        "each is told"
+    } else {
+        "not each is told"
+    };
     let said = format!(in alloc;
-        "storms {name}: {alike} print what their scripts print, {refused} refused allocations\n"
+        "storms {name}: {alike} print what their scripts print, {long}; {refused} refused allocations; {told} where it \
+        is counted\n"
     )?;
     Ok(said)
 }
@@ -102,9 +126,8 @@ fn came_of<A: Allocator + Copy>(
     })
 }
 
-/// Whether a storm prints what the script prints that it puts down, and is counted with as many entries.
-fn is_alike(alloc: Global, site: &[u8], script: &[u8], seed: u64) -> io::Result<bool> {
-    let weather = weather(seed, STEPS);
+/// Whether a storm prints what the script prints that it puts down, and the same is counted.
+fn is_alike(alloc: Global, site: &[u8], script: &[u8], weather: Weather) -> io::Result<bool> {
     let came = came_of(alloc, alloc, site, script, weather)?;
     let mut out = Vec::new(alloc);
     let mut err = Vec::new(alloc);
@@ -127,7 +150,52 @@ fn is_alike(alloc: Global, site: &[u8], script: &[u8], seed: u64) -> io::Result<
     )
 }
 
-/// Whether the counts of a storm are those of the last line that it prints, and it puts down the same lines.
+/// What comes of a storm in this memory, of which the counts alone are printed.
+fn counted_of<A: Allocator + Copy>(
+    alloc: Global,
+    memory: A,
+    site: &[u8],
+    script: &[u8],
+    weather: Weather,
+) -> io::Result<Came> {
+    let mut lines = Vec::from_slice(alloc, script)?;
+    let mut out = Vec::new(alloc);
+    let mut err = Vec::new(alloc);
+    let status = storm_counted(
+        alloc, memory, site, script, weather, &mut lines, &mut out, &mut err,
+    );
+    Ok(Came {
+        status,
+        lines,
+        out,
+        err,
+    })
+}
+
+/// The line of what there was of all behind the steps of a script, in a world that keeps all; none where they are no
+/// site and no script.
+fn counts_behind(alloc: Global, site: &[u8], script: &[u8]) -> io::Result<Option<String>> {
+    let Ok(opened) = open(alloc, alloc, site, script) else {
+        return Ok(None);
+    };
+    let Opened {
+        world,
+        steps,
+        lines,
+    } = opened;
+    let mut world = world;
+    let mut out = Vec::new(alloc);
+    let telling = Telling::entries(Spelling::Numbers);
+    let taken = take_steps(&mut world, steps, lines, telling, &mut out);
+    let counts = counts_of(alloc, &world);
+    world.close();
+    taken?;
+    let line = format!(in alloc; "{}\n", CountLine(counts?))?;
+    Ok(Some(line))
+}
+
+/// Whether the counts of a storm are those of a world that keeps all behind the script that it puts down, and of the last
+/// line that is printed of it, and it puts down the same lines.
 fn is_counted(
     alloc: Global,
     site: &[u8],
@@ -135,13 +203,18 @@ fn is_counted(
     weather: Weather,
     came: &Came,
 ) -> io::Result<bool> {
-    let mut lines = Vec::from_slice(alloc, script)?;
-    let mut out = Vec::new(alloc);
-    let mut err = Vec::new(alloc);
-    let status = storm_counted(
-        alloc, alloc, site, script, weather, &mut lines, &mut out, &mut err,
-    );
+    let Came {
+        status,
+        lines,
+        out,
+        err,
+    } = counted_of(alloc, alloc, site, script, weather)?;
+    let whole = counts_behind(alloc, site, lines.as_slice())?;
     let counted = std::str::from_utf8(out.as_slice()).unwrap_or("");
+    let is_whole = match &whole {
+        Some(line) => line.as_str() == counted,
+        None => false,
+    };
     let printed = std::str::from_utf8(came.out.as_slice()).unwrap_or("");
     let last = printed
         .trim_end()
@@ -150,6 +223,7 @@ fn is_counted(
     Ok(
         status == 0
             && err.is_empty()
+            && is_whole
             && lines.as_slice() == came.lines.as_slice()
             && number_behind(counted, "issues ") == number_behind(last, "issued ")
             && number_behind(counted, "answered ") == number_behind(last, "answered ")
@@ -185,6 +259,33 @@ fn refused_in(alloc: Global, site: &[u8]) -> io::Result<u64> {
         }
     }
     Ok(0)
+}
+
+/// Refuses each allocation of the same storm in turn where it is counted, and answers whether each is told.
+fn are_told_where_counted(alloc: Global, site: &[u8]) -> io::Result<bool> {
+    let weather = weather(1, FEW_STEPS);
+    let plain = counted_of(alloc, alloc, site, &[], weather)?;
+    for n in 1..MANY {
+        let memory = Refusing::new(alloc);
+        memory.refuse_only(n);
+        let came = counted_of(alloc, &memory, site, &[], weather)?;
+        if memory.is_waiting() {
+            return Ok(n > 1 && came.status == 0 && came.out.as_slice() == plain.out.as_slice());
+        }
+        if !is_told_or_counted(&came) {
+            return Ok(false);
+        }
+    }
+    Ok(false)
+}
+
+/// Whether a storm of which the counts are printed was refused memory outside of an event and says so, or in one, which
+/// is refused then, and is counted to its end.
+fn is_told_or_counted(came: &Came) -> bool {
+    if came.status == 1 {
+        return came.err.as_slice() == ENDS;
+    }
+    came.status == 0 && came.err.is_empty() && !came.out.is_empty()
 }
 
 /// Whether a storm that was refused memory says so.

@@ -1,11 +1,13 @@
-//! A world that forgets, and hands its history out, behind each event, beside the same that keeps all.
+//! A world that forgets, and hands its history out, behind each event, beside the same that keeps all: equal events
+//! happen to both, and a storm of the same seed chooses them in both.
 
 ghost use Rattle.simulator.specs.world.Step.{IsSoundEvent};
 
 use crate::counts::raise;
 use crate::storms::CHANCES;
 use history::{End, Entry};
-use simulator::{Event, Internetwork, World, WorldEntry};
+use profile::is_heard_in_time;
+use simulator::{Event, Internetwork, LATEST_ITEMS, World, WorldEntry};
 use std::alloc::{AllocError, Global};
 use std::fmt;
 use storm::Storm;
@@ -116,8 +118,11 @@ pub(crate) struct Beside {
     refused: u64,
     /// How many were made in one alone.
     apart: u64,
-    /// How many items it kept at most.
-    most: usize,
+    /// How many were chosen in both.
+    alike: u64,
+    /// Whether it ever kept more than twice the items that may be heard, or twice those that it never forgets; or knew
+    /// more than twice the frames that a bus keeps, and 16.
+    keeps_many: bool,
     /// How many items it has put out, entries handed out, and messages forgotten, in the end.
     items: usize,
     entries: usize,
@@ -144,6 +149,27 @@ impl Beside {
         }
     }
 
+    /// Looks at how many items are kept, and of how many frames something is known.
+    fn look(&mut self, kept: &Internetwork<Global>) {
+        let now = kept.moment();
+        let mut young = 0usize;
+        for item in kept.items() {
+            if is_heard_in_time(item.put_out, now) {
+                young = young.saturating_add(1);
+            }
+        }
+        let most = young.max(LATEST_ITEMS).saturating_mul(2);
+        if kept.items().len() > most {
+            self.keeps_many = true;
+        }
+        for bus in &kept.buses().buses {
+            let few = bus.recent.len().saturating_mul(2).saturating_add(16);
+            if bus.known.len() >= few {
+                self.keeps_many = true;
+            }
+        }
+    }
+
     /// All have happened.
     fn end(
         &mut self,
@@ -164,9 +190,14 @@ impl fmt::Display for Beside {
     fn fmt<W: fmt::Write>(&self, f: &mut fmt::Formatter<W>) -> fmt::Result {
         write!(
             f,
-            "where it forgets: {} events made, {} refused, {} apart; of {} datagrams it kept at most {}, {} messages \
-            forgotten; {} entries handed out: ",
-            self.made, self.refused, self.apart, self.items, self.most, self.said, self.entries
+            "where it forgets: {} events made, {} refused, {} apart, {} chosen alike; of {} datagrams it kept ",
+            self.made, self.refused, self.apart, self.alike, self.items
+        )?;
+        f.write_str(if self.keeps_many { "many" } else { "few" })?;
+        write!(
+            f,
+            ", {} messages forgotten; {} entries handed out: ",
+            self.said, self.entries
         )?;
         f.write_str(if self.is_same {
             "the whole history"
@@ -212,14 +243,18 @@ fn blow(
     seed: u64,
 ) -> Result<Beside, AllocError> {
     let mut storm = Storm::new(seed, CHANCES);
+    let mut same = Storm::new(seed, CHANCES);
     let mut told = Vec::new(alloc);
     let mut beside = Beside::default();
     for _ in 0..EVENTS {
         let event = storm.next_event(alloc, whole)?;
+        if event == same.next_event_of(alloc, kept, told.as_slice())? {
+            raise(&mut beside.alike);
+        }
         beside.make(whole, kept, &event);
         kept.hand_out(&mut told)?;
         kept.forget();
-        beside.most = beside.most.max(kept.items().len());
+        beside.look(kept);
     }
     beside.end(whole, kept, told.as_slice());
     Ok(beside)

@@ -14,7 +14,7 @@ use Rattle.words.specs.printing.declared.spelling.Spelling.{Spelling}
 use Rattle.words.specs.printing.declared.spelling.Spelling.TheVariants.{Numbers}
 
 -- one more
-longer : {X : Type 0} (x : X) (xs : List X) (left rest : ℕ) → left ≡ rest + 1 → length xs ≡ rest →
+pub longer : {X : Type 0} (x : X) (xs : List X) (left rest : ℕ) → left ≡ rest + 1 → length xs ≡ rest →
     length (x ∷ xs) ≡ left
 longer x xs left rest one many = omega (arith, one, many)
 

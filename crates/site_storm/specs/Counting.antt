@@ -54,6 +54,29 @@ outcomes_in h = record {
   restarts = count kind.Restarted h;
 }
 
+-- the counts of no entry, and counts with others
+abbrev pub no_outcomes : OutcomeCounts
+no_outcomes = record {
+  issues = 0;
+  answered = 0;
+  timed_out = 0;
+  aborted = 0;
+  rejected = 0;
+  executed = 0;
+  restarts = 0;
+}
+
+abbrev pub outcomes_with : (a b : OutcomeCounts) → OutcomeCounts
+outcomes_with a b = record {
+  issues = a.issues + b.issues;
+  answered = a.answered + b.answered;
+  timed_out = a.timed_out + b.timed_out;
+  aborted = a.aborted + b.aborted;
+  rejected = a.rejected + b.rejected;
+  executed = a.executed + b.executed;
+  restarts = a.restarts + b.restarts;
+}
+
 -- the APDU is of this type, by its first octet (20.1.2 to 20.1.9)
 abbrev pub is_apdu : PduType → List ℕ → Bool
 is_apdu t [] = false
@@ -75,6 +98,31 @@ messages_in ms = record {
   error = count_said Error ms;
   reject = count_said Reject ms;
   abort = count_said Abort ms;
+}
+
+-- the counts of no message, and counts with others
+abbrev pub no_messages : MessageCounts
+no_messages = record {
+  confirmed = 0;
+  unconfirmed = 0;
+  simple_ack = 0;
+  complex_ack = 0;
+  segment_ack = 0;
+  error = 0;
+  reject = 0;
+  abort = 0;
+}
+
+abbrev pub messages_with : (a b : MessageCounts) → MessageCounts
+messages_with a b = record {
+  confirmed = a.confirmed + b.confirmed;
+  unconfirmed = a.unconfirmed + b.unconfirmed;
+  simple_ack = a.simple_ack + b.simple_ack;
+  complex_ack = a.complex_ack + b.complex_ack;
+  segment_ack = a.segment_ack + b.segment_ack;
+  error = a.error + b.error;
+  reject = a.reject + b.reject;
+  abort = a.abort + b.abort;
 }
 
 -- the counts are those of all that there was in a world

@@ -2,6 +2,7 @@ pub mod Lines
 pub mod Raging
 pub mod Waits
 pub mod Counting
+pub mod Counted
 pub mod Storming
 -- What the layers above cite of those below.
 pub use Rattle.site_run.specs as site_run

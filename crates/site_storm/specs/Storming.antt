@@ -41,7 +41,17 @@ pub record PrintsCountsOf {A : Type 0} (left : WorldState A) (old new : Known) :
   pub are_counts : AreCounts left counts
   pub printed : Appends old new (line (count_text counts))
 
--- so it was, and how many there were of what is all that is printed; the history that was counted is legal
+-- so many events of a storm were made in a world, and how many there were of what in all of it is printed; the history
+-- that was counted is legal. It may have forgotten what can no longer matter: this speaks of the whole world
+pub record PrintsCountsFrom {A : Type 0} (n : ℕ) (begun : WorldState A) (lines_old lines_new old new : Known) :
+    Type 0 where
+  pub left : WorldState A
+  pub rages : Rages Numbers n begun left lines_old lines_new None None
+  pub printed : PrintsCountsOf left old new
+  pub legal : IsLegal (instances_of left.site) left.history (judged_of left)
+
+-- so it was behind a script, and how many there were of what is all that is printed; the history that was counted is
+-- legal. All is said of the whole world, however much of it is forgotten
 pub record PrintsCounts {A : Type 0} (lines : List ℕ) (steps : List (Step A)) (n : ℕ) (fresh : WorldState A)
     (lines_old lines_new old new : Known) : Type 0 where
   pub left : WorldState A

@@ -1,12 +1,12 @@
 //! What there was of all, in one line.
 
-ghost use Rattle.std.specs.Prelude.{◌≡◌, Some, IfOk};
+ghost use Rattle.std.specs.Prelude.{◌≡◌, Some, IfOk, IfSome};
 ghost use Rattle.std.specs.Fmt.{WritesOnOk};
 ghost use Rattle.site_run.specs.simulator.carry_world.Laws.{IsLegal};
 ghost use Rattle.site_run.specs.simulator.Judged.{instances_of, judged_of};
 ghost use Rattle.site_storm.specs.Counting as spec;
 
-use crate::waits::greatest_wait;
+use crate::waits::Waits;
 use apdu::PduType;
 use history::{End, Entry};
 use site_run::{World, WorldEntry};
@@ -38,6 +38,38 @@ pub struct OutcomeCounts {
     pub restarts: usize,
 }
 
+impl OutcomeCounts {
+    /// Returns the counts of no entry.
+    pub(crate) fn none() -> Self
+        ensures { result ≡ spec.no_outcomes }
+    {
+        OutcomeCounts {
+            issues: 0,
+            answered: 0,
+            timed_out: 0,
+            aborted: 0,
+            rejected: 0,
+            executed: 0,
+            restarts: 0,
+        }
+    }
+
+    /// Returns these counts with others, or none where there are too many to be counted.
+    pub(crate) fn with(self, more: OutcomeCounts) -> Option<Self>
+        ensures { IfSome result (λ counts. counts ≡ spec.outcomes_with self more) }
+    {
+        Some(OutcomeCounts {
+            issues: self.issues.checked_add(more.issues)?,
+            answered: self.answered.checked_add(more.answered)?,
+            timed_out: self.timed_out.checked_add(more.timed_out)?,
+            aborted: self.aborted.checked_add(more.aborted)?,
+            rejected: self.rejected.checked_add(more.rejected)?,
+            executed: self.executed.checked_add(more.executed)?,
+            restarts: self.restarts.checked_add(more.restarts)?,
+        })
+    }
+}
+
 /// How many messages of each type were said (20.1).
 #[derive(Clone, Copy, Debug, PartialEq, Eq)]
 pub struct MessageCounts {
@@ -49,6 +81,40 @@ pub struct MessageCounts {
     pub error: usize,
     pub reject: usize,
     pub abort: usize,
+}
+
+impl MessageCounts {
+    /// Returns the counts of no message.
+    pub(crate) fn none() -> Self
+        ensures { result ≡ spec.no_messages }
+    {
+        MessageCounts {
+            confirmed: 0,
+            unconfirmed: 0,
+            simple_ack: 0,
+            complex_ack: 0,
+            segment_ack: 0,
+            error: 0,
+            reject: 0,
+            abort: 0,
+        }
+    }
+
+    /// Returns these counts with others, or none where there are too many to be counted.
+    pub(crate) fn with(self, more: MessageCounts) -> Option<Self>
+        ensures { IfSome result (λ counts. counts ≡ spec.messages_with self more) }
+    {
+        Some(MessageCounts {
+            confirmed: self.confirmed.checked_add(more.confirmed)?,
+            unconfirmed: self.unconfirmed.checked_add(more.unconfirmed)?,
+            simple_ack: self.simple_ack.checked_add(more.simple_ack)?,
+            complex_ack: self.complex_ack.checked_add(more.complex_ack)?,
+            segment_ack: self.segment_ack.checked_add(more.segment_ack)?,
+            error: self.error.checked_add(more.error)?,
+            reject: self.reject.checked_add(more.reject)?,
+            abort: self.abort.checked_add(more.abort)?,
+        })
+    }
 }
 
 /// What there was of all in a world.
@@ -104,7 +170,7 @@ fn count<A: Allocator>(kind: Kind, history: &[WorldEntry<A>]) -> usize
 }
 
 /// How many entries of each kind these are.
-fn outcomes_in<A: Allocator>(history: &[WorldEntry<A>]) -> OutcomeCounts
+pub(crate) fn outcomes_in<A: Allocator>(history: &[WorldEntry<A>]) -> OutcomeCounts
     ensures { result ≡ spec.outcomes_in history.now }
 {
     OutcomeCounts {
@@ -142,7 +208,7 @@ fn count_said<A: Allocator>(pdu_type: PduType, said: &[SaidMessage<A>]) -> usize
 }
 
 /// How many of these messages are of each type.
-fn messages_in<A: Allocator>(said: &[SaidMessage<A>]) -> MessageCounts
+pub(crate) fn messages_in<A: Allocator>(said: &[SaidMessage<A>]) -> MessageCounts
     ensures { result ≡ spec.messages_in said.now }
 {
     MessageCounts {
@@ -166,14 +232,15 @@ pub fn counts_of<A: Allocator + Copy>(alloc: A, world: &World<A>) -> Result<Coun
     ensures legal { IsLegal (instances_of world.now.site) world.now.history (judged_of world.now) }
 {
     let history = world.history();
-    let wait = greatest_wait(alloc, history)?;
+    let mut waits = Waits::new(alloc);
+    waits.count(history)?;
     Ok(Counts {
         outcomes: outcomes_in(history),
         messages: messages_in(world.said()),
         datagrams: world.items().len(),
         frames: world.buses().frames,
         moment: world.moment(),
-        wait,
+        wait: waits.greatest(),
     })
 }
 

@@ -8,12 +8,14 @@
 //!
 //! - `script_end`: where a line behind a script begins.
 //! - `raging`: so many events of a storm, one after another.
+//! - `counted`: the same in a world that forgets, of which is counted what is gone.
 //! - `counts`: what there was of all, in one line.
 //! - `waits`: how long clients waited.
 //! - `unwritten`: where nothing is written.
 //! - `storming`: the two texts, and the exit status.
 #![tactic(auto)]
 
+mod counted;
 mod counts;
 mod raging;
 mod script_end;

@@ -23,7 +23,7 @@ pub struct Weather {
 }
 
 /// Puts down the line of an event.
-fn put_down<A: Allocator, L: Write>(event: &Event<A>, lines: &mut L) -> io::Result<()>
+pub(crate) fn put_down<A: Allocator, L: Write>(event: &Event<A>, lines: &mut L) -> io::Result<()>
     ensures { OnOk result
         (Appends (L.contents lines.old) (L.contents lines.new) (line (event_text Numbers event.now))) }
 {

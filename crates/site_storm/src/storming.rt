@@ -1,16 +1,14 @@
 //! A site, a script and a storm behind it, from their texts to what is printed, and the exit status.
 
-ghost use Rattle.std.specs.Prelude.{◌≡◌, ◌≤◌, OnOk};
-ghost use Rattle.std.specs.Io.KnownBytes.{Appends};
+ghost use Rattle.std.specs.Prelude.{◌≡◌, ◌≤◌, None, OnOk};
 ghost use Rattle.std.specs.List.{AllByRecursion};
 ghost use Rattle.script.specs.Steps.{IsSoundStep};
-ghost use Rattle.site_storm.specs.Counting.{count_text};
-ghost use Rattle.site_storm.specs.Lines.{line};
-ghost use Rattle.site_storm.specs.Storming.{CountsStorm, PrintsCounts, PrintsCountsOf, PrintsStorm, Storms, StormsOver};
-ghost use Rattle.site_run.specs.simulator.carry_world.Laws.{IsLegal};
-ghost use Rattle.site_run.specs.simulator.Judged.{instances_of, judged_of};
+ghost use Rattle.site_run.specs.Running.{PrintsSteps, entries_in};
+ghost use Rattle.site_run.specs.simulator.Laws.{IsLed};
+ghost use Rattle.site_storm.specs.Storming.{CountsStorm, PrintsCounts, PrintsCountsFrom, PrintsStorm, Storms};
+ghost use Rattle.site_storm.specs.Storming.{StormsOver};
 
-use crate::counts::{CountLine, Counts, counts_of};
+use crate::counted::Counted;
 use crate::raging::{Weather, rage};
 use crate::unwritten::Unwritten;
 use script::Step;
@@ -21,6 +19,7 @@ use site_run::{
 use std::alloc::{Allocator, Global};
 use std::io;
 use std::io::Write;
+use storm::Internetwork;
 use tags::Items;
 
 /// Takes the steps of a script in a world of a site, as their texts describe them, and then the events of a storm, and
@@ -54,7 +53,8 @@ pub fn storm<A: Allocator + Copy, L: Write, W: Write, E: Write>(
 }
 
 /// The same, but nothing is printed of what comes of steps and events: behind them one line tells how many there were
-/// of what, for sums over many seeds.
+/// of what, for sums over many seeds. What was counted and can no longer matter is forgotten: a storm of any length
+/// runs in the memory of a short one.
 pub fn storm_counted<A: Allocator + Copy, L: Write, W: Write, E: Write>(
     reading: Global,
     alloc: A,
@@ -142,7 +142,22 @@ fn take_all<A: Allocator + Copy, L: Write, W: Write>(
     rage(alloc, world, weather, spelling, lines, out)
 }
 
+/// Takes the steps of a script in a world, and prints nothing.
+fn take_script<A: Allocator + Copy>(
+    world: &mut World<A>,
+    steps: Items<Step<A>, A>,
+    numbers: LineNumbers<'_>,
+) -> io::Result<()>
+    requires sound { AllByRecursion IsSoundStep steps }
+    ensures { OnOk result (PrintsSteps (entries_in Spelling.Numbers) numbers.entry steps world.old world.new None None) }
+{
+    let mut unwritten = Unwritten;
+    let telling = Telling::entries(Spelling::Numbers);
+    take_steps(world, steps, numbers, telling, &mut unwritten)
+}
+
 /// Takes the steps, and then the events of a storm, and prints how many there were of what.
+#[tactic(auto, using(crate::proofs::CountedLaws::counted_rules))]
 fn run_counted<A: Allocator + Copy, L: Write, W: Write>(
     alloc: A,
     opened: Opened<'_, A>,
@@ -160,55 +175,29 @@ fn run_counted<A: Allocator + Copy, L: Write, W: Write>(
         lines: numbers,
     } = opened;
     let mut world = world;
-    let printed = print_counted(alloc, &mut world, steps, numbers, weather, lines, out);
-    world.close();
-    printed
+    match take_script(&mut world, steps, numbers) {
+        Ok(()) => count_storm(alloc, world.into_internetwork(), weather, lines, out),
+        Err(error) => {
+            world.close();
+            Err(error)
+        }
+    }
 }
 
-/// Takes the steps in a world, and then the events, and prints how many there were of what.
-fn print_counted<A: Allocator + Copy, L: Write, W: Write>(
+/// Lets a storm go over a world that forgets, and prints how many there were of what.
+fn count_storm<A: Allocator + Copy, L: Write, W: Write>(
     alloc: A,
-    world: &mut World<A>,
-    steps: Items<Step<A>, A>,
-    numbers: LineNumbers<'_>,
+    world: Internetwork<A>,
     weather: Weather,
     lines: &mut L,
     out: &mut W,
 ) -> io::Result<()>
-    requires sound { AllByRecursion IsSoundStep steps }
-    ensures { OnOk result (PrintsCounts numbers.entry steps weather.steps world.old
+    requires led { IsLed world }
+    ensures { OnOk result (PrintsCountsFrom weather.steps world
         (L.contents lines.old) (L.contents lines.new) (W.contents out.old) (W.contents out.new)) }
 {
-    let mut unwritten = Unwritten;
-    take_all(
-        alloc,
-        world,
-        steps,
-        numbers,
-        weather,
-        Spelling::Numbers,
-        lines,
-        &mut unwritten,
-    )?;
-    print_counts(alloc, world, out)
-}
-
-/// Prints how many there were of what in a world.
-fn print_counts<A: Allocator + Copy, W: Write>(
-    alloc: A,
-    world: &World<A>,
-    out: &mut W,
-) -> io::Result<()>
-    ensures printed { OnOk result (PrintsCountsOf world.now (W.contents out.old) (W.contents out.new)) }
-    ensures legal { IsLegal (instances_of world.now.site) world.now.history (judged_of world.now) }
-{
-    let counts = counts_of(alloc, world)?;
-    print_line(counts, out)
-}
-
-/// Prints counts on a line.
-fn print_line<W: Write>(counts: Counts, out: &mut W) -> io::Result<()>
-    ensures { OnOk result (Appends (W.contents out.old) (W.contents out.new) (line (count_text counts))) }
-{
-    writeln!(out, "{}", CountLine(counts))
+    let mut counted = Counted::new(alloc, world);
+    let printed = counted.print_storm(alloc, weather, lines, out);
+    counted.close();
+    printed
 }

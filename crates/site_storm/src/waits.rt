@@ -1,88 +1,142 @@
 //! How long clients waited for answers.
 
-ghost use Rattle.std.specs.Prelude.{◌≡◌, ◌++◌, IfOk, OnOk};
+ghost use Rattle.std.specs.Prelude.{◌≡◌};
 ghost use Rattle.site_storm.specs.Waits as spec;
 
 use history::Entry;
 use site_run::WorldEntry;
 use std::alloc::{AllocError, Allocator};
+use std::marker::Model;
 
-/// The moment of an entry, in milliseconds, if it is an issue.
-fn issued_at<A: Allocator>(entry: &WorldEntry<A>) -> Option<u64>
-    ensures { result ≡ spec.issued_at entry.now }
+/// An issue that has no closing entry yet.
+#[derive(Clone, Copy, Debug, PartialEq, Eq)]
+pub(crate) struct OpenIssue {
+    pub(crate) number: u64,
+    /// The moment of it, in milliseconds.
+    pub(crate) moment: u64,
+}
+
+/// The moment of the issue of a number among these, in milliseconds, if it is there.
+fn moment_of(issues: &[OpenIssue], number: u64) -> Option<u64>
+    ensures { result ≡ spec.moment_of number issues.now }
 {
-    match entry {
-        Entry::Issue { moment, .. } => Some(*moment),
-        Entry::Executed { .. }
-        | Entry::Answered { .. }
-        | Entry::Ended { .. }
-        | Entry::Restarted { .. } => None,
+    let mut left = issues;
+    while let [first, rest @ ..] = left {
+        if first.number == number {
+            return Some(first.moment);
+        }
+        left = rest;
+    }
+    None
+}
+
+/// Leaves the issues that have another number.
+fn close<A: Allocator>(issues: &mut Vec<OpenIssue, A>, number: u64)
+    ensures { issues.new.items ≡ spec.without number issues.old.items }
+{
+    issues.retain(|issue| issue.number != number);
+}
+
+/// The time from an issue, if there is one, to a moment, in milliseconds.
+fn since(issued: Option<u64>, moment: u64) -> u64
+    ensures { result ≡ spec.since issued moment }
+{
+    match issued {
+        Some(issued) => moment.saturating_sub(issued),
+        None => 0,
     }
 }
 
-/// Puts a moment behind others, if there is one.
-fn push_any<A: Allocator>(moments: &mut Vec<u64, A>, moment: Option<u64>) -> Result<(), AllocError>
-    ensures { OnOk result (moments.new.items ≡ moments.old.items ++ spec.at_most_one moment) }
-{
-    if let Some(moment) = moment {
-        moments.push(moment)?;
-    }
-    Ok(())
+/// How long clients waited, as far as entries were counted: the moment of each issue is kept until an entry closes it.
+#[derive(Drop)]
+pub(crate) struct Waits<A: Allocator> {
+    /// The open issues, in order.
+    issues: Vec<OpenIssue, A>,
+    /// The longest time from an issue to its answer, in milliseconds.
+    greatest: u64,
 }
 
-/// The moments of all issues of a history, in milliseconds, by their numbers.
-#[tactic(auto, using(crate::proofs::WaitLaws::added))]
-fn issue_moments<A: Allocator + Copy>(
-    alloc: A,
-    history: &[WorldEntry<A>],
-) -> Result<Vec<u64, A>, AllocError>
-    ensures { IfOk result (λ moments. moments.items ≡ spec.issue_moments history.now) }
-{
-    let mut moments = Vec::new(alloc);
-    for entry in history {
-        push_any(&mut moments, issued_at(entry))?;
-    }
-    Ok(moments)
+impl<A: Allocator> Model for Waits<A> {
+    ghost use Rattle.site_storm.specs.Waits.{WaitsState};
+
+    ghost Value = { WaitsState };
+
+    ghost view = { λ w. record { issues = w.issues.items; greatest = w.greatest } };
 }
 
-/// How long a client waited for this entry, in milliseconds, if it is an answer.
-fn wait_for<A: Allocator>(moments: &[u64], entry: &WorldEntry<A>) -> u64
-    ensures { result ≡ spec.wait_for moments.now entry.now }
-{
-    match entry {
-        Entry::Answered { number, moment, .. } => match moments.get(*number as usize) {
-            Some(issued) => moment.saturating_sub(*issued),
-            None => 0,
-        },
-        Entry::Issue { .. }
-        | Entry::Executed { .. }
-        | Entry::Ended { .. }
-        | Entry::Restarted { .. } => 0,
-    }
-}
+impl<A: Allocator> Waits<A> {
+    ghost use Rattle.std.specs.Prelude.{◌≡◌, OnOk};
+    ghost use Rattle.site_storm.specs.Waits as spec;
 
-/// The greatest of the waits for these entries.
-#[tactic(auto, using(crate::proofs::WaitLaws::max_of_three))]
-fn greatest_of<A: Allocator>(moments: &[u64], history: &[WorldEntry<A>]) -> u64
-    ensures { result ≡ spec.greatest_of moments.now history.now }
-{
-    let mut greatest = 0;
-    for entry in history {
-        greatest = wait_for(moments, entry).max(greatest);
+    /// No entry was counted. It takes no memory yet.
+    pub(crate) fn new(alloc: A) -> Self
+        ensures { result ≡ spec.no_waits }
+    {
+        Waits {
+            issues: Vec::new(alloc),
+            greatest: 0,
+        }
     }
-    greatest
-}
 
-/// The longest time from an issue to its answer, in milliseconds.
-///
-/// # Errors
-/// Want of memory.
-pub(crate) fn greatest_wait<A: Allocator + Copy>(
-    alloc: A,
-    history: &[WorldEntry<A>],
-) -> Result<u64, AllocError>
-    ensures { IfOk result (λ wait. wait ≡ spec.greatest_wait history.now) }
-{
-    let moments = issue_moments(alloc, history)?;
-    Ok(greatest_of(moments.as_slice(), history))
+    /// The longest time from an issue to its answer, in milliseconds.
+    pub(crate) fn greatest(&self) -> u64
+        ensures { result ≡ self.now.greatest }
+    {
+        self.greatest
+    }
+
+    /// A request is issued.
+    fn issue(&mut self, number: u64, moment: u64) -> Result<(), AllocError>
+        ensures { OnOk result (self.new ≡ spec.with_issue number moment self.old) }
+    {
+        self.issues.push(OpenIssue { number, moment })?;
+        Ok(())
+    }
+
+    /// An issue is answered.
+    fn answer(&mut self, number: u64, moment: u64)
+        ensures { self.new ≡ spec.with_answer number moment self.old }
+    {
+        let issued = moment_of(self.issues.as_slice(), number);
+        self.greatest = since(issued, moment).max(self.greatest);
+        close(&mut self.issues, number);
+    }
+
+    /// An issue ends without an answer.
+    fn end(&mut self, number: u64)
+        ensures { self.new ≡ spec.with_end number self.old }
+    {
+        close(&mut self.issues, number);
+    }
+
+    /// Counts an entry.
+    fn take(&mut self, entry: &WorldEntry<A>) -> Result<(), AllocError>
+        ensures { OnOk result (self.new ≡ spec.waits_after entry.now self.old) }
+    {
+        match entry {
+            Entry::Issue { number, moment, .. } => self.issue(*number, *moment),
+            Entry::Answered { number, moment, .. } => {
+                self.answer(*number, *moment);
+                Ok(())
+            }
+            Entry::Ended { number, .. } => {
+                self.end(*number);
+                Ok(())
+            }
+            Entry::Executed { .. } | Entry::Restarted { .. } => Ok(()),
+        }
+    }
+
+    /// Counts entries, in order.
+    ///
+    /// # Errors
+    /// Want of memory. Some of them may then be counted.
+    pub(crate) fn count(&mut self, entries: &[WorldEntry<A>]) -> Result<(), AllocError>
+        ensures { OnOk result (self.new ≡ spec.all_waits entries.now self.old) }
+    {
+        for entry in entries {
+            self.take(entry)?;
+        }
+        Ok(())
+    }
 }

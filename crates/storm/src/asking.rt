@@ -8,7 +8,7 @@ use crate::requests::request;
 use crate::storm::Storm;
 use apdu::Limits;
 use object_model::SiteObjects;
-use simulator::{Event, World};
+use simulator::{Event, Internetwork};
 use site_parts::{Role, Station};
 use std::alloc::{AllocError, Allocator};
 
@@ -95,11 +95,16 @@ fn issue<A: Allocator + Copy>(
     }))
 }
 
+/// Whether nothing was told yet, also not of what is handed out.
+fn has_no_history<A: Allocator + Copy>(world: &Internetwork<A>) -> bool {
+    world.first_entry() == 0 && world.history().is_empty()
+}
+
 /// A client asks who is there, more often before the first issue, or issues a request.
 fn asked<A: Allocator + Copy>(
     dice: &mut Dice,
     alloc: A,
-    world: &World<A>,
+    world: &Internetwork<A>,
 ) -> Result<Option<Event<A>>, AllocError>
     ensures sound { IfOk result IsSoundIfAny }
 {
@@ -113,7 +118,7 @@ fn asked<A: Allocator + Copy>(
     let Some(objects) = device.role.objects() else {
         return Ok(None);
     };
-    let seldom = if world.history().is_empty() { 2 } else { 12 };
+    let seldom = if has_no_history(world) { 2 } else { 12 };
     if dice.is_one_of(seldom) {
         return Ok(Some(Event::WhoIs {
             client: client.name.copy(alloc)?,
@@ -127,7 +132,7 @@ fn asked<A: Allocator + Copy>(
 pub(crate) fn begun<A: Allocator + Copy>(
     storm: &mut Storm,
     alloc: A,
-    world: &World<A>,
+    world: &Internetwork<A>,
 ) -> Result<Option<Event<A>>, AllocError>
     ensures sound { IfOk result IsSoundIfAny }
 {

@@ -7,7 +7,7 @@ use crate::dice::Dice;
 use crate::storm::Storm;
 use bus_traffic::{Sending, Telling};
 use npdu::{Mac, Station};
-use simulator::{Event, World};
+use simulator::{Event, Internetwork};
 use site_views::at_address;
 use std::alloc::{AllocError, Allocator};
 use tags::{Items, Octets};
@@ -71,7 +71,7 @@ fn heard_of<A: Allocator + Copy>(
 /// The station at an address of a bus hears octets, if there is such a station.
 fn hearing<A: Allocator + Copy>(
     alloc: A,
-    world: &World<A>,
+    world: &Internetwork<A>,
     network: u16,
     address: u8,
     octets: Octets<A>,
@@ -93,7 +93,7 @@ fn hearing<A: Allocator + Copy>(
 fn any_frame<A: Allocator + Copy>(
     storm: &mut Storm,
     alloc: A,
-    world: &World<A>,
+    world: &Internetwork<A>,
 ) -> Result<Option<Event<A>>, AllocError>
     ensures sound { IfOk result IsSoundIfAny }
 {
@@ -124,7 +124,7 @@ fn any_frame<A: Allocator + Copy>(
 pub(crate) fn next_frame<A: Allocator + Copy>(
     storm: &mut Storm,
     alloc: A,
-    world: &World<A>,
+    world: &Internetwork<A>,
     told: Telling,
     frames: u64,
 ) -> Result<(Option<Event<A>>, Telling), AllocError>

@@ -2,12 +2,8 @@
 
 use crate::storm::Storm;
 use profile::is_heard_in_time;
-use simulator::World;
+use simulator::{Internetwork, LATEST_ITEMS};
 use std::alloc::Allocator;
-use traffic::{Item, next_waiting};
-
-/// How many of the last items may come at any time.
-const LATEST: usize = 64;
 
 /// Which place the fate of an item has: none of an address on a bus.
 const ITEM: u64 = 256;
@@ -18,16 +14,15 @@ fn is_lost(storm: &Storm, number: usize) -> bool {
 }
 
 /// The next item from this one on, and before another, that waits and isn't lost.
-fn next_kept<A: Allocator>(
+fn next_kept<A: Allocator + Copy>(
     storm: &Storm,
-    items: &[Item<A>],
+    world: &Internetwork<A>,
     from: usize,
     before: usize,
-    now: u64,
 ) -> Option<usize> {
     let mut first = from;
     for _ in from..before {
-        let number = next_waiting(items, first, before, now)?;
+        let number = world.next_waiting(first, before)?;
         if !is_lost(storm, number) {
             return Some(number);
         }
@@ -36,20 +31,19 @@ fn next_kept<A: Allocator>(
     None
 }
 
-/// Any of the last items that was delivered, or wasn't and isn't lost. Seldom it is too old.
-fn any_item<A: Allocator>(
+/// Any of the last items that was delivered, or wasn't and isn't lost. Seldom it is too old: none of these is forgotten.
+fn any_item<A: Allocator + Copy>(
     storm: &mut Storm,
-    items: &[Item<A>],
+    world: &Internetwork<A>,
     is_delivered: bool,
-    now: u64,
 ) -> Option<usize> {
-    let first = items.len().saturating_sub(LATEST);
-    let number = first.saturating_add(storm.dice.below(LATEST));
-    let item = items.get(number)?;
+    let first = world.item_count().saturating_sub(LATEST_ITEMS);
+    let number = first.saturating_add(storm.dice.below(LATEST_ITEMS));
+    let item = world.item_at(number)?;
     if item.is_delivered != is_delivered || (!is_delivered && is_lost(storm, number)) {
         return None;
     }
-    if is_heard_in_time(item.stamp, now) || storm.dice.is_one_of(16) {
+    if is_heard_in_time(item.stamp, world.moment()) || storm.dice.is_one_of(16) {
         Some(number)
     } else {
         None
@@ -60,28 +54,25 @@ fn any_item<A: Allocator>(
 /// overtaken by none, or is the first that waits from one on and before another.
 pub(crate) fn next_item<A: Allocator + Copy>(
     storm: &mut Storm,
-    world: &World<A>,
+    world: &Internetwork<A>,
     from: usize,
     before: usize,
 ) -> Option<(usize, usize)> {
-    let items = world.items();
-    let now = world.moment();
     if storm.dice.happens(storm.chances.repeat) {
-        if let Some(number) = any_item(storm, items, true, now) {
+        if let Some(number) = any_item(storm, world, true) {
             return Some((number, from));
         }
     }
     if storm.dice.happens(storm.chances.reorder) {
-        if let Some(number) = any_item(storm, items, false, now) {
+        if let Some(number) = any_item(storm, world, false) {
             return Some((number, from));
         }
     }
-    let number = next_kept(storm, items, from, before, now)?;
+    let number = next_kept(storm, world, from, before)?;
     Some((number, number.saturating_add(1)))
 }
 
 /// Whether an item waits to be delivered and isn't lost.
-pub(crate) fn is_any_waiting<A: Allocator + Copy>(storm: &Storm, world: &World<A>) -> bool {
-    let items = world.items();
-    next_kept(storm, items, 0, items.len(), world.moment()).is_some()
+pub(crate) fn is_any_waiting<A: Allocator + Copy>(storm: &Storm, world: &Internetwork<A>) -> bool {
+    next_kept(storm, world, 0, world.item_count()).is_some()
 }

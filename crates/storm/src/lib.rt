@@ -5,7 +5,7 @@
 //!
 //! To the layer above it promises: each event is sound, so that a world may be asked for it, whatever the world is.
 //! Which one it is, no contract says. It sees a world by its public calls alone, and tells equal events of equal worlds
-//! where the seed is equal.
+//! where the seed is equal, also of a world that forgets.
 //!
 //! - `chances`, `percent`: how often what happens.
 //! - `dice`: what is drawn from the generator.
@@ -31,5 +31,6 @@ mod writes;
 
 pub use chances::Chances;
 pub use percent::Percent;
-pub use simulator::SaidMessage;
+pub use simulator::{Internetwork, SaidMessage};
 pub use storm::Storm;
+pub use ticks::LATEST_ENTRIES;

@@ -11,7 +11,7 @@ use crate::items::{is_any_waiting, next_item};
 use crate::ticks::next_tick;
 use crate::wakes::next_wake;
 use bus_traffic::Telling;
-use simulator::{Event, World};
+use simulator::{Event, Internetwork, World, WorldEntry};
 use std::alloc::{AllocError, Allocator};
 
 /// What comes next in a round: a tick, what was put out before it, and the wakes behind it.
@@ -71,6 +71,22 @@ impl Storm {
     ) -> Result<Event<A>, AllocError>
         ensures sound { IfOk result IsSoundEvent }
     {
+        self.next_event_of(alloc, world.internetwork(), &[])
+    }
+
+    /// The same in a world that hands its history out and forgets: of the entries that were handed out, these are the
+    /// last `LATEST_ENTRIES`, or more of them, or all. It is the event that happens next in the whole.
+    ///
+    /// # Errors
+    /// Want of memory.
+    pub fn next_event_of<A: Allocator + Copy>(
+        &mut self,
+        alloc: A,
+        world: &Internetwork<A>,
+        told: &[WorldEntry<A>],
+    ) -> Result<Event<A>, AllocError>
+        ensures sound { IfOk result IsSoundEvent }
+    {
         if self.dice.happens(self.chances.issue) {
             if let Some(event) = begun(self, alloc, world)? {
                 return Ok(event);
@@ -78,7 +94,7 @@ impl Storm {
         }
         match self.going_on(alloc, world)? {
             Some(event) => Ok(event),
-            None => Ok(self.tick(world)),
+            None => Ok(self.tick(world, told)),
         }
     }
 
@@ -86,7 +102,7 @@ impl Storm {
     fn going_on<A: Allocator + Copy>(
         &mut self,
         alloc: A,
-        world: &World<A>,
+        world: &Internetwork<A>,
     ) -> Result<Option<Event<A>>, AllocError>
         ensures sound { IfOk result IsSoundIfAny }
     {
@@ -106,7 +122,7 @@ impl Storm {
     fn delivery<A: Allocator + Copy>(
         &mut self,
         alloc: A,
-        world: &World<A>,
+        world: &Internetwork<A>,
         from: usize,
         before: usize,
         told: Telling,
@@ -137,7 +153,11 @@ impl Storm {
     }
 
     /// The next tick, which begins a round.
-    fn tick<A: Allocator + Copy>(&mut self, world: &World<A>) -> Event<A>
+    fn tick<A: Allocator + Copy>(
+        &mut self,
+        world: &Internetwork<A>,
+        told: &[WorldEntry<A>],
+    ) -> Event<A>
         ensures sound { IsSoundEvent result }
     {
         let frames = world.buses().frames;
@@ -145,10 +165,10 @@ impl Storm {
             self.spoken = world.moment();
         }
         let is_moving = frames > self.frames || is_any_waiting(self, world);
-        let pass = next_tick(self, world, is_moving);
+        let pass = next_tick(self, world, told, is_moving);
         self.part = Part::Delivers {
             from: 0,
-            before: world.items().len(),
+            before: world.item_count(),
             told: Telling {
                 frames: self.frames,
                 ear: 0,

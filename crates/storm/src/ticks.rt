@@ -9,11 +9,11 @@ use profile::{
     MAX_TICK_MS, REUSE_MS, T_NO_TOKEN_MS, T_REPLY_DELAY_MS, T_REPLY_TIMEOUT_MS, T_SLOT_MS,
     T_USAGE_TIMEOUT_MS,
 };
-use simulator::{World, WorldEntry};
+use simulator::{Internetwork, WorldEntry};
 use std::alloc::Allocator;
 
 /// How many of the last entries of a history have deadlines that are looked at.
-const LATEST: usize = 8;
+pub const LATEST_ENTRIES: usize = 8;
 
 /// What is due behind an issue: the request again, its end, its segments, and its invoke ID (5.4).
 const BEHIND_ISSUE: [u64; 7] = [
@@ -82,22 +82,65 @@ fn nearest_behind(times: &[u64], moment: u64, now: u64, nearest: Option<u64>) ->
     nearest
 }
 
+/// What is due behind an entry, and when that came.
+#[derive(Clone, Copy)]
+struct Due {
+    /// The moment at which the entry came, in milliseconds.
+    moment: u64,
+    /// So many milliseconds behind it.
+    times: &'static [u64],
+}
+
+/// What is due behind an entry.
+fn due_behind<A: Allocator>(entry: &WorldEntry<A>) -> Due {
+    Due {
+        moment: moment_of(entry),
+        times: times_behind(entry),
+    }
+}
+
+/// What is due behind the entry at this place among the last ones of a history: some were handed out, and the others
+/// stand behind those.
+fn due_at<A: Allocator>(
+    told: &[WorldEntry<A>],
+    behind: &[WorldEntry<A>],
+    place: usize,
+) -> Option<Due> {
+    let count = told.len().saturating_add(behind.len());
+    let number = count.saturating_sub(LATEST_ENTRIES).saturating_add(place);
+    if let Some(entry) = told.get(number) {
+        return Some(due_behind(entry));
+    }
+    match behind.get(number.saturating_sub(told.len())) {
+        Some(entry) => Some(due_behind(entry)),
+        None => None,
+    }
+}
+
 /// The next deadline of the last entries of a history after the moment `now`, in milliseconds.
-fn nearest_deadline<A: Allocator>(history: &[WorldEntry<A>], now: u64) -> Option<u64> {
-    let first = history.len().saturating_sub(LATEST);
+fn nearest_deadline<A: Allocator>(
+    told: &[WorldEntry<A>],
+    behind: &[WorldEntry<A>],
+    now: u64,
+) -> Option<u64> {
     let mut nearest = None;
-    for entry in history.get(first..).unwrap_or(&[]) {
-        nearest = nearest_behind(times_behind(entry), moment_of(entry), now, nearest);
+    for place in 0..LATEST_ENTRIES {
+        if let Some(due) = due_at(told, behind, place) {
+            nearest = nearest_behind(due.times, due.moment, now, nearest);
+        }
     }
     nearest
 }
 
 /// Any deadline of the last entries of a history, in milliseconds.
-fn any_deadline<A: Allocator>(dice: &mut Dice, history: &[WorldEntry<A>]) -> Option<u64> {
-    let first = history.len().saturating_sub(LATEST);
-    let entry = history.get(first.saturating_add(dice.below(LATEST)))?;
-    let time = dice.one(times_behind(entry))?;
-    Some(moment_of(entry).saturating_add(*time))
+fn any_deadline<A: Allocator>(
+    dice: &mut Dice,
+    told: &[WorldEntry<A>],
+    behind: &[WorldEntry<A>],
+) -> Option<u64> {
+    let due = due_at(told, behind, dice.below(LATEST_ENTRIES))?;
+    let time = dice.one(due.times)?;
+    Some(due.moment.saturating_add(*time))
 }
 
 /// So many milliseconds, or seldom one fewer or one more.
@@ -115,12 +158,16 @@ fn within(ms: u64) -> u64 {
 }
 
 /// Up to a deadline of the history, or one millisecond beside it: mostly the next one.
-fn to_deadline<A: Allocator + Copy>(storm: &mut Storm, world: &World<A>) -> u64 {
+fn to_deadline<A: Allocator + Copy>(
+    storm: &mut Storm,
+    world: &Internetwork<A>,
+    told: &[WorldEntry<A>],
+) -> u64 {
     let now = world.moment();
     let due = if storm.dice.happens(storm.chances.reorder) {
-        any_deadline(&mut storm.dice, world.history())
+        any_deadline(&mut storm.dice, told, world.history())
     } else {
-        nearest_deadline(world.history(), now)
+        nearest_deadline(told, world.history(), now)
     };
     match due {
         Some(due) if due > now => beside(&mut storm.dice, due - now),
@@ -139,7 +186,7 @@ fn nearest_slot<A: Allocator>(bus: &Bus<A>, silence: u64, nearest: Option<u64>) 
 }
 
 /// Up to the next time that a node on a bus waits for, or seldom one millisecond beside it.
-fn to_bus_time<A: Allocator + Copy>(storm: &mut Storm, world: &World<A>) -> u64 {
+fn to_bus_time<A: Allocator + Copy>(storm: &mut Storm, world: &Internetwork<A>) -> u64 {
     let silence = world.moment().saturating_sub(storm.spoken);
     let mut nearest = nearest_behind(&ON_BUS, 0, silence, None);
     for bus in &world.buses().buses {
@@ -151,11 +198,16 @@ fn to_bus_time<A: Allocator + Copy>(storm: &mut Storm, world: &World<A>) -> u64 
 
 /// How many milliseconds pass next where there is a bus: few where something is on its way, else up to a time that a
 /// node waits for, and seldom up to a deadline.
-fn next_on_bus<A: Allocator + Copy>(storm: &mut Storm, world: &World<A>, is_moving: bool) -> Pass {
+fn next_on_bus<A: Allocator + Copy>(
+    storm: &mut Storm,
+    world: &Internetwork<A>,
+    told: &[WorldEntry<A>],
+    is_moving: bool,
+) -> Pass {
     let is_other = storm.dice.happens(storm.chances.reorder);
     if is_other && storm.dice.is_one_of(8) {
         return Pass {
-            ms: within(to_deadline(storm, world)),
+            ms: within(to_deadline(storm, world, told)),
             is_late: true,
         };
     }
@@ -174,11 +226,12 @@ fn next_on_bus<A: Allocator + Copy>(storm: &mut Storm, world: &World<A>, is_movi
 /// a time that a node waits for.
 pub(crate) fn next_tick<A: Allocator + Copy>(
     storm: &mut Storm,
-    world: &World<A>,
+    world: &Internetwork<A>,
+    told: &[WorldEntry<A>],
     is_moving: bool,
 ) -> Pass {
     if !world.buses().buses.is_empty() {
-        return next_on_bus(storm, world, is_moving);
+        return next_on_bus(storm, world, told, is_moving);
     }
     if is_moving && !storm.dice.happens(storm.chances.reorder) {
         return Pass {
@@ -187,7 +240,7 @@ pub(crate) fn next_tick<A: Allocator + Copy>(
         };
     }
     Pass {
-        ms: within(to_deadline(storm, world)),
+        ms: within(to_deadline(storm, world, told)),
         is_late: true,
     }
 }

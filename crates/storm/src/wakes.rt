@@ -6,7 +6,7 @@ ghost use Rattle.simulator.specs.world.Step.{IsSoundEvent, IsSoundIfAny};
 use crate::dice::Dice;
 use crate::storm::{Part, Storm};
 use profile::LinkKind;
-use simulator::{Event, World};
+use simulator::{Event, Internetwork};
 use site_parts::{Link, Station};
 use std::alloc::{AllocError, Allocator};
 
@@ -55,7 +55,7 @@ fn next_awake<A: Allocator>(
 pub(crate) fn next_wake<A: Allocator + Copy>(
     storm: &mut Storm,
     alloc: A,
-    world: &World<A>,
+    world: &Internetwork<A>,
     from: usize,
 ) -> Result<Option<Event<A>>, AllocError>
     ensures sound { IfOk result IsSoundIfAny }
