@@ -6,8 +6,7 @@
 
 use crate::disk::{Disk, DiskFile};
 use crate::files::changed;
-use crate::udp::{moved, without_moments};
-use rows_wire::{Row, row_of, said, text_of, wanted_of};
+use rows_wire::{Row, moved, moved_back, row_of, said, text_of, wanted_of, without_moments};
 use sheets::{names, words_of};
 use std::alloc::{AllocError, Global};
 use std::io;
@@ -22,9 +21,6 @@ const LINE: &str = "bacsite run p.toml live.script --pcap old.pcapng";
 
 /// What the capture's file holds before.
 const OLD: &[u8] = b"as it was\n";
-
-/// What stands before the last two digits of a port in the files.
-const PORT: &str = "127.0.0.1:478";
 
 /// How many bases are tried.
 const BASES: u16 = 100;
@@ -77,7 +73,7 @@ fn run_at(rt: &HostRuntime, row: &Row, base: u16) -> io::Result<String> {
         None => None,
     };
     let found = printed_of(rt, &disk)?;
-    let found = back(alloc, found.as_str(), base)?;
+    let found = moved_back(alloc, found.as_str(), base)?;
     let behind = disk.into_files();
     Ok(with_files(found, before.as_slice(), behind.as_slice())?)
 }
@@ -135,21 +131,6 @@ fn printed_of(rt: &HostRuntime, disk: &Disk) -> io::Result<String> {
     let told = text_of(alloc, err.as_slice())?;
     let lines = without_moments(alloc, printed.as_str(), told.as_str())?;
     Ok(format!(in alloc; "status {status}\n{lines}")?)
-}
-
-/// A text with its ports as in the files.
-fn back(alloc: Global, text: &str, base: u16) -> Result<String, AllocError> {
-    let moved = format!(in alloc; "127.0.0.1:{base}")?;
-    let mut words = String::new(alloc);
-    let mut is_behind = false;
-    for part in text.split(moved.as_str()) {
-        if is_behind {
-            words.push_str(PORT)?;
-        }
-        words.push_str(part)?;
-        is_behind = true;
-    }
-    Ok(words)
 }
 
 /// Lines, and behind them the files that are other ones than before.
