@@ -6,8 +6,9 @@ use diagnosis::Settings;
 use diagnosis_reading::{Form, Request, Telling, diagnose};
 use findings::{Findings, NAMES};
 use packet_choice::{Excerpt, Failure};
+use refusing::Refusing;
 use site_capture::capture;
-use std::alloc::{AllocError, Global};
+use std::alloc::{AllocError, Allocator, Global};
 use std::io;
 
 /// The names of what is found in the capture of a run, with how often: `late-answer 1, unanswered 2`, or `nothing`.
@@ -15,7 +16,8 @@ use std::io;
 /// # Errors
 /// Those of reading, and want of memory.
 pub fn found_in(alloc: Global, site: &[u8], script: &[u8]) -> io::Result<String> {
-    let Ok(file) = capture(alloc, alloc, site, script) else {
+    let memory = Refusing::new(alloc);
+    let Ok(file) = capture(alloc, &memory, site, script) else {
         return Ok(String::from_str(alloc, "no capture")?);
     };
     let request = Request {
@@ -26,7 +28,7 @@ pub fn found_in(alloc: Global, site: &[u8], script: &[u8]) -> io::Result<String>
     };
     let mut input = file.as_slice();
     let mut out = Vec::new(alloc);
-    match diagnose(alloc, request, &mut input, &mut out) {
+    match diagnose(&memory, request, &mut input, &mut out) {
         Ok(Some(diagnosed)) => Ok(names_of(alloc, diagnosed.findings())?),
         Ok(None) => Ok(String::from_str(alloc, "no capture")?),
         Err(Failure::Reading(error) | Failure::Writing(error)) => Err(error),
@@ -34,7 +36,7 @@ pub fn found_in(alloc: Global, site: &[u8], script: &[u8]) -> io::Result<String>
 }
 
 /// The names of findings, with how often each was found.
-fn names_of(alloc: Global, findings: &Findings<Global>) -> Result<String, AllocError> {
+fn names_of<A: Allocator>(alloc: Global, findings: &Findings<A>) -> Result<String, AllocError> {
     let mut names = String::new(alloc);
     for name in NAMES {
         let count = findings.count(name);

@@ -188,7 +188,7 @@ impl<'a> Trial<'a> for ToldSite<'_> {
         );
         let told = told_in_words(given.alloc, came, out.as_slice(), self.wanted)?;
         let is_key = matches!(
-            parts_of(given.alloc, given.alloc, octets),
+            parts_of(given.alloc, given.other, octets),
             Err(NoParts::Key(_))
         );
         if is_key && !begins_with_place(out.as_slice(), b"plant.toml:") {

@@ -35,7 +35,7 @@ pub(crate) fn run(given: Given<'_>, row: &Row<'_>) -> Result<Counts, Stop> {
     let (word, _name) = two_words(row.asked);
     let octets = octets(given.alloc, word)?;
     let octets = octets.as_slice();
-    say_to_all(given.alloc, &Said { given, octets })?;
+    say_to_all(given, &Said { given, octets })?;
     Ok(Counts {
         rows: 1,
         refused: 0,

@@ -7,7 +7,7 @@ use crate::watched::Hearer;
 use console::{Builtin, respond};
 use npdu::Mac;
 use sheets::{Stop, differs, octets};
-use std::alloc::Global;
+use std::alloc::{Allocator, Global};
 use tags::{Fault, Items, Octets};
 
 /// Who writes, and sends the first segment of a request.
@@ -48,23 +48,23 @@ const ASKED: [(Mac, &str); 4] = [
 
 /// The device.
 #[derive(Drop)]
-pub(crate) struct HeardDevice {
-    device: Builtin<Global>,
+pub(crate) struct HeardDevice<A: Allocator + Copy> {
+    device: Builtin<A>,
 }
 
-impl HeardDevice {
+impl<A: Allocator + Copy> HeardDevice<A> {
     /// The device behind what was said to it.
     ///
     /// # Errors
     /// `Differs` where it says nothing to one of that, `Memory`.
-    pub(crate) fn new(alloc: Global) -> Result<HeardDevice, Stop> {
-        let mut device = Builtin::new(alloc)?;
+    pub(crate) fn new(alloc: Global, memory: A) -> Result<HeardDevice<A>, Stop> {
+        let mut device = Builtin::new(memory)?;
         told_to(alloc, &mut device, &BEFORE)?;
         Ok(HeardDevice { device })
     }
 }
 
-impl Hearer for HeardDevice {
+impl<A: Allocator + Copy> Hearer for HeardDevice<A> {
     fn copy(&self) -> Result<Self, Stop> {
         let device = self.device.copy()?;
         Ok(HeardDevice { device })
@@ -84,12 +84,12 @@ impl Hearer for HeardDevice {
 }
 
 /// What a device says to octets.
-fn said_to(
+fn said_to<A: Allocator + Copy>(
     alloc: Global,
-    device: &mut Builtin<Global>,
+    device: &mut Builtin<A>,
     from: Mac,
     octets: &[u8],
-) -> Result<Items<Octets<Global>, Global>, Stop> {
+) -> Result<Items<Octets<A>, A>, Stop> {
     match respond(device, from, octets) {
         Ok(said) => Ok(said),
         Err(Fault::Memory) => Err(Stop::Memory),
@@ -98,9 +98,9 @@ fn said_to(
 }
 
 /// What a device says to datagrams in words, to each of them something.
-fn told_to(
+fn told_to<A: Allocator + Copy>(
     alloc: Global,
-    device: &mut Builtin<Global>,
+    device: &mut Builtin<A>,
     all: &[(Mac, &str)],
 ) -> Result<Vec<u8>, Stop> {
     let mut told = Vec::new(alloc);

@@ -2,6 +2,7 @@
 
 use crate::watched::Hearer;
 use console::{Spelling, explain_line};
+use refusing::Refusing;
 use sheets::{Stop, differs};
 use std::alloc::{AllocError, Global};
 
@@ -29,10 +30,11 @@ impl Hearer for Explained {
 fn explain(alloc: Global, octets: &[u8]) -> Result<(), Stop> {
     let mut words = Vec::new(alloc);
     words.push(digits(alloc, octets)?)?;
+    let memory = Refusing::new(alloc);
     let mut out = Vec::new(alloc);
     let mut err = Vec::new(alloc);
     let status = explain_line(
-        alloc,
+        &memory,
         Spelling::Numbers,
         words.as_slice(),
         &mut out,

@@ -7,8 +7,7 @@ use crate::managers::HeardManager;
 use crate::ports::HeardPort;
 use crate::routers::HeardRouter;
 use crate::watched::Hearer;
-use sheets::Stop;
-use std::alloc::Global;
+use sheets::{Given, Stop};
 
 /// What is said to all that hears octets.
 pub(crate) trait Speaker {
@@ -23,13 +22,14 @@ pub(crate) trait Speaker {
 ///
 /// # Errors
 /// Those of each.
-pub(crate) fn say_to_all<S: Speaker>(alloc: Global, speaker: &S) -> Result<(), Stop> {
+pub(crate) fn say_to_all<S: Speaker>(given: Given<'_>, speaker: &S) -> Result<(), Stop> {
+    let Given { alloc, memory, .. } = given;
     speaker.say(Explained)?;
     speaker.say(HeardBus)?;
-    speaker.say(HeardDevice::new(alloc)?)?;
-    speaker.say(HeardPort::new(alloc)?)?;
-    say_to_each(speaker, HeardRouter::all(alloc)?)?;
-    say_to_each(speaker, HeardManager::all(alloc)?)
+    speaker.say(HeardDevice::new(alloc, memory)?)?;
+    speaker.say(HeardPort::new(memory)?)?;
+    say_to_each(speaker, HeardRouter::all(alloc, memory)?)?;
+    say_to_each(speaker, HeardManager::all(alloc, memory)?)
 }
 
 /// Says it to each of these.

@@ -48,7 +48,7 @@ impl Bench for Hostile {
 fn run_row(given: Given<'_>, name: &str, row: &Row<'_>) -> Result<Counts, Stop> {
     match name {
         "datagrams.txt" => datagrams::run(given, row),
-        "random.txt" => random::run(given.alloc, row),
+        "random.txt" => random::run(given, row),
         _ => Err(Stop::Unread(Part::Asked)),
     }
 }

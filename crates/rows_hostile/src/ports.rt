@@ -7,7 +7,7 @@ use link::{Change, Link, PortSent};
 use link_ip::{IpPort, Reach};
 use npdu::{Mac, Parcel, Target};
 use sheets::{Stop, differs};
-use std::alloc::Global;
+use std::alloc::{Allocator, Global};
 use tags::{Fault, Items};
 
 /// Its address.
@@ -39,32 +39,35 @@ const NOW: u64 = 1000;
 
 /// The port.
 #[derive(Drop)]
-pub(crate) struct HeardPort {
-    port: IpPort<Global>,
+pub(crate) struct HeardPort<A: Allocator + Copy> {
+    memory: A,
+    port: IpPort<A>,
 }
 
-impl HeardPort {
+impl<A: Allocator + Copy> HeardPort<A> {
     /// The port, which has woken.
     ///
     /// # Errors
     /// Want of memory.
-    pub(crate) fn new(alloc: Global) -> Result<HeardPort, Stop> {
-        let members = Items::from_slice(alloc, &MEMBERS)?;
-        let mut port = IpPort::new(alloc, 1, OWN, Reach::Members(members));
+    pub(crate) fn new(memory: A) -> Result<HeardPort<A>, Stop> {
+        let members = Items::from_slice(memory, &MEMBERS)?;
+        let mut port = IpPort::new(memory, 1, OWN, Reach::Members(members));
         if port.moment() <= WOKEN {
             let mut change = Change::Nothing;
-            let mut out = Items::new(alloc);
+            let mut out = Items::new(memory);
             port.on_tick(&mut change, 0, WOKEN, &mut out)?;
             port.settle(change, WOKEN);
         }
-        Ok(HeardPort { port })
+        Ok(HeardPort { memory, port })
     }
 }
 
-impl Hearer for HeardPort {
+impl<A: Allocator + Copy> Hearer for HeardPort<A> {
     fn copy(&self) -> Result<Self, Stop> {
-        let port = self.port.copy()?;
-        Ok(HeardPort { port })
+        Ok(HeardPort {
+            memory: self.memory,
+            port: self.port.copy()?,
+        })
     }
 
     /// Octets are refused where they spell no datagram, for that cause, and leave the port at its moment. Whatever it
@@ -75,7 +78,7 @@ impl Hearer for HeardPort {
             return Err(differs(alloc, "a port at another moment"));
         }
         let mut change = Change::Nothing;
-        let mut out = Items::new(alloc);
+        let mut out = Items::new(self.memory);
         let heard = self
             .port
             .heard(&mut change, FROM, octets, NOW, 0, NOW, &mut out);
@@ -103,11 +106,11 @@ impl Hearer for HeardPort {
         let parcel = Parcel {
             from: Mac::Six(OWN.to_octets()),
             to: Target::All,
-            npdu: Items::from_slice(alloc, &[1, 0, 0x10, 8])?,
+            npdu: Items::from_slice(self.memory, &[1, 0, 0x10, 8])?,
             stamp: WOKEN,
         };
         let mut change = Change::Nothing;
-        let mut out = Items::new(alloc);
+        let mut out = Items::new(self.memory);
         self.port.down(&mut change, &parcel, 0, NOW, &mut out)?;
         let mut told = Vec::new(alloc);
         for PortSent { sent, .. } in out.as_slice() {

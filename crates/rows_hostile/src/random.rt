@@ -14,7 +14,7 @@ use mstp_frame::{Frame, FrameType, write_frame};
 use profile::MAX_FRAME_DATA_OCTETS;
 use rand_core::{Rng, SeedableRng};
 use rand_xoshiro::Xoshiro256PlusPlus;
-use sheets::{Counts, Part, Row, Stop, octets, two_words};
+use sheets::{Counts, Given, Part, Row, Stop, octets, two_words};
 use std::alloc::{AllocError, Global};
 use words::parse_number;
 
@@ -49,33 +49,34 @@ struct Inputs {
 
 /// A row: how many inputs there are, and what they are made of.
 #[derive(Clone, Copy)]
-struct Seeded<'f> {
-    alloc: Global,
+struct Seeded<'a, 'f> {
+    given: Given<'a>,
     count: u64,
     seed: u64,
     shape: Shape,
     front: &'f [u8],
 }
 
-impl Seeded<'_> {
+impl Seeded<'_, '_> {
     /// The inputs, from the first one on.
     fn inputs(&self) -> Result<Inputs, AllocError> {
         Ok(Inputs {
             random: Xoshiro256PlusPlus::seed_from_u64(self.seed),
             shape: self.shape,
-            front: Vec::from_slice(self.alloc, self.front)?,
+            front: Vec::from_slice(self.given.alloc, self.front)?,
         })
     }
 }
 
-impl Speaker for Seeded<'_> {
+impl Speaker for Seeded<'_, '_> {
     fn say<H: Hearer>(&self, hearer: H) -> Result<(), Stop> {
+        let alloc = self.given.alloc;
         let mut inputs = self.inputs()?;
         let mut watched = Watched::new(hearer)?;
         for _ in 0..self.count {
-            watched.hear(self.alloc, inputs.next(self.alloc)?.as_slice())?;
+            watched.hear(alloc, inputs.next(alloc)?.as_slice())?;
         }
-        watched.check(self.alloc)
+        watched.check(alloc)
     }
 }
 
@@ -83,14 +84,14 @@ impl Speaker for Seeded<'_> {
 ///
 /// # Errors
 /// Those of an input, and `Unread` for a row that is none.
-pub(crate) fn run(alloc: Global, row: &Row<'_>) -> Result<Counts, Stop> {
+pub(crate) fn run(given: Given<'_>, row: &Row<'_>) -> Result<Counts, Stop> {
     let (count, rest) = two_words(row.asked);
     let (seed, rest) = two_words(rest);
     let (shape, words) = two_words(rest);
     let shape = shape_of(shape)?;
-    let front = front_of(alloc, shape, words)?;
+    let front = front_of(given.alloc, shape, words)?;
     let seeded = Seeded {
-        alloc,
+        given,
         count: parse_number(count)?,
         seed: parse_number(seed)?,
         shape,
@@ -98,7 +99,7 @@ pub(crate) fn run(alloc: Global, row: &Row<'_>) -> Result<Counts, Stop> {
     };
     match shape {
         Shape::Text(kind) => read_texts(&seeded, kind)?,
-        Shape::Octets | Shape::Datagram | Shape::Frame => say_to_all(alloc, &seeded)?,
+        Shape::Octets | Shape::Datagram | Shape::Frame => say_to_all(given, &seeded)?,
     }
     Ok(Counts {
         rows: 1,
@@ -108,10 +109,11 @@ pub(crate) fn run(alloc: Global, row: &Row<'_>) -> Result<Counts, Stop> {
 }
 
 /// The inputs are read as texts.
-fn read_texts(seeded: &Seeded<'_>, kind: Kind) -> Result<(), Stop> {
+fn read_texts(seeded: &Seeded<'_, '_>, kind: Kind) -> Result<(), Stop> {
+    let Given { alloc, memory, .. } = seeded.given;
     let mut inputs = seeded.inputs()?;
     for _ in 0..seeded.count {
-        read_text(seeded.alloc, kind, inputs.next(seeded.alloc)?.as_slice())?;
+        read_text(alloc, memory, kind, inputs.next(alloc)?.as_slice())?;
     }
     Ok(())
 }

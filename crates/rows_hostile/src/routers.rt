@@ -6,7 +6,7 @@ use crate::watched::Hearer;
 use npdu::{Mac, Parcel, Station, Target, View};
 use router::{PortParcel, Router, are_numbered};
 use sheets::{Part, Stop, differs};
-use std::alloc::Global;
+use std::alloc::{Allocator, Global};
 use tags::{Fault, Items};
 
 /// Its ports.
@@ -42,38 +42,45 @@ const ASKED: [(usize, &[u8]); 5] = [
 
 /// The router, and over which of its ports and for whom it hears.
 #[derive(Drop)]
-pub(crate) struct HeardRouter {
-    router: Router<Global>,
+pub(crate) struct HeardRouter<A: Allocator + Copy> {
+    memory: A,
+    router: Router<A>,
     port: usize,
     to: Target,
 }
 
-impl HeardRouter {
+impl<A: Allocator + Copy> HeardRouter<A> {
     /// The router behind what it heard, for each port to the router itself and to all.
     ///
     /// # Errors
     /// `Differs` where it says nothing to that, `Memory`.
-    pub(crate) fn all(alloc: Global) -> Result<Vec<HeardRouter>, Stop> {
+    pub(crate) fn all(alloc: Global, memory: A) -> Result<Vec<HeardRouter<A>>, Stop> {
         if !are_numbered(&PORTS) {
             return Err(Stop::Unread(Part::Number));
         }
-        let mut router = Router::new(alloc, &PORTS)?;
+        let mut router = Router::new(memory, &PORTS)?;
         router.on_tick(NOW)?;
-        told_to(alloc, &mut router, &BEFORE)?;
+        told_to(alloc, memory, &mut router, &BEFORE)?;
         let mut all = Vec::new(alloc);
         for (port, own) in PORTS.iter().enumerate() {
             for to in [Target::One(own.mac), Target::All] {
                 let router = router.copy()?;
-                all.push(HeardRouter { router, port, to })?;
+                all.push(HeardRouter {
+                    memory,
+                    router,
+                    port,
+                    to,
+                })?;
             }
         }
         Ok(all)
     }
 }
 
-impl Hearer for HeardRouter {
+impl<A: Allocator + Copy> Hearer for HeardRouter<A> {
     fn copy(&self) -> Result<Self, Stop> {
         Ok(HeardRouter {
+            memory: self.memory,
             router: self.router.copy()?,
             port: self.port,
             to: self.to,
@@ -82,7 +89,14 @@ impl Hearer for HeardRouter {
 
     fn drops(&mut self, alloc: Global, octets: &[u8]) -> Result<bool, Stop> {
         let npdu = carried(octets);
-        let said = said_to(alloc, &mut self.router, self.port, self.to, npdu)?;
+        let said = said_to(
+            alloc,
+            self.memory,
+            &mut self.router,
+            self.port,
+            self.to,
+            npdu,
+        )?;
         for sent in said.as_slice() {
             if View::read(sent.parcel.npdu.as_slice()).is_err() {
                 return Err(differs(alloc, "a router that says what is no NPDU"));
@@ -92,7 +106,7 @@ impl Hearer for HeardRouter {
     }
 
     fn told(&mut self, alloc: Global) -> Result<Vec<u8>, Stop> {
-        told_to(alloc, &mut self.router, &ASKED)
+        told_to(alloc, self.memory, &mut self.router, &ASKED)
     }
 }
 
@@ -108,13 +122,14 @@ fn carried(octets: &[u8]) -> &[u8] {
 }
 
 /// What a router says to an NPDU, and nothing where it refuses to learn of more networks.
-fn said_to(
+fn said_to<A: Allocator + Copy>(
     alloc: Global,
-    router: &mut Router<Global>,
+    memory: A,
+    router: &mut Router<A>,
     port: usize,
     to: Target,
     npdu: &[u8],
-) -> Result<Items<PortParcel<Global>, Global>, Stop> {
+) -> Result<Items<PortParcel<A>, A>, Stop> {
     let Some(from) = STATIONS.get(port) else {
         return Err(Stop::Unread(Part::Number));
     };
@@ -124,26 +139,27 @@ fn said_to(
     let parcel = Parcel {
         from: *from,
         to,
-        npdu: Items::from_slice(alloc, npdu)?,
+        npdu: Items::from_slice(memory, npdu)?,
         stamp: NOW,
     };
     match router.on_parcel(port, &parcel, NOW) {
         Ok(said) => Ok(said),
         Err(Fault::Memory) => Err(Stop::Memory),
-        Err(Fault::TableFull) => Ok(Items::new(alloc)),
+        Err(Fault::TableFull) => Ok(Items::new(memory)),
         Err(_) => Err(differs(alloc, "a refusal that a router has not")),
     }
 }
 
 /// What a router says to broadcasts, to each of them something.
-fn told_to(
+fn told_to<A: Allocator + Copy>(
     alloc: Global,
-    router: &mut Router<Global>,
+    memory: A,
+    router: &mut Router<A>,
     questions: &[(usize, &[u8])],
 ) -> Result<Vec<u8>, Stop> {
     let mut told = Vec::new(alloc);
     for (port, npdu) in questions {
-        let said = said_to(alloc, router, *port, Target::All, npdu)?;
+        let said = said_to(alloc, memory, router, *port, Target::All, npdu)?;
         if said.is_empty() {
             return Err(differs(alloc, "a router that doesn't answer"));
         }

@@ -5,7 +5,7 @@ use refusing::Refusing;
 use script::{BadScript, script_of};
 use sheets::{Counts, Given, Report, Row, Stop, Trial, change_octets, differs};
 use site_text::site_of;
-use std::alloc::{AllocError, Global};
+use std::alloc::{AllocError, Allocator, Global};
 use std::{fs, io};
 use tags::Fault;
 use words::Unread;
@@ -21,16 +21,21 @@ pub(crate) enum Kind {
 ///
 /// # Errors
 /// `Differs` where it is refused for a cause that no text has; `Memory`.
-pub(crate) fn read_text(alloc: Global, kind: Kind, text: &[u8]) -> Result<(), Stop> {
+pub(crate) fn read_text<A: Allocator + Copy>(
+    alloc: Global,
+    memory: A,
+    kind: Kind,
+    text: &[u8],
+) -> Result<(), Stop> {
     match kind {
-        Kind::Site => read_site(alloc, text),
-        Kind::Script => read_script(alloc, text),
+        Kind::Site => read_site(alloc, memory, text),
+        Kind::Script => read_script(alloc, memory, text),
     }
 }
 
 /// Reads the text of a site.
-fn read_site(alloc: Global, text: &[u8]) -> Result<(), Stop> {
-    match site_of(alloc, alloc, text) {
+fn read_site<A: Allocator + Copy>(alloc: Global, memory: A, text: &[u8]) -> Result<(), Stop> {
+    match site_of(alloc, memory, text) {
         Ok(_) | Err(Fault::BadSite) => Ok(()),
         Err(Fault::Memory) => Err(Stop::Memory),
         Err(_) => Err(differs(alloc, "a refusal that no site has")),
@@ -38,8 +43,8 @@ fn read_site(alloc: Global, text: &[u8]) -> Result<(), Stop> {
 }
 
 /// Reads the text of a script. A line that is refused is one of it.
-fn read_script(alloc: Global, text: &[u8]) -> Result<(), Stop> {
-    match script_of(alloc, text) {
+fn read_script<A: Allocator + Copy>(alloc: Global, memory: A, text: &[u8]) -> Result<(), Stop> {
+    match script_of(memory, text) {
         Ok(_) => Ok(()),
         Err(BadScript::Memory) => Err(Stop::Memory),
         Err(BadScript::Line { number, unread }) => {
@@ -60,7 +65,7 @@ struct Text {
 
 impl<'a> Trial<'a> for Text {
     fn answer(&self, given: Given<'a>, octets: &[u8]) -> Result<String, Stop> {
-        read_text(given.alloc, self.kind, octets)?;
+        read_text(given.alloc, given.memory, self.kind, octets)?;
         Ok(String::new(given.alloc))
     }
 }

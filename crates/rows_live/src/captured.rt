@@ -37,7 +37,8 @@ pub(crate) fn run_all(rt: &HostRuntime) -> io::Result<()> {
 
 /// What is said of a row.
 fn line_of(alloc: Global, row: &Row, wanted: &str) -> io::Result<String> {
-    let file = captured(alloc, alloc, row)?;
+    let memory = Refusing::new(alloc);
+    let file = captured(alloc, &memory, row)?;
     let found = explained(alloc, file.as_slice())?;
     let more = format!(in alloc;
         ", and {} of its captures can be read where memory is refused",
@@ -70,9 +71,10 @@ fn captured<A: Allocator + Copy>(alloc: Global, memory: A, row: &Row) -> io::Res
 
 /// What is printed of a capture.
 fn explained(alloc: Global, file: &[u8]) -> io::Result<String> {
+    let memory = Refusing::new(alloc);
     let mut out = Vec::new(alloc);
     let mut err = Vec::new(alloc);
-    explain_capture(alloc, Spelling::Numbers, file, &mut out, &mut err);
+    explain_capture(&memory, Spelling::Numbers, file, &mut out, &mut err);
     out.extend_from_slice(err.as_slice())?;
     Ok(text_of(alloc, out.as_slice())?)
 }

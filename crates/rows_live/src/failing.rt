@@ -130,16 +130,18 @@ fn run_of<A: Allocator + Copy>(
 
 /// Whether what was printed of a row is a legal history.
 fn is_legal(alloc: Global, row: &Row, printed: &str) -> Result<bool, Fault> {
-    let site = site_of(alloc, alloc, row.site.as_slice())?;
-    let mut checker = Checker::new(alloc, site.stations())?;
+    let memory = Refusing::new(alloc);
+    let site = site_of(alloc, &memory, row.site.as_slice())?;
+    let mut checker = Checker::new(alloc, &memory, site.stations())?;
     checker.accepts_all(printed)
 }
 
 /// What comes of runs in which a call fails, the first, the second and so on, up to one in which none does.
 fn calls_failed(alloc: Global, row: &Row, seed: u64) -> io::Result<Told> {
+    let memory = Refusing::new(alloc);
     let mut told = Told::none();
     for call in 1..MANY {
-        let printed = run_of(alloc, alloc, row, Course::Seeded(seed), call)?;
+        let printed = run_of(alloc, &memory, row, Course::Seeded(seed), call)?;
         let is_legal = is_legal(alloc, row, printed.as_str()).unwrap_or(false);
         told = told.and(is_legal, printed.as_str());
         if !printed.contains(FAILED) {

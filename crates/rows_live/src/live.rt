@@ -3,6 +3,7 @@
 //! round; in the first one no time passes yet. What is wanted is what is printed.
 
 use crate::timer::SteppingTimer;
+use refusing::Refusing;
 use rows_wire::{Course, Row, WireInMemory, row_of, said, take_word, text_of, wanted_of};
 use sheets::names;
 use site_history::say_stop;
@@ -38,8 +39,9 @@ pub(crate) fn run_all(rt: &HostRuntime) -> io::Result<()> {
 
 /// What is printed of a row.
 fn found_of(alloc: Global, row: &Row) -> io::Result<String> {
+    let memory = Refusing::new(alloc);
     let (script, over) = over_memory(alloc, row)?;
-    printed_of(alloc, alloc, row.site.as_slice(), script.as_str(), over)
+    printed_of(alloc, &memory, row.site.as_slice(), script.as_str(), over)
 }
 
 /// The script of a row, and how its site is run: the clock tells a millisecond more in each round.

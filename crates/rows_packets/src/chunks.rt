@@ -51,7 +51,7 @@ impl<'a> Trial<'a> for Chunked {
     fn answer(&self, given: Given<'a>, octets: &[u8]) -> Result<String, Stop> {
         let mut out = String::new(given.alloc);
         let is_refused = read_chunks(given, self.size, octets, Told::Packets, &mut out)?;
-        let (whole, _) = text_of(given, given.alloc, octets)?;
+        let (whole, _) = text_of(given, given.other, octets)?;
         if out.as_str() != whole.as_str() {
             return Err(Stop::Differs(out));
         }

@@ -2,6 +2,7 @@
 //! the words that were searched for.
 
 use crate::asked::{Asked, push_steps};
+use refusing::Refusing;
 use sheets::{Stop, differs};
 use site_search::{Spelling, Telling, simulate_told};
 use std::alloc::Global;
@@ -13,11 +14,12 @@ fn entries_of(
     script: &str,
     spelling: Spelling,
 ) -> Result<String, Stop> {
+    let memory = Refusing::new(alloc);
     let mut out = Vec::new(alloc);
     let mut err = Vec::new(alloc);
     let telling = Telling::entries(spelling);
     let script = script.as_bytes();
-    let status = simulate_told(alloc, alloc, site, script, telling, &mut out, &mut err);
+    let status = simulate_told(alloc, &memory, site, script, telling, &mut out, &mut err);
     let printed = std::str::from_utf8(out.as_slice()).unwrap_or("");
     if status != 0 || !err.is_empty() {
         return Err(differs(alloc, "a script that can't run"));

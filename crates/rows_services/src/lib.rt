@@ -70,7 +70,7 @@ fn run_row(given: Given<'_>, name: &str, row: &Row<'_>) -> Result<Counts, Stop> 
         "services_kinds_of_reply.txt" => kinds::run(given.alloc, row.asked, wanted),
         "services_replies.txt" => replies::run(given, row.asked, wanted),
         "headers_carried.txt" => headers::run(given, row.asked, wanted),
-        "writers.txt" => writers::run(given.alloc, row.asked, wanted),
+        "writers.txt" => writers::run(given, row.asked, wanted),
         _ if name.starts_with("answer_") => tool::run(given, Tool::Answer, row.asked, wanted),
         _ if name.starts_with("explain_named") => {
             tool::run(given, Tool::ExplainNames, row.asked, wanted)

@@ -3,14 +3,14 @@
 
 use console::{Spelling, answer_line, explain_line};
 use sheets::{
-    Counts, Full, Part, Printing, Stop, number, run_text, status_within, two_words, words_of,
+    Counts, Full, Given, Memory, Part, Printing, Stop, number, run_text, status_within, two_words,
+    words_of,
 };
-use std::alloc::Global;
 
 /// The words of a tool.
 #[derive(Clone, Copy)]
 struct ToolLine<'a> {
-    alloc: Global,
+    memory: Memory<'a>,
     tool: &'a str,
     words: &'a [String],
 }
@@ -18,23 +18,23 @@ struct ToolLine<'a> {
 impl Printing for ToolLine<'_> {
     fn status(&self, out: &mut Full, err: &mut Full) -> Result<u8, Stop> {
         match self.tool {
-            "answer" => Ok(answer_line(self.alloc, self.words, out, err)),
-            "explain" => Ok(explain_line(self.alloc, Spelling::Numbers, self.words, out, err)),
+            "answer" => Ok(answer_line(self.memory, self.words, out, err)),
+            "explain" => Ok(explain_line(self.memory, Spelling::Numbers, self.words, out, err)),
             _ => Err(Stop::Unread(Part::Asked)),
         }
     }
 }
 
 /// Runs a row.
-pub(crate) fn run(alloc: Global, asked: &str, wanted: &str) -> Result<Counts, Stop> {
+pub(crate) fn run(given: Given<'_>, asked: &str, wanted: &str) -> Result<Counts, Stop> {
     let (tool, rest) = two_words(asked);
     let (room, words) = two_words(rest);
-    let words = words_of(alloc, words)?;
+    let words = words_of(given.alloc, words)?;
     let line = ToolLine {
-        alloc,
+        memory: given.memory,
         tool,
         words: words.as_slice(),
     };
-    let found = status_within(alloc, &line, number(room)? as usize)?;
-    run_text(format!(in alloc; "{found}")?, wanted)
+    let found = status_within(given.alloc, &line, number(room)? as usize)?;
+    run_text(format!(in given.alloc; "{found}")?, wanted)
 }

@@ -3,6 +3,7 @@
 
 use crate::examples::{read, sites};
 use json_lines::{Kind, write_json};
+use refusing::Refusing;
 use serde_json::Value;
 use site_run::simulate_traced;
 use std::alloc::Global;
@@ -25,11 +26,12 @@ fn run_example(rt: &HostRuntime, name: &str) -> io::Result<String> {
     let alloc = rt.alloc();
     let site = read(rt, name, "toml")?;
     let script = read(rt, name, "script")?;
+    let memory = Refusing::new(alloc);
     let mut lines = Vec::new(alloc);
     let mut err = Vec::new(alloc);
     let status = simulate_traced(
         alloc,
-        alloc,
+        &memory,
         site.as_slice(),
         script.as_slice(),
         &mut lines,

@@ -1,5 +1,6 @@
 //! Examples: `NAME.toml` is a site, `NAME.script` a script, and `NAME.out` what is printed of it.
 
+use refusing::Refusing;
 use site_run::simulate;
 use std::alloc::Global;
 use std::{fs, io};
@@ -62,9 +63,10 @@ fn said_of(
     script: &[u8],
     wanted: &[u8],
 ) -> io::Result<String> {
+    let memory = Refusing::new(alloc);
     let mut out = Vec::new(alloc);
     let mut err = Vec::new(alloc);
-    let status = simulate(alloc, alloc, site, script, &mut out, &mut err);
+    let status = simulate(alloc, &memory, site, script, &mut out, &mut err);
     let holds = status == 0 && err.is_empty() && out.as_slice() == wanted;
     let word = if holds {
         "prints what it says"

@@ -128,12 +128,13 @@ fn came_of<A: Allocator + Copy>(
 
 /// Whether a storm prints what the script prints that it puts down, and the same is counted.
 fn is_alike(alloc: Global, site: &[u8], script: &[u8], weather: Weather) -> io::Result<bool> {
-    let came = came_of(alloc, alloc, site, script, weather)?;
+    let memory = Refusing::new(alloc);
+    let came = came_of(alloc, &memory, site, script, weather)?;
     let mut out = Vec::new(alloc);
     let mut err = Vec::new(alloc);
     let status = simulate(
         alloc,
-        alloc,
+        &memory,
         site,
         came.lines.as_slice(),
         &mut out,
@@ -174,8 +175,13 @@ fn counted_of<A: Allocator + Copy>(
 
 /// The line of what there was of all behind the steps of a script, in a world that keeps all; none where they are no
 /// site and no script.
-fn counts_behind(alloc: Global, site: &[u8], script: &[u8]) -> io::Result<Option<String>> {
-    let Ok(opened) = open(alloc, alloc, site, script) else {
+fn counts_behind<A: Allocator + Copy>(
+    alloc: Global,
+    memory: A,
+    site: &[u8],
+    script: &[u8],
+) -> io::Result<Option<String>> {
+    let Ok(opened) = open(alloc, memory, site, script) else {
         return Ok(None);
     };
     let Opened {
@@ -187,7 +193,7 @@ fn counts_behind(alloc: Global, site: &[u8], script: &[u8]) -> io::Result<Option
     let mut out = Vec::new(alloc);
     let telling = Telling::entries(Spelling::Numbers);
     let taken = take_steps(&mut world, steps, lines, telling, &mut out);
-    let counts = counts_of(alloc, &world);
+    let counts = counts_of(memory, &world);
     world.close();
     taken?;
     let line = format!(in alloc; "{}\n", CountLine(counts?))?;
@@ -203,13 +209,14 @@ fn is_counted(
     weather: Weather,
     came: &Came,
 ) -> io::Result<bool> {
+    let memory = Refusing::new(alloc);
     let Came {
         status,
         lines,
         out,
         err,
-    } = counted_of(alloc, alloc, site, script, weather)?;
-    let whole = counts_behind(alloc, site, lines.as_slice())?;
+    } = counted_of(alloc, &memory, site, script, weather)?;
+    let whole = counts_behind(alloc, &memory, site, lines.as_slice())?;
     let counted = std::str::from_utf8(out.as_slice()).unwrap_or("");
     let is_whole = match &whole {
         Some(line) => line.as_str() == counted,
@@ -245,7 +252,8 @@ fn number_behind<'a>(line: &'a str, word: &str) -> Option<&'a str> {
 /// wasn't told.
 fn refused_in(alloc: Global, site: &[u8]) -> io::Result<u64> {
     let weather = weather(1, FEW_STEPS);
-    let plain = came_of(alloc, alloc, site, &[], weather)?;
+    let ample = Refusing::new(alloc);
+    let plain = came_of(alloc, &ample, site, &[], weather)?;
     for n in 1..MANY {
         let memory = Refusing::new(alloc);
         memory.refuse_only(n);
@@ -264,7 +272,8 @@ fn refused_in(alloc: Global, site: &[u8]) -> io::Result<u64> {
 /// Refuses each allocation of the same storm in turn where it is counted, and answers whether each is told.
 fn are_told_where_counted(alloc: Global, site: &[u8]) -> io::Result<bool> {
     let weather = weather(1, FEW_STEPS);
-    let plain = counted_of(alloc, alloc, site, &[], weather)?;
+    let ample = Refusing::new(alloc);
+    let plain = counted_of(alloc, &ample, site, &[], weather)?;
     for n in 1..MANY {
         let memory = Refusing::new(alloc);
         memory.refuse_only(n);

@@ -12,7 +12,7 @@ use sheets::{
     Counts, Given, Part, Report, Row, Stop, Trial, change_octets, differs, octets, rows, two_words,
 };
 use simulator::{Event, Flow, Internetwork, World};
-use std::alloc::{AllocError, Global};
+use std::alloc::{AllocError, Allocator, Global};
 use std::{fs, io};
 use tags::{Fault, Items};
 
@@ -98,31 +98,37 @@ fn run_rows(alloc: Global, text: &str, site: &[u8], script: &[u8]) -> Result<Str
         memory: &memory,
         other: &other,
     };
-    let Ok(world) = opened_behind(alloc, site, script) else {
+    let Ok(world) = opened_behind(alloc, given.memory, site, script) else {
         return format!(in alloc; "{SITE}, {SCRIPT}: unread\n");
     };
-    let said = run_each(given, &world, text);
+    let said = run_each(given, given.memory, &world, text);
     world.close();
     said
 }
 
 /// Lets each row of a text stray, and answers what is printed of them.
-fn run_each(
+fn run_each<A: Allocator + Copy>(
     given: Given<'_>,
-    world: &Internetwork<Global>,
+    memory: A,
+    world: &Internetwork<A>,
     text: &str,
 ) -> Result<String, AllocError> {
     let mut report = Report::new(given.alloc, DATAGRAMS);
     for row in rows(given.alloc, text)?.as_slice() {
-        report.add(row, run_row(given, world, row))?;
+        report.add(row, run_row(given, memory, world, row))?;
     }
     report.text()
 }
 
 /// The world of a site behind the steps of a script.
-fn opened_behind(alloc: Global, site: &[u8], script: &[u8]) -> Result<Internetwork<Global>, Stop> {
-    let mut world = opened(alloc, alloc, site)?;
-    match take_steps(alloc, &mut world, script) {
+fn opened_behind<A: Allocator + Copy>(
+    reading: Global,
+    memory: A,
+    site: &[u8],
+    script: &[u8],
+) -> Result<Internetwork<A>, Stop> {
+    let mut world = opened(reading, memory, site)?;
+    match take_steps(memory, &mut world, script) {
         Ok(()) => Ok(world.into_internetwork()),
         Err(stop) => {
             world.close();
@@ -132,14 +138,20 @@ fn opened_behind(alloc: Global, site: &[u8], script: &[u8]) -> Result<Internetwo
 }
 
 /// Lets a row stray to each address.
-fn run_row(given: Given<'_>, world: &Internetwork<Global>, row: &Row<'_>) -> Result<Counts, Stop> {
+fn run_row<A: Allocator + Copy>(
+    given: Given<'_>,
+    memory: A,
+    world: &Internetwork<A>,
+    row: &Row<'_>,
+) -> Result<Counts, Stop> {
     let (word, _name) = two_words(row.asked);
     let octets = octets(given.alloc, word)?;
     let mut changed = 0u64;
     for to in [DEVICE, ROUTER, BEHIND, CLIENT, NOBODY, NOWHERE] {
-        let strays = strays_at(given.alloc, world, to)?;
+        let strays = strays_at(given.alloc, memory, world, to)?;
         let came = stray_whole_and_changed(given, &strays, octets.as_slice());
         let Strays {
+            memory: _memory,
             world: strayed,
             to: _to,
             wanted: _wanted,
@@ -155,23 +167,34 @@ fn run_row(given: Given<'_>, world: &Internetwork<Global>, row: &Row<'_>) -> Res
 }
 
 /// Lets octets stray as they are, cut and changed, and answers how many times they were changed.
-fn stray_whole_and_changed(given: Given<'_>, strays: &Strays, octets: &[u8]) -> Result<u64, Stop> {
+fn stray_whole_and_changed<A: Allocator + Copy>(
+    given: Given<'_>,
+    strays: &Strays<A>,
+    octets: &[u8],
+) -> Result<u64, Stop> {
     strays.answer(given, octets)?;
     change_octets(given, strays, octets)
 }
 
 /// Worlds to which strays come at an address. They are not dropped, but closed.
-struct Strays {
-    world: Internetwork<Global>,
+struct Strays<A: Allocator + Copy> {
+    memory: A,
+    world: Internetwork<A>,
     to: Station,
     /// What is told of such a world.
     wanted: Vec<u8>,
 }
 
 /// Strays that come to a world at an address.
-fn strays_at(alloc: Global, world: &Internetwork<Global>, to: Station) -> Result<Strays, Stop> {
-    let wanted = told_by_copy(alloc, world)?;
+fn strays_at<A: Allocator + Copy>(
+    alloc: Global,
+    memory: A,
+    world: &Internetwork<A>,
+    to: Station,
+) -> Result<Strays<A>, Stop> {
+    let wanted = told_by_copy(alloc, memory, world)?;
     Ok(Strays {
+        memory,
         world: world.copy()?,
         to,
         wanted,
@@ -179,33 +202,32 @@ fn strays_at(alloc: Global, world: &Internetwork<Global>, to: Station) -> Result
 }
 
 /// What is told of a copy of a world.
-fn told_by_copy(alloc: Global, world: &Internetwork<Global>) -> Result<Vec<u8>, Stop> {
+fn told_by_copy<A: Allocator + Copy>(
+    alloc: Global,
+    memory: A,
+    world: &Internetwork<A>,
+) -> Result<Vec<u8>, Stop> {
     let mut asked = world.copy()?;
-    let said = told(alloc, &mut asked);
+    let said = told(alloc, memory, &mut asked);
     asked.close();
     said
 }
 
-impl Strays {
+impl<A: Allocator + Copy> Strays<A> {
     /// Lets octets stray to a world, and judges what comes of it.
-    fn judge(
-        &self,
-        alloc: Global,
-        world: &mut Internetwork<Global>,
-        octets: &[u8],
-    ) -> Result<(), Stop> {
+    fn judge(&self, alloc: Global, world: &mut Internetwork<A>, octets: &[u8]) -> Result<(), Stop> {
         let came = world.stray(stranger_at(self.to), self.to, octets);
         if !is_fitting(self.to, came) {
             return Err(differs(alloc, "a refusal that a station has not"));
         }
-        if came.is_err() && told(alloc, world)?.as_slice() != self.wanted.as_slice() {
+        if came.is_err() && told(alloc, self.memory, world)?.as_slice() != self.wanted.as_slice() {
             return Err(differs(alloc, "a change where a stray was refused"));
         }
         Ok(())
     }
 }
 
-impl<'a> Trial<'a> for Strays {
+impl<'a, A: Allocator + Copy> Trial<'a> for Strays<A> {
     fn answer(&self, given: Given<'a>, octets: &[u8]) -> Result<String, Stop> {
         let mut world = self.world.copy()?;
         let judged = self.judge(given.alloc, &mut world, octets);
@@ -237,7 +259,11 @@ fn is_fitting(to: Station, came: Result<(), Fault>) -> bool {
 }
 
 /// What a world puts out that is asked, and left to itself for a while.
-fn told(alloc: Global, world: &mut Internetwork<Global>) -> Result<Vec<u8>, Stop> {
+fn told<A: Allocator + Copy>(
+    alloc: Global,
+    memory: A,
+    world: &mut Internetwork<A>,
+) -> Result<Vec<u8>, Stop> {
     for (to, words) in ASKED {
         world.stray(STRANGER, to, octets(alloc, words)?.as_slice())?;
     }
@@ -246,7 +272,7 @@ fn told(alloc: Global, world: &mut Internetwork<Global>) -> Result<Vec<u8>, Stop
     }
     world.step(&Event::Tick(3000))?;
     for name in NAMES {
-        world.step(&Event::Wake(Items::from_slice(alloc, name)?))?;
+        world.step(&Event::Wake(Items::from_slice(memory, name)?))?;
     }
     let mut told = Vec::new(alloc);
     told.extend_from_slice(&(world.said().len() as u64).to_be_bytes())?;
@@ -264,8 +290,12 @@ fn push_item(octets: &[u8], told: &mut Vec<u8>) -> Result<(), AllocError> {
 }
 
 /// Takes the steps of a script.
-fn take_steps(alloc: Global, world: &mut World<Global>, script: &[u8]) -> Result<(), Stop> {
-    let Ok(steps) = script_of(alloc, script) else {
+fn take_steps<A: Allocator + Copy>(
+    memory: A,
+    world: &mut World<A>,
+    script: &[u8],
+) -> Result<(), Stop> {
+    let Ok(steps) = script_of(memory, script) else {
         return Err(Stop::Unread(Part::Asked));
     };
     for step in steps.into_vec() {
@@ -279,7 +309,7 @@ fn take_steps(alloc: Global, world: &mut World<Global>, script: &[u8]) -> Result
 }
 
 /// An event happens.
-fn take(world: &mut World<Global>, event: &Event<Global>) -> Result<(), Stop> {
+fn take<A: Allocator + Copy>(world: &mut World<A>, event: &Event<A>) -> Result<(), Stop> {
     if !event.is_sound() {
         return Err(Stop::Unread(Part::Words));
     }
@@ -288,7 +318,7 @@ fn take(world: &mut World<Global>, event: &Event<Global>) -> Result<(), Stop> {
 }
 
 /// Lets milliseconds pass.
-fn flow(world: &mut World<Global>, n: u64) -> Result<(), Stop> {
+fn flow<A: Allocator + Copy>(world: &mut World<A>, n: u64) -> Result<(), Stop> {
     let mut flow = Flow::new(n)?;
     for _ in 0..u64::MAX {
         match world.next_of(&mut flow)? {

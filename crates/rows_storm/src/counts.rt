@@ -2,7 +2,7 @@
 
 use history::{End, Entry};
 use simulator::{World, WorldEntry};
-use std::alloc::Global;
+use std::alloc::Allocator;
 use std::fmt;
 use tags::Fault;
 
@@ -76,7 +76,7 @@ pub(crate) struct Entries {
 
 impl Entries {
     /// One more entry.
-    fn add(&mut self, entry: &WorldEntry<Global>) {
+    fn add<A: Allocator + Copy>(&mut self, entry: &WorldEntry<A>) {
         match entry {
             Entry::Issue { .. } => raise(&mut self.issued),
             Entry::Executed { .. } => raise(&mut self.executed),
@@ -156,7 +156,7 @@ impl Counts {
     }
 
     /// A storm is over: its world was judged, and so many items have something inside.
-    pub(crate) fn end(&mut self, world: &World<Global>, inside: usize) {
+    pub(crate) fn end<A: Allocator + Copy>(&mut self, world: &World<A>, inside: usize) {
         self.said = self.said.saturating_add(world.said().len() as u64);
         self.items = self.items.saturating_add(world.items().len() as u64);
         self.carried = self.carried.saturating_add(inside as u64);

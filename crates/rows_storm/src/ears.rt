@@ -2,26 +2,26 @@
 
 use judge::{Ear, is_in_time};
 use simulator::World;
-use std::alloc::{AllocError, Global};
+use std::alloc::{AllocError, Allocator};
 use tags::Octets;
 
 /// The ear of the station of a name on the bus of a number.
 #[derive(Drop)]
-struct NamedEar {
+struct NamedEar<A: Allocator> {
     network: u16,
-    station: Octets<Global>,
+    station: Octets<A>,
     ear: Ear,
 }
 
 /// The ears of all stations that heard something in a storm.
 #[derive(Drop)]
-pub(crate) struct Ears {
-    named: Vec<NamedEar>,
+pub(crate) struct Ears<A: Allocator> {
+    named: Vec<NamedEar<A>, A>,
 }
 
-impl Ears {
+impl<A: Allocator + Copy> Ears<A> {
     /// No station heard anything yet.
-    pub(crate) fn new(alloc: Global) -> Ears {
+    pub(crate) fn new(alloc: A) -> Ears<A> {
         Ears {
             named: Vec::new(alloc),
         }
@@ -34,10 +34,10 @@ impl Ears {
     /// Want of memory.
     pub(crate) fn hears_only(
         &mut self,
-        alloc: Global,
-        world: &World<Global>,
+        alloc: A,
+        world: &World<A>,
         network: u16,
-        station: &Octets<Global>,
+        station: &Octets<A>,
         octets: &[u8],
         before: u64,
     ) -> Result<bool, AllocError> {
@@ -59,7 +59,7 @@ impl Ears {
     }
 
     /// A station restarts: what it heard of a frame is gone.
-    pub(crate) fn restart(&mut self, station: &Octets<Global>, now: u64) {
+    pub(crate) fn restart(&mut self, station: &Octets<A>, now: u64) {
         for named in &mut self.named {
             if named.station == *station {
                 named.ear = Ear::new(now);
@@ -69,12 +69,12 @@ impl Ears {
 }
 
 /// The frames of a bus that were put out before so many, and may still be heard.
-fn frames_on(
-    alloc: Global,
-    world: &World<Global>,
+fn frames_on<A: Allocator + Copy>(
+    alloc: A,
+    world: &World<A>,
     network: u16,
     before: u64,
-) -> Result<Vec<&[u8]>, AllocError> {
+) -> Result<Vec<&[u8], A>, AllocError> {
     let now = world.moment();
     let mut frames = Vec::new(alloc);
     for bus in &world.buses().buses {

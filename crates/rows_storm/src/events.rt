@@ -1,7 +1,7 @@
 //! An event as a line of a script.
 
 use simulator::Event;
-use std::alloc::{Allocator, Global};
+use std::alloc::Allocator;
 use std::fmt;
 use words::{Hex, Words};
 
@@ -20,9 +20,9 @@ impl fmt::Display for Name<'_> {
 
 /// An event as a line of a script.
 #[derive(Clone, Copy)]
-pub(crate) struct Line<'e>(pub(crate) &'e Event<Global>);
+pub(crate) struct Line<'e, A: Allocator>(pub(crate) &'e Event<A>);
 
-impl fmt::Display for Line<'_> {
+impl<A: Allocator> fmt::Display for Line<'_, A> {
     fn fmt<W: fmt::Write>(&self, f: &mut fmt::Formatter<W>) -> fmt::Result {
         match self.0 {
             Event::Issue {

@@ -4,7 +4,7 @@ use crate::counts::Counts;
 use crate::ears::Ears;
 use crate::weather::{Wrong, judge_end, make};
 use simulator::{Event, World};
-use std::alloc::{AllocError, Global};
+use std::alloc::{AllocError, Allocator};
 use std::ops::Range;
 use tags::Fault;
 
@@ -16,11 +16,11 @@ const RUNS: [usize; 2] = [16, 4];
 ///
 /// # Errors
 /// Want of memory; `NoSuch` where the list brings about nothing wrong.
-pub(crate) fn fewest(
-    alloc: Global,
-    opened: &World<Global>,
-    events: Vec<Event<Global>>,
-) -> Result<(Vec<Event<Global>>, Wrong), Fault> {
+pub(crate) fn fewest<A: Allocator + Copy>(
+    alloc: A,
+    opened: &World<A>,
+    events: Vec<Event<A>, A>,
+) -> Result<(Vec<Event<A>, A>, Wrong), Fault> {
     let mut left = events;
     for run in RUNS {
         leave_out_runs(alloc, opened, &mut left, run)?;
@@ -38,10 +38,10 @@ pub(crate) fn fewest(
 
 /// Leaves out runs of so many events, the last one first, where what is left still brings about something wrong. Tells
 /// whether any was left out.
-fn leave_out_runs(
-    alloc: Global,
-    opened: &World<Global>,
-    events: &mut Vec<Event<Global>>,
+fn leave_out_runs<A: Allocator + Copy>(
+    alloc: A,
+    opened: &World<A>,
+    events: &mut Vec<Event<A>, A>,
     run: usize,
 ) -> Result<bool, Fault> {
     let mut is_fewer = false;
@@ -61,7 +61,7 @@ fn leave_out_runs(
 }
 
 /// Leaves out the events at these places.
-fn leave_out(events: &mut Vec<Event<Global>>, places: &Range<usize>) {
+fn leave_out<A: Allocator + Copy>(events: &mut Vec<Event<A>, A>, places: &Range<usize>) {
     for _ in places.start..places.end {
         if places.start < events.len() {
             let _ = events.remove(places.start);
@@ -70,10 +70,10 @@ fn leave_out(events: &mut Vec<Event<Global>>, places: &Range<usize>) {
 }
 
 /// Makes events in a copy of a world, but for those at these places, and tells what is wrong then.
-fn judge_all(
-    alloc: Global,
-    opened: &World<Global>,
-    events: &[Event<Global>],
+fn judge_all<A: Allocator + Copy>(
+    alloc: A,
+    opened: &World<A>,
+    events: &[Event<A>],
     left_out: &Range<usize>,
 ) -> Result<Option<Wrong>, Fault> {
     let mut world = opened.copy()?;
@@ -83,10 +83,10 @@ fn judge_all(
 }
 
 /// Makes events in a world, but for those at these places, and tells what is wrong then.
-fn judge_in(
-    alloc: Global,
-    world: &mut World<Global>,
-    events: &[Event<Global>],
+fn judge_in<A: Allocator + Copy>(
+    alloc: A,
+    world: &mut World<A>,
+    events: &[Event<A>],
     left_out: &Range<usize>,
 ) -> Result<Option<Wrong>, Fault> {
     let mut counts = Counts::default();
@@ -103,11 +103,11 @@ fn judge_in(
 }
 
 /// Makes an event in a world, if it may happen.
-fn make_sound(
-    alloc: Global,
-    world: &mut World<Global>,
-    ears: &mut Ears,
-    event: &Event<Global>,
+fn make_sound<A: Allocator + Copy>(
+    alloc: A,
+    world: &mut World<A>,
+    ears: &mut Ears<A>,
+    event: &Event<A>,
     counts: &mut Counts,
 ) -> Result<Option<Wrong>, AllocError> {
     if event.is_sound() {

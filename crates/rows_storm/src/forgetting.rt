@@ -8,7 +8,7 @@ use crate::storms::CHANCES;
 use history::{End, Entry};
 use profile::is_heard_in_time;
 use simulator::{Event, Internetwork, LATEST_ITEMS, World, WorldEntry};
-use std::alloc::{AllocError, Global};
+use std::alloc::{AllocError, Allocator};
 use std::fmt;
 use storm::Storm;
 use tags::Fault;
@@ -27,7 +27,7 @@ fn is_same_end(a: &End, b: &End) -> bool {
 }
 
 /// Whether two entries say the same of the same issue.
-fn is_same_entry(a: &WorldEntry<Global>, b: &WorldEntry<Global>) -> bool {
+fn is_same_entry<A: Allocator + Copy>(a: &WorldEntry<A>, b: &WorldEntry<A>) -> bool {
     match (a, b) {
         (
             Entry::Issue {
@@ -106,7 +106,7 @@ fn is_same_entry(a: &WorldEntry<Global>, b: &WorldEntry<Global>) -> bool {
 }
 
 /// Whether two histories have the same entries in the same order.
-fn is_same_history(a: &[WorldEntry<Global>], b: &[WorldEntry<Global>]) -> bool {
+fn is_same_history<A: Allocator + Copy>(a: &[WorldEntry<A>], b: &[WorldEntry<A>]) -> bool {
     a.len() == b.len() && a.iter().zip(b.iter()).all(|(a, b)| is_same_entry(a, b))
 }
 
@@ -134,11 +134,11 @@ pub(crate) struct Beside {
 
 impl Beside {
     /// An event happens to both.
-    fn make(
+    fn make<A: Allocator + Copy>(
         &mut self,
-        whole: &mut World<Global>,
-        kept: &mut Internetwork<Global>,
-        event: &Event<Global>,
+        whole: &mut World<A>,
+        kept: &mut Internetwork<A>,
+        event: &Event<A>,
     )
         requires { IsSoundEvent event.now }
     {
@@ -150,7 +150,7 @@ impl Beside {
     }
 
     /// Looks at how many items are kept, and of how many frames something is known.
-    fn look(&mut self, kept: &Internetwork<Global>) {
+    fn look<A: Allocator + Copy>(&mut self, kept: &Internetwork<A>) {
         let now = kept.moment();
         let mut young = 0usize;
         for item in kept.items() {
@@ -171,11 +171,11 @@ impl Beside {
     }
 
     /// All have happened.
-    fn end(
+    fn end<A: Allocator + Copy>(
         &mut self,
-        whole: &World<Global>,
-        kept: &Internetwork<Global>,
-        told: &[WorldEntry<Global>],
+        whole: &World<A>,
+        kept: &Internetwork<A>,
+        told: &[WorldEntry<A>],
     ) {
         self.items = kept.item_count();
         self.entries = kept.first_entry();
@@ -211,9 +211,9 @@ impl fmt::Display for Beside {
 ///
 /// # Errors
 /// Want of memory.
-pub(crate) fn run_beside(
-    alloc: Global,
-    opened: &World<Global>,
+pub(crate) fn run_beside<A: Allocator + Copy>(
+    alloc: A,
+    opened: &World<A>,
     seed: u64,
 ) -> Result<Beside, Fault> {
     let mut whole = opened.copy()?;
@@ -223,10 +223,10 @@ pub(crate) fn run_beside(
 }
 
 /// Lets a storm go over a world, and over a copy of another that forgets.
-fn beside_copy(
-    alloc: Global,
-    opened: &World<Global>,
-    whole: &mut World<Global>,
+fn beside_copy<A: Allocator + Copy>(
+    alloc: A,
+    opened: &World<A>,
+    whole: &mut World<A>,
     seed: u64,
 ) -> Result<Beside, Fault> {
     let mut kept = opened.copy()?.into_internetwork();
@@ -236,10 +236,10 @@ fn beside_copy(
 }
 
 /// Lets a storm go over both.
-fn blow(
-    alloc: Global,
-    whole: &mut World<Global>,
-    kept: &mut Internetwork<Global>,
+fn blow<A: Allocator + Copy>(
+    alloc: A,
+    whole: &mut World<A>,
+    kept: &mut Internetwork<A>,
     seed: u64,
 ) -> Result<Beside, AllocError> {
     let mut storm = Storm::new(seed, CHANCES);

@@ -2,10 +2,11 @@
 
 use crate::events::Line;
 use crate::storms::{Broken, Told, run_storms};
+use refusing::Refusing;
 use script::{Step, script_of};
 use simulator::{Flow, World};
 use site_text::site_of;
-use std::alloc::{AllocError, Global};
+use std::alloc::{AllocError, Allocator, Global};
 use std::{fs, io};
 use tags::{Fault, Items};
 use words::parse_u64;
@@ -57,8 +58,9 @@ fn run_site(rt: &HostRuntime, seeds: Seeds<'_>) -> io::Result<String> {
     let site = fs::read(rt, file.as_str())?;
     let file = format!(in alloc; "storm/{name}.script")?;
     let script = fs::read(rt, file.as_str())?;
+    let memory = Refusing::new(alloc);
     let mut said = String::new(alloc);
-    match storms_at(alloc, site.as_slice(), script.as_slice(), seeds) {
+    match storms_at(alloc, &memory, site.as_slice(), script.as_slice(), seeds) {
         Ok(told) => push_told(name, &told, &mut said)?,
         Err(fault) => writeln!(said, "{name}: {fault}")?,
     }
@@ -66,8 +68,14 @@ fn run_site(rt: &HostRuntime, seeds: Seeds<'_>) -> io::Result<String> {
 }
 
 /// Opens a site by the steps of a script, and lets storms go over it.
-fn storms_at(alloc: Global, site: &[u8], script: &[u8], seeds: Seeds<'_>) -> Result<Told, Fault> {
-    let Ok(site) = site_of(alloc, alloc, site) else {
+fn storms_at<A: Allocator + Copy>(
+    reading: Global,
+    alloc: A,
+    site: &[u8],
+    script: &[u8],
+    seeds: Seeds<'_>,
+) -> Result<Told<A>, Fault> {
+    let Ok(site) = site_of(reading, alloc, site) else {
         return Err(Fault::BadSite);
     };
     let Ok(steps) = script_of(alloc, script) else {
@@ -80,12 +88,12 @@ fn storms_at(alloc: Global, site: &[u8], script: &[u8], seeds: Seeds<'_>) -> Res
 }
 
 /// Takes steps in a world, and lets storms go over it.
-fn storms_behind(
-    alloc: Global,
-    world: &mut World<Global>,
-    steps: Items<Step<Global>, Global>,
+fn storms_behind<A: Allocator + Copy>(
+    alloc: A,
+    world: &mut World<A>,
+    steps: Items<Step<A>, A>,
     seeds: Seeds<'_>,
-) -> Result<Told, Fault> {
+) -> Result<Told<A>, Fault> {
     for step in steps.into_vec() {
         take_step(world, step)?;
     }
@@ -93,7 +101,7 @@ fn storms_behind(
 }
 
 /// Takes a step in a world.
-fn take_step(world: &mut World<Global>, step: Step<Global>) -> Result<(), Fault> {
+fn take_step<A: Allocator + Copy>(world: &mut World<A>, step: Step<A>) -> Result<(), Fault> {
     match step {
         Step::Happens(event) => {
             if event.is_sound() {
@@ -108,7 +116,7 @@ fn take_step(world: &mut World<Global>, step: Step<Global>) -> Result<(), Fault>
 }
 
 /// Lets so many milliseconds pass in a world, in which all that is put out is delivered.
-fn flow(world: &mut World<Global>, n: u64) -> Result<(), Fault> {
+fn flow<A: Allocator + Copy>(world: &mut World<A>, n: u64) -> Result<(), Fault> {
     let mut flow = Flow::new(n)?;
     for _ in 0..u64::MAX {
         let Some(event) = world.next_of(&mut flow)? else {
@@ -121,7 +129,7 @@ fn flow(world: &mut World<Global>, n: u64) -> Result<(), Fault> {
 }
 
 /// Appends what there was of all at a site.
-fn push_told(name: &str, told: &Told, out: &mut String) -> Result<(), AllocError> {
+fn push_told<A: Allocator>(name: &str, told: &Told<A>, out: &mut String) -> Result<(), AllocError> {
     write!(out, "{name}: {}", told.counts)?;
     if let Some(beside) = &told.beside {
         writeln!(out, "  {beside}")?;
@@ -133,7 +141,11 @@ fn push_told(name: &str, told: &Told, out: &mut String) -> Result<(), AllocError
 }
 
 /// Appends what is wrong in a storm, and the events that bring it about.
-fn push_broken(name: &str, broken: &Broken, out: &mut String) -> Result<(), AllocError> {
+fn push_broken<A: Allocator>(
+    name: &str,
+    broken: &Broken<A>,
+    out: &mut String,
+) -> Result<(), AllocError> {
     let Broken {
         seed,
         events,

@@ -6,7 +6,7 @@ use crate::fewest::fewest;
 use crate::forgetting::{Beside, run_beside};
 use crate::weather::{Wrong, judge_end, make};
 use simulator::{Event, World};
-use std::alloc::{AllocError, Global};
+use std::alloc::{AllocError, Allocator};
 use storm::{Chances, Percent, Storm};
 use tags::Fault;
 
@@ -26,19 +26,19 @@ pub(crate) const CHANCES: Chances = Chances {
 /// A storm in which something is wrong: its seed, few of its events that still bring that about, none of which can be
 /// left out, and what it is.
 #[derive(Drop)]
-pub(crate) struct Broken {
+pub(crate) struct Broken<A: Allocator> {
     pub(crate) seed: u64,
-    pub(crate) events: Vec<Event<Global>>,
+    pub(crate) events: Vec<Event<A>, A>,
     pub(crate) wrong: Wrong,
 }
 
 /// The storms at a site: what there was of all, up to the first that isn't as it should be, if there is one; and what
 /// came of a world that forgets, where there is none.
 #[derive(Drop)]
-pub(crate) struct Told {
+pub(crate) struct Told<A: Allocator> {
     pub(crate) counts: Counts,
     pub(crate) beside: Option<Beside>,
-    pub(crate) broken: Option<Broken>,
+    pub(crate) broken: Option<Broken<A>>,
 }
 
 /// Lets storms of the seeds from one to another go over a world that stays as it is, each over a copy, up to the
@@ -46,12 +46,12 @@ pub(crate) struct Told {
 ///
 /// # Errors
 /// Want of memory.
-pub(crate) fn run_storms(
-    alloc: Global,
-    opened: &World<Global>,
+pub(crate) fn run_storms<A: Allocator + Copy>(
+    alloc: A,
+    opened: &World<A>,
     first: u64,
     last: u64,
-) -> Result<Told, Fault> {
+) -> Result<Told<A>, Fault> {
     let mut counts = Counts::default();
     for seed in first..=last {
         let broken = run_storm(alloc, opened, seed, &mut counts)?;
@@ -71,12 +71,12 @@ pub(crate) fn run_storms(
 }
 
 /// Lets a storm go over a copy of a world.
-fn run_storm(
-    alloc: Global,
-    opened: &World<Global>,
+fn run_storm<A: Allocator + Copy>(
+    alloc: A,
+    opened: &World<A>,
     seed: u64,
     counts: &mut Counts,
-) -> Result<Option<Broken>, Fault> {
+) -> Result<Option<Broken<A>>, Fault> {
     counts.begin();
     let mut world = opened.copy()?;
     let mut events = Vec::new(alloc);
@@ -94,11 +94,11 @@ fn run_storm(
 }
 
 /// Lets a storm go over a world, keeps its events, and judges what came of it.
-fn blow(
-    alloc: Global,
-    world: &mut World<Global>,
+fn blow<A: Allocator + Copy>(
+    alloc: A,
+    world: &mut World<A>,
     seed: u64,
-    events: &mut Vec<Event<Global>>,
+    events: &mut Vec<Event<A>, A>,
     counts: &mut Counts,
 ) -> Result<Option<Wrong>, Fault> {
     let mut storm = Storm::new(seed, CHANCES);
@@ -113,12 +113,12 @@ fn blow(
 }
 
 /// Makes the next event of a storm in a world, and keeps it.
-fn next(
-    alloc: Global,
-    world: &mut World<Global>,
+fn next<A: Allocator + Copy>(
+    alloc: A,
+    world: &mut World<A>,
     storm: &mut Storm,
-    ears: &mut Ears,
-    events: &mut Vec<Event<Global>>,
+    ears: &mut Ears<A>,
+    events: &mut Vec<Event<A>, A>,
     counts: &mut Counts,
 ) -> Result<Option<Wrong>, AllocError> {
     let event = storm.next_event(alloc, world)?;

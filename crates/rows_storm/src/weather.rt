@@ -11,7 +11,7 @@ use judge::{
     judge_history,
 };
 use simulator::{Event, World};
-use std::alloc::{AllocError, Global};
+use std::alloc::{AllocError, Allocator};
 use std::fmt;
 use tags::Fault;
 
@@ -49,11 +49,11 @@ impl fmt::Display for Wrong {
 ///
 /// # Errors
 /// Want of memory.
-pub(crate) fn make(
-    alloc: Global,
-    world: &mut World<Global>,
-    ears: &mut Ears,
-    event: &Event<Global>,
+pub(crate) fn make<A: Allocator + Copy>(
+    alloc: A,
+    world: &mut World<A>,
+    ears: &mut Ears<A>,
+    event: &Event<A>,
     counts: &mut Counts,
 ) -> Result<Option<Wrong>, AllocError>
     requires { IsSoundEvent event.now }
@@ -72,11 +72,11 @@ pub(crate) fn make(
 }
 
 /// Judges an event that was made behind so many frames: what it delivered may still be heard.
-fn judge_event(
-    alloc: Global,
-    world: &World<Global>,
-    ears: &mut Ears,
-    event: &Event<Global>,
+fn judge_event<A: Allocator + Copy>(
+    alloc: A,
+    world: &World<A>,
+    ears: &mut Ears<A>,
+    event: &Event<A>,
     before: u64,
 ) -> Result<Option<Wrong>, AllocError> {
     match event {
@@ -105,7 +105,7 @@ fn judge_event(
 }
 
 /// Whether the item of a number is too old to be heard.
-fn too_old(world: &World<Global>, number: u64) -> Option<Wrong> {
+fn too_old<A: Allocator + Copy>(world: &World<A>, number: u64) -> Option<Wrong> {
     let item = world.items().get(number as usize)?;
     if is_in_time(item.stamp, world.moment()) {
         None
@@ -115,9 +115,9 @@ fn too_old(world: &World<Global>, number: u64) -> Option<Wrong> {
 }
 
 /// Judges the frames that were put out behind so many.
-fn judge_frames(
-    alloc: Global,
-    world: &World<Global>,
+fn judge_frames<A: Allocator + Copy>(
+    alloc: A,
+    world: &World<A>,
     before: u64,
     counts: &mut Counts,
 ) -> Result<Option<Wrong>, AllocError> {
@@ -139,10 +139,10 @@ fn judge_frames(
 }
 
 /// Appends the frames of a bus that were put out behind so many, and may still be heard.
-fn push_frames<'w>(
-    bus: &'w Bus<Global>,
+fn push_frames<'w, A: Allocator + Copy>(
+    bus: &'w Bus<A>,
     before: u64,
-    sent: &mut Vec<Sent<'w>>,
+    sent: &mut Vec<Sent<'w>, A>,
 ) -> Result<(), AllocError> {
     for held in &bus.recent {
         let sending = &held.recent().sending;
@@ -158,7 +158,10 @@ fn push_frames<'w>(
 }
 
 /// What was said in a world.
-fn all_said(alloc: Global, world: &World<Global>) -> Result<Vec<Message<'_>>, AllocError> {
+fn all_said<A: Allocator + Copy>(
+    alloc: A,
+    world: &World<A>,
+) -> Result<Vec<Message<'_>, A>, AllocError> {
     let mut all = Vec::new(alloc);
     for said in world.said() {
         all.push(Message {
@@ -184,9 +187,9 @@ fn destination_of(reach: Reach) -> Destination {
 ///
 /// # Errors
 /// Want of memory.
-pub(crate) fn judge_end(
-    alloc: Global,
-    world: &World<Global>,
+pub(crate) fn judge_end<A: Allocator + Copy>(
+    alloc: A,
+    world: &World<A>,
     counts: &mut Counts,
 ) -> Result<Option<Wrong>, Fault> {
     let devices = devices_of(alloc, world)?;
@@ -201,10 +204,10 @@ pub(crate) fn judge_end(
 }
 
 /// The devices of a world.
-fn devices_of(
-    alloc: Global,
-    world: &World<Global>,
-) -> Result<Vec<DeviceEnd<'_, Global>>, AllocError> {
+fn devices_of<A: Allocator + Copy>(
+    alloc: A,
+    world: &World<A>,
+) -> Result<Vec<DeviceEnd<'_, A>, A>, AllocError> {
     let mut devices = Vec::new(alloc);
     for station in world.site().stations() {
         if let Some(opening) = station.role.objects() {
@@ -217,9 +220,9 @@ fn devices_of(
 }
 
 /// Judges all datagrams that were put out.
-fn judge_items(
-    alloc: Global,
-    world: &World<Global>,
+fn judge_items<A: Allocator + Copy>(
+    alloc: A,
+    world: &World<A>,
     counts: &mut Counts,
 ) -> Result<Option<Wrong>, Fault> {
     let mut sent = Vec::new(alloc);

@@ -7,7 +7,7 @@ ghost use Rattle.std.specs.Prelude.{◌≡◌, ◌+◌};
 
 use segments::{Receiver, Step};
 use sheets::{Counts, Given, Part, Stop, differs, run_text, small, two_words};
-use std::alloc::{AllocError, Global};
+use std::alloc::{AllocError, Allocator, Global};
 
 /// How many windows are tried, from 0 on.
 const WINDOWS: u8 = 5;
@@ -33,15 +33,15 @@ struct Found {
 impl Lists {
     /// Joins the list of `length` segments that stands at `place` among those of its length. Answers whether
     /// it is whole, and nothing where what is joined is not what was taken.
-    fn join(
+    fn join<A: Allocator + Copy>(
         self,
-        alloc: Global,
+        memory: A,
         length: u8,
         place: u64,
         window: u8,
     ) -> Result<Option<bool>, AllocError> {
-        let mut receiver = Receiver::new(alloc, window);
-        let mut taken = Vec::new(alloc);
+        let mut receiver = Receiver::new(memory, window);
+        let mut taken = Vec::new(memory);
         let mut rest = place;
         for _ in 0..length {
             let number = (rest % self.base()) as u8;
@@ -62,7 +62,7 @@ impl Lists {
     }
 
     /// Whether a receiver that took these segments is whole, and nothing where it has others.
-    fn judge(self, receiver: &Receiver<Global>, taken: &[u8]) -> Option<bool> {
+    fn judge<A: Allocator + Copy>(self, receiver: &Receiver<A>, taken: &[u8]) -> Option<bool> {
         if receiver.octets() != taken || !IN_ORDER.starts_with(taken) {
             return None;
         }
@@ -75,10 +75,16 @@ impl Lists {
     }
 
     /// Joins all lists of a length.
-    fn join_all(self, alloc: Global, length: u8, window: u8) -> Result<Found, Stop> {
+    fn join_all<A: Allocator + Copy>(
+        self,
+        alloc: Global,
+        memory: A,
+        length: u8,
+        window: u8,
+    ) -> Result<Found, Stop> {
         let mut found = Found { lists: 0, whole: 0 };
         for place in 0..self.base().saturating_pow(u32::from(length)) {
-            match self.join(alloc, length, place, window)? {
+            match self.join(memory, length, place, window)? {
                 Some(is_whole) => {
                     found.lists = found.lists.saturating_add(1);
                     found.whole = found.whole.saturating_add(u64::from(is_whole));
@@ -90,10 +96,15 @@ impl Lists {
     }
 
     /// Joins all lists under a window, in words.
-    fn show(self, alloc: Global, window: u8) -> Result<String, Stop> {
+    fn show<A: Allocator + Copy>(
+        self,
+        alloc: Global,
+        memory: A,
+        window: u8,
+    ) -> Result<String, Stop> {
         let mut all = Found { lists: 0, whole: 0 };
         for length in 0..=self.longest {
-            let found = self.join_all(alloc, length, window)?;
+            let found = self.join_all(alloc, memory, length, window)?;
             all.lists = all.lists.saturating_add(found.lists);
             all.whole = all.whole.saturating_add(found.whole);
         }
@@ -122,7 +133,7 @@ pub(crate) fn run(given: Given<'_>, asked: &str, wanted: &str) -> Result<Counts,
     let lists = read_lists(asked)?;
     let mut counts = Counts::none();
     for window in 0..WINDOWS {
-        counts = run_text(lists.show(given.alloc, window)?, wanted)?;
+        counts = run_text(lists.show(given.alloc, given.memory, window)?, wanted)?;
     }
     Ok(counts)
 }

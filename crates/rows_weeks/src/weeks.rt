@@ -1,10 +1,11 @@
 //! The requests, and what is kept.
 
 use history::Entry;
+use refusing::Refusing;
 use script::{Step, script_of};
 use simulator::{Event, Flow, Internetwork, LATEST_ITEMS, World, WorldEntry};
 use site_text::site_of;
-use std::alloc::Global;
+use std::alloc::{Allocator, Global};
 use std::{fs, io};
 use tags::{Fault, Items};
 
@@ -38,7 +39,7 @@ fn raise(count: &mut u64) {
 
 impl Kept {
     /// Counts entries that were handed out.
-    fn count(&mut self, told: &[WorldEntry<Global>]) {
+    fn count<A: Allocator>(&mut self, told: &[WorldEntry<A>]) {
         for entry in told {
             match entry {
                 Entry::Issue { .. } => raise(&mut self.issued),
@@ -50,7 +51,7 @@ impl Kept {
     }
 
     /// Looks at what a world keeps.
-    fn look(&mut self, world: &Internetwork<Global>) {
+    fn look<A: Allocator + Copy>(&mut self, world: &Internetwork<A>) {
         self.items = self.items.max(world.items().len());
         self.issues = self.issues.max(world.issues_kept());
         self.entries = self.entries.max(world.history().len());
@@ -67,7 +68,14 @@ pub fn run_weeks(rt: &HostRuntime) -> io::Result<()> {
     let meeting = fs::read(rt, "weeks/meeting.script")?;
     let round = fs::read(rt, "weeks/round.script")?;
     let alloc = rt.alloc();
-    match weeks_at(alloc, site.as_slice(), meeting.as_slice(), round.as_slice()) {
+    let memory = Refusing::new(alloc);
+    match weeks_at(
+        alloc,
+        &memory,
+        site.as_slice(),
+        meeting.as_slice(),
+        round.as_slice(),
+    ) {
         Ok(kept) => print(rt, kept),
         Err(fault) => println!(rt; "weeks: {fault}"),
     }
@@ -92,8 +100,14 @@ fn print(rt: &HostRuntime, kept: Kept) -> io::Result<()> {
 }
 
 /// Opens a site by the steps of one script, and goes through those of another again and again.
-fn weeks_at(alloc: Global, site: &[u8], meeting: &[u8], round: &[u8]) -> Result<Kept, Fault> {
-    let Ok(site) = site_of(alloc, alloc, site) else {
+fn weeks_at<A: Allocator + Copy>(
+    reading: Global,
+    alloc: A,
+    site: &[u8],
+    meeting: &[u8],
+    round: &[u8],
+) -> Result<Kept, Fault> {
+    let Ok(site) = site_of(reading, alloc, site) else {
         return Err(Fault::BadSite);
     };
     let (Ok(meeting), Ok(round)) = (script_of(alloc, meeting), script_of(alloc, round)) else {
@@ -111,7 +125,7 @@ fn weeks_at(alloc: Global, site: &[u8], meeting: &[u8], round: &[u8]) -> Result<
 }
 
 /// An event happens in a world, if it is sound.
-fn happen(world: &mut World<Global>, event: &Event<Global>) -> Result<(), Fault> {
+fn happen<A: Allocator + Copy>(world: &mut World<A>, event: &Event<A>) -> Result<(), Fault> {
     if !event.is_sound() {
         return Err(Fault::NoSuch);
     }
@@ -119,7 +133,7 @@ fn happen(world: &mut World<Global>, event: &Event<Global>) -> Result<(), Fault>
 }
 
 /// Takes the steps of a script in a world.
-fn meet(world: &mut World<Global>, steps: Items<Step<Global>, Global>) -> Result<(), Fault> {
+fn meet<A: Allocator + Copy>(world: &mut World<A>, steps: Items<Step<A>, A>) -> Result<(), Fault> {
     for step in steps.as_slice() {
         match step {
             Step::Happens(event) => happen(world, event)?,
@@ -131,7 +145,7 @@ fn meet(world: &mut World<Global>, steps: Items<Step<Global>, Global>) -> Result
 }
 
 /// Lets so many milliseconds pass in a world, in which all that is put out is delivered.
-fn flow(world: &mut World<Global>, n: u64) -> Result<(), Fault> {
+fn flow<A: Allocator + Copy>(world: &mut World<A>, n: u64) -> Result<(), Fault> {
     let mut flow = Flow::new(n)?;
     for _ in 0..u64::MAX {
         let Some(event) = world.next_of(&mut flow)? else {
@@ -145,10 +159,10 @@ fn flow(world: &mut World<Global>, n: u64) -> Result<(), Fault> {
 
 /// Goes through the events of a round so many times, each with all that it puts out. Behind each round the history is
 /// handed out, and what can no longer matter is forgotten.
-fn go_on(
-    alloc: Global,
-    world: &mut Internetwork<Global>,
-    round: Items<Step<Global>, Global>,
+fn go_on<A: Allocator + Copy>(
+    alloc: A,
+    world: &mut Internetwork<A>,
+    round: Items<Step<A>, A>,
 ) -> Result<Kept, Fault> {
     let mut kept = Kept::default();
     let mut told = Vec::new(alloc);
@@ -168,7 +182,7 @@ fn go_on(
 }
 
 /// Makes the event that a step asks for.
-fn make(world: &mut Internetwork<Global>, step: &Step<Global>) -> Result<(), Fault> {
+fn make<A: Allocator + Copy>(world: &mut Internetwork<A>, step: &Step<A>) -> Result<(), Fault> {
     let Step::Happens(event) = step else {
         return Err(Fault::NoSuch);
     };
@@ -180,7 +194,7 @@ fn make(world: &mut Internetwork<Global>, step: &Step<Global>) -> Result<(), Fau
 
 /// Delivers all that is put out from the datagram of a number on, one behind another. Answers from which number on the
 /// next ones are.
-fn deliver(world: &mut Internetwork<Global>, from: usize) -> Result<usize, Fault> {
+fn deliver<A: Allocator + Copy>(world: &mut Internetwork<A>, from: usize) -> Result<usize, Fault> {
     let mut from = from;
     for _ in 0..u64::MAX {
         let Some(number) = world.next_waiting(from, usize::MAX) else {

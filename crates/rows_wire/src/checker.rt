@@ -5,7 +5,7 @@
 use objects::Table;
 use site_parts::Station;
 use site_views::opening_objects;
-use std::alloc::{AllocError, Global};
+use std::alloc::{AllocError, Allocator, Global};
 use tags::Fault;
 use words::{Words, parse_request};
 
@@ -22,26 +22,33 @@ struct Issue {
 
 /// A device, and its objects as executions left them.
 #[derive(Drop)]
-struct Device {
+struct Device<A: Allocator> {
     instance: u32,
-    table: Table<Global>,
+    table: Table<A>,
 }
 
 /// Who judges a history.
 #[derive(Drop)]
-pub struct Checker {
+pub struct Checker<A: Allocator + Copy> {
+    /// Memory for words.
     alloc: Global,
-    devices: Vec<Device>,
+    /// Memory for what devices hold and are asked.
+    memory: A,
+    devices: Vec<Device<A>>,
     issues: Vec<Issue>,
 }
 
 /// The devices of a site as they open.
-fn devices_of(alloc: Global, stations: &[Station<Global>]) -> Result<Vec<Device>, Fault> {
+fn devices_of<A: Allocator + Copy>(
+    alloc: Global,
+    memory: A,
+    stations: &[Station<A>],
+) -> Result<Vec<Device<A>>, Fault> {
     let mut devices = Vec::new(alloc);
     for station in stations {
-        if let Some(objects) = opening_objects(alloc, station)? {
+        if let Some(objects) = opening_objects(memory, station)? {
             let instance = objects.instance;
-            let table = Table::new(alloc, objects)?;
+            let table = Table::new(memory, objects)?;
             devices.push(Device { instance, table })?;
         }
     }
@@ -49,8 +56,13 @@ fn devices_of(alloc: Global, stations: &[Station<Global>]) -> Result<Vec<Device>
 }
 
 /// What a device replies to a request in words, in words, once it has executed it.
-fn executed(alloc: Global, device: &mut Device, request: &str) -> Result<String, Fault> {
-    let Ok(request) = parse_request(alloc, request) else {
+fn executed<A: Allocator + Copy>(
+    alloc: Global,
+    memory: A,
+    device: &mut Device<A>,
+    request: &str,
+) -> Result<String, Fault> {
+    let Ok(request) = parse_request(memory, request) else {
         return Ok(String::from_str(alloc, "no request")?);
     };
     let reply = device.table.apply(&request)?;
@@ -63,15 +75,16 @@ fn number_and_words(words: &str) -> Option<(usize, &str)> {
     Some((number.parse::<usize>().ok()?, words))
 }
 
-impl Checker {
+impl<A: Allocator + Copy> Checker<A> {
     /// Who judges the history of a site with these stations.
     ///
     /// # Errors
     /// Want of memory.
-    pub fn new(alloc: Global, stations: &[Station<Global>]) -> Result<Self, Fault> {
+    pub fn new(alloc: Global, memory: A, stations: &[Station<A>]) -> Result<Self, Fault> {
         Ok(Checker {
             alloc,
-            devices: devices_of(alloc, stations)?,
+            memory,
+            devices: devices_of(alloc, memory, stations)?,
             issues: Vec::new(alloc),
         })
     }
@@ -142,10 +155,10 @@ impl Checker {
 
     /// What the device of an instance replies to a request, once it has executed it.
     fn replied(&mut self, instance: u32, request: &str) -> Result<String, Fault> {
-        let alloc = self.alloc;
+        let (alloc, memory) = (self.alloc, self.memory);
         for device in self.devices.as_mut_slice() {
             if device.instance == instance {
-                return executed(alloc, device, request);
+                return executed(alloc, memory, device, request);
             }
         }
         Ok(String::from_str(alloc, "no device")?)
