@@ -26,8 +26,8 @@ fn is_same_end(a: &End, b: &End) -> bool {
     }
 }
 
-/// Whether two entries say the same of the same issue.
-fn is_same_entry<A: Allocator + Copy>(a: &WorldEntry<A>, b: &WorldEntry<A>) -> bool {
+/// Whether two entries are the same issue.
+fn is_same_issue<A: Allocator + Copy>(a: &WorldEntry<A>, b: &WorldEntry<A>) -> bool {
     match (a, b) {
         (
             Entry::Issue {
@@ -52,6 +52,20 @@ fn is_same_entry<A: Allocator + Copy>(a: &WorldEntry<A>, b: &WorldEntry<A>) -> b
                 && moment == at
         }
         (
+            Entry::Issue { .. }
+            | Entry::Executed { .. }
+            | Entry::Answered { .. }
+            | Entry::Ended { .. }
+            | Entry::Restarted { .. },
+            _,
+        ) => false,
+    }
+}
+
+/// Whether two entries are both executions or both answers, of the same issue, with the same reply.
+fn is_same_reply<A: Allocator + Copy>(a: &WorldEntry<A>, b: &WorldEntry<A>) -> bool {
+    match (a, b) {
+        (
             Entry::Executed {
                 number,
                 reply,
@@ -75,6 +89,20 @@ fn is_same_entry<A: Allocator + Copy>(a: &WorldEntry<A>, b: &WorldEntry<A>) -> b
                 moment: at,
             },
         ) => number == other && reply == answer && moment == at,
+        (
+            Entry::Issue { .. }
+            | Entry::Executed { .. }
+            | Entry::Answered { .. }
+            | Entry::Ended { .. }
+            | Entry::Restarted { .. },
+            _,
+        ) => false,
+    }
+}
+
+/// Whether two entries are the same end without a reply, or the same restart.
+fn is_same_stop<A: Allocator + Copy>(a: &WorldEntry<A>, b: &WorldEntry<A>) -> bool {
+    match (a, b) {
         (
             Entry::Ended {
                 number,
@@ -103,6 +131,11 @@ fn is_same_entry<A: Allocator + Copy>(a: &WorldEntry<A>, b: &WorldEntry<A>) -> b
             _,
         ) => false,
     }
+}
+
+/// Whether two entries say the same of the same issue.
+fn is_same_entry<A: Allocator + Copy>(a: &WorldEntry<A>, b: &WorldEntry<A>) -> bool {
+    is_same_issue(a, b) || is_same_reply(a, b) || is_same_stop(a, b)
 }
 
 /// Whether two histories have the same entries in the same order.
