@@ -6,7 +6,7 @@ use crate::set_aside::{Delivery, SetAside, is_same_frame};
 use bus_traffic::NextTold;
 use history::Entry;
 use last_hop::{HeardPart, heard_in_datagram, heard_in_frame};
-use network_faults::{FaultyMessage, IssueRef, NetworkFault};
+use network_faults::{FaultyMessage, NetworkFault, issue_number};
 use npdu::Mac;
 use site_parts::Station;
 use site_views::at_address;
@@ -368,26 +368,10 @@ fn of_message<Q, R>(
         deed,
         left,
         which,
-        number: number_of(issue, history),
+        number: issue_number(issue, history),
         key: None,
         taken: None,
     })
-}
-
-/// The number of a request: that of the latest issue may be asked for.
-fn number_of<Q, R>(issue: IssueRef, history: &[Entry<npdu::Station, Q, R>]) -> Option<u64> {
-    match issue {
-        IssueRef::Number(number) => Some(number),
-        IssueRef::Last => {
-            let mut last = None;
-            for entry in history {
-                if let Entry::Issue { number, .. } = entry {
-                    last = Some(*number);
-                }
-            }
-            last
-        }
-    }
 }
 
 /// Whether a delivery to a station is to the station or on the network that a fault names.

@@ -1,1 +1,2 @@
+pub mod IssuedLaws
 pub mod SaysLaws

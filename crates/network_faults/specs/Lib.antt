@@ -1,3 +1,4 @@
 pub mod Says
 pub mod Unsaid
 pub mod Printed
+pub mod Issued

@@ -1,12 +1,23 @@
 //! The words of a fault, as a script has them.
 
 ghost use Rattle.std.specs.Prelude.{Some};
-ghost use Rattle.network_faults.specs.Printed.{fault_text, message_text};
+ghost use Rattle.network_faults.specs.Printed.{fault_text, issue_text, message_text};
 
 use crate::fault::{FaultyMessage, IssueRef, NetworkFault};
 use last_hop::RequestOrAnswer;
 use std::alloc::Allocator;
 use std::fmt;
+
+impl fmt::Display for IssueRef {
+    ghost output = { λ i. Some (issue_text i) };
+
+    fn fmt<W: fmt::Write>(&self, f: &mut fmt::Formatter<W>) -> fmt::Result {
+        match self {
+            IssueRef::Number(number) => write!(f, "{number}"),
+            IssueRef::Last => f.write_str("last"),
+        }
+    }
+}
 
 impl fmt::Display for FaultyMessage {
     ghost output = { λ m. Some (message_text m) };
@@ -16,10 +27,7 @@ impl fmt::Display for FaultyMessage {
             RequestOrAnswer::Request => "request",
             RequestOrAnswer::Answer => "answer",
         };
-        match self.issue {
-            IssueRef::Number(number) => write!(f, "{which} {number}"),
-            IssueRef::Last => write!(f, "{which} last"),
-        }
+        write!(f, "{which} {}", self.issue)
     }
 }
 
@@ -40,7 +48,8 @@ impl<A: Allocator> fmt::Display for NetworkFault<A> {
             NetworkFault::Delay { message, ms } => write!(f, "delay {message} {ms}"),
             NetworkFault::Damage(message) => write!(f, "damage {message}"),
             NetworkFault::LoseTo { station, ms } => {
-                write!(f, "lose to {} for {ms}", Name(station.as_slice()))
+                let station = StationName(station.as_slice());
+                write!(f, "lose to {station} for {ms}")
             }
             NetworkFault::LoseOn { network, ms } => write!(f, "lose on {network} for {ms}"),
         }
@@ -49,9 +58,9 @@ impl<A: Allocator> fmt::Display for NetworkFault<A> {
 
 /// The name of a station, which is letters and digits.
 #[derive(Clone, Copy)]
-struct Name<'a>(&'a [u8]);
+pub struct StationName<'a>(pub &'a [u8]);
 
-impl fmt::Display for Name<'_> {
+impl fmt::Display for StationName<'_> {
     ghost output = { λ n. Some n.0.now };
 
     fn fmt<W: fmt::Write>(&self, f: &mut fmt::Formatter<W>) -> fmt::Result {

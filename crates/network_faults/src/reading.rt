@@ -44,9 +44,12 @@ fn parse_which(word: &str) -> Result<RequestOrAnswer, Unread>
     }
 }
 
-/// The number of an issue, or `last`.
+/// The issue that a word names: its number in the history, or `last`.
+///
+/// # Errors
+/// `Number` for any other word.
 #[tactic(auto, using(crate::proofs::SaysLaws::issue_laws))]
-fn parse_issue(word: &str) -> Result<IssueRef, Unread>
+pub fn parse_issue(word: &str) -> Result<IssueRef, Unread>
     ensures read { IfOk result (SaysIssue word.now) }
     ensures refused { IfErr result (λ e. NoIssue word.now) }
 {
@@ -124,9 +127,12 @@ fn parse_for(words: &str) -> Result<u64, Unread>
     Ok(ms)
 }
 
-/// The name of a station: 1 to 32 letters and digits.
+/// The name of a station that a word is: 1 to 32 letters and digits.
+///
+/// # Errors
+/// `Memory`, or `Name` for any other word.
 #[tactic(auto, using(crate::proofs::SaysLaws::station_laws))]
-fn parse_station<A: Allocator + Copy>(alloc: A, word: &str) -> Result<Octets<A>, Unread>
+pub fn parse_station<A: Allocator + Copy>(alloc: A, word: &str) -> Result<Octets<A>, Unread>
     ensures read { IfOk result (SaysStation word.now) }
     ensures refused { IfErr result (λ e. (e ≡ Unread.Memory) ⊎ NoStation word.now) }
 {
