@@ -1,0 +1,4 @@
+pub mod SameLaws
+pub mod SomeLaws
+pub mod ToldLaws
+pub mod VerdictLaws
