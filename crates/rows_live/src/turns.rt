@@ -228,8 +228,10 @@ fn event_of<'m>(step: Step<Memory<'m>>) -> Option<Event<Memory<'m>>>
     ensures { IfSome result (λ event. IsSoundIfAny (Some event)) }
 {
     match step {
-        Step::Happens(Event::Deliver(_) | Event::Hear { .. }) | Step::Flow(_) | Step::Disturbs(_) =>
-            None,
+        Step::Happens(Event::Deliver(_) | Event::Hear { .. })
+        | Step::Flow(_)
+        | Step::Disturbs(_)
+        | Step::Expects(_) => None,
         Step::Happens(event) => { if event.is_sound() { Some(event) } else { None } }
     }
 }

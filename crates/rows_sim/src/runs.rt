@@ -3,7 +3,7 @@
 //! are wanted whole, or their beginning with `..` behind it.
 //!
 //! What is wanted of a run that prints is the name of a `prints` block. What is told on the standard error is wanted as
-//! it stands behind `! `, and the exit status is 1 then; behind `~ ` it is 0.
+//! it stands behind `! `, and the exit status is 1 then; behind `~ ` it is 0, and behind `? ` it is 4.
 
 use crate::blocks::{Kind, blocks};
 use sheets::{Counts, Given, Part, Row, Stop, compare, differs, two_words};
@@ -146,7 +146,7 @@ fn octets_of<'a>(printed: &'a str, number: &str) -> Result<&'a str, Stop> {
 }
 
 /// What is printed, and behind it what is told on the standard error, behind `! `, or behind `~ ` where the exit status
-/// is 0.
+/// is 0, and behind `? ` where it is 4.
 ///
 /// # Errors
 /// `Differs` for an exit status that doesn't fit.
@@ -163,10 +163,14 @@ fn printed<A: Allocator + Copy>(alloc: Global, memory: A, run: Run<'_>) -> Resul
     let mut text = String::new(alloc);
     push_octets(out.as_slice(), &mut text)?;
     if !err.is_empty() {
-        text.push_str(if status == 0 { "~ " } else { "! " })?;
+        text.push_str(match status {
+            0 => "~ ",
+            4 => "? ",
+            _ => "! ",
+        })?;
         push_octets(err.as_slice(), &mut text)?;
     }
-    if status > 1 || (status == 1 && err.is_empty()) {
+    if !matches!(status, 0 | 1 | 4) || (status != 0 && err.is_empty()) {
         return Err(differs(alloc, "another exit status"));
     }
     Ok(text)

@@ -51,6 +51,7 @@ fn push_step<A: Allocator>(step: &Step<A>, out: &mut String) -> Result<(), Stop>
         Step::Happens(event) => push_event(event, out),
         Step::Flow(milliseconds) => Ok(write!(out, "flow {milliseconds}")?),
         Step::Disturbs(fault) => Ok(write!(out, "{fault}")?),
+        Step::Expects(expected) => Ok(write!(out, "{expected}")?),
     }
 }
 

@@ -137,7 +137,7 @@ fn meet<A: Allocator + Copy>(world: &mut World<A>, steps: Items<Step<A>, A>) -> 
     for step in steps.as_slice() {
         match step {
             Step::Happens(event) => happen(world, event)?,
-            Step::Disturbs(_) => return Err(Fault::NoSuch),
+            Step::Disturbs(_) | Step::Expects(_) | Step::Shows(_) => return Err(Fault::NoSuch),
             Step::Flow(n) => flow(world, *n)?,
         }
     }

@@ -1,3 +1,4 @@
+pub mod Expecting
 pub mod Lines
 pub mod NoSteps
 pub mod Numbers

@@ -1,6 +1,7 @@
 -- Which steps lines of a script say.
 use Rattle.std.specs.Prelude.{◌≡◌, ◌⊎◌, ℕ, List, [], Option, None, Some, codes}
 use Rattle.apdu.specs.declared.unconfirmed.Limits.{Limits}
+use Rattle.expectations.specs.Says.{SaysExpectation}
 use Rattle.network_faults.specs.Says.{SaysFault, fault_word}
 use Rattle.primitives.specs.declared.plain_data.Request.{Request}
 use Rattle.primitives.specs.Sound.{IsSoundRequest}
@@ -64,6 +65,7 @@ order_of (step.Happens (event.Register name)) = codes "register"
 order_of (step.Happens (event.Restart name)) = codes "restart"
 order_of (step.Flow n) = codes "flow"
 order_of (step.Disturbs f) = fault_word f
+order_of (step.Expects e) = codes "expect"
 
 -- what stands behind that word
 abbrev pub SaysRest : {A : Type 0} → List ℕ → Step A → Type 0
@@ -77,6 +79,7 @@ SaysRest words (step.Happens (event.Register name)) = SaysName words name
 SaysRest words (step.Happens (event.Restart name)) = SaysName words name
 SaysRest words (step.Flow n) = SaysUnsigned 64 words n
 SaysRest words (step.Disturbs f) = SaysFault words f
+SaysRest words (step.Expects e) = SaysExpectation words e
 
 -- the words say the step
 abbrev pub SaysStep : {A : Type 0} → List ℕ → Step A → Type 0
@@ -97,3 +100,4 @@ abbrev pub IsSoundStep : {A : Type 0} → Step A → Type 0
 IsSoundStep (step.Happens e) = IsSoundEvent e
 IsSoundStep (step.Flow n) = Unit {0}
 IsSoundStep (step.Disturbs f) = Unit {0}
+IsSoundStep (step.Expects e) = Unit {0}

@@ -15,6 +15,7 @@ mod numbers;
 mod script;
 mod step;
 
+pub use expectations::{Expectation, ExpectedEnd, ExpectedValue, Outcome, Times};
 pub use line::step_of;
 pub use network_faults::{FaultyMessage, IssueRef, NetworkFault, RequestOrAnswer};
 pub use numbers::LineNumbers;

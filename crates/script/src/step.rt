@@ -1,5 +1,6 @@
 //! What a line of a script asks for.
 
+use expectations::Expectation;
 use network_faults::NetworkFault;
 use site_events::Event;
 use std::alloc::Allocator;
@@ -14,4 +15,6 @@ pub enum Step<A: Allocator> {
     Flow(u64),
     /// From here on this happens on the network, where a flow delivers.
     Disturbs(NetworkFault<A>),
+    /// This is expected of the run so far.
+    Expects(Expectation<A>),
 }

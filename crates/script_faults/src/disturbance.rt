@@ -72,7 +72,7 @@ pub(crate) fn delay<'a>(words: &mut Words<'a>) -> Result<(), Fault<'a>> {
 }
 
 /// The first fault of the number of an issue.
-fn issue<'a>(words: &mut Words<'a>) -> Result<(), Fault<'a>> {
+pub(crate) fn issue<'a>(words: &mut Words<'a>) -> Result<(), Fault<'a>> {
     let word = words.next(ISSUE)?;
     if word.text() == "last" || words::parse_u64(word.text()).is_ok() {
         return Ok(());

@@ -24,6 +24,20 @@ pub(crate) enum Expected {
     Message,
     /// The word before a time.
     Duration,
+    /// The first word of what is expected of a run.
+    Expectation,
+    /// The first word of what is expected of a live run.
+    LiveExpectation,
+    /// How a request is answered, or how soon.
+    Reply,
+    /// Why a request has no answer, or how soon it ends.
+    Cause,
+    /// How often a request is executed.
+    Times,
+    /// What there is none of.
+    Refused,
+    /// What a property reads.
+    Reading,
     /// The word before a priority, or the end.
     Priority,
     /// The end of the line.
@@ -45,13 +59,15 @@ pub(crate) enum Expected {
 }
 
 /// The first words of steps.
-const ORDERS: [&str; 13] = [
+const ORDERS: [&str; 14] = [
     "issue", "whois", "tick", "flow", "wake", "deliver", "hear", "register", "restart", "lose",
-    "repeat", "delay", "damage",
+    "repeat", "delay", "damage", "expect",
 ];
 
 /// The first words of steps that a live run takes.
-const LIVE_ORDERS: [&str; 6] = ["issue", "whois", "tick", "flow", "register", "restart"];
+const LIVE_ORDERS: [&str; 7] = [
+    "issue", "whois", "tick", "flow", "register", "restart", "expect",
+];
 
 /// The first words of requests.
 const SERVICES: [&str; 4] = ["read", "many", "write", "batch"];
@@ -77,6 +93,24 @@ const MESSAGES: [&str; 2] = ["request", "answer"];
 /// The word before a time.
 const DURATION: [&str; 1] = ["for"];
 
+/// The first words of what is expected of a run.
+const EXPECTATIONS: [&str; 5] = ["answered", "ended", "executed", "value", "none"];
+
+/// The first words of what is expected of a live run.
+const LIVE_EXPECTATIONS: [&str; 4] = ["answered", "ended", "executed", "none"];
+
+/// The first words of replies, and the one before a time.
+const REPLIES: [&str; 5] = ["done", "values", "many", "error", "within"];
+
+/// The first words of why a request has no answer, and the one before a time.
+const CAUSES: [&str; 4] = ["timedout", "rejected", "aborted", "within"];
+
+/// How often a request is executed.
+const TIMES: [&str; 2] = ["once", "never"];
+
+/// What there is none of.
+const REFUSED: [&str; 1] = ["refused"];
+
 /// The word before a priority.
 const PRIORITY: [&str; 1] = ["at"];
 
@@ -87,13 +121,19 @@ impl Expected {
             Expected::Order => &ORDERS,
             Expected::LiveOrder => &LIVE_ORDERS,
             Expected::Service => &SERVICES,
-            Expected::Value => &VALUES,
+            Expected::Value | Expected::Reading => &VALUES,
             Expected::Flag => &FLAGS,
             Expected::Enumerated => &STATES,
             Expected::Loss => &LOSSES,
             Expected::Message => &MESSAGES,
             Expected::Duration => &DURATION,
             Expected::Priority => &PRIORITY,
+            Expected::Expectation => &EXPECTATIONS,
+            Expected::LiveExpectation => &LIVE_EXPECTATIONS,
+            Expected::Reply => &REPLIES,
+            Expected::Cause => &CAUSES,
+            Expected::Times => &TIMES,
+            Expected::Refused => &REFUSED,
             Expected::End
             | Expected::OneValue
             | Expected::Number { .. }
@@ -111,14 +151,19 @@ impl fmt::Display for Expected {
             | Expected::LiveOrder
             | Expected::Service
             | Expected::Flag
-            | Expected::Message => write!(f, "{}", Choice(self.words())),
+            | Expected::Message
+            | Expected::Expectation
+            | Expected::LiveExpectation
+            | Expected::Reply
+            | Expected::Cause
+            | Expected::Times
+            | Expected::Refused => write!(f, "{}", Choice(self.words())),
             Expected::Loss => write!(f, "how many of them, {}", Choice(self.words())),
             Expected::Duration => f.write_str("\"for\" and a number of milliseconds"),
-            Expected::Value => {
-                for word in self.words() {
-                    write!(f, "{word}, ")?;
-                }
-                f.write_str("or a text in quotes")
+            Expected::Value => fmt_values(f),
+            Expected::Reading => {
+                f.write_str("a number, ")?;
+                fmt_values(f)
             }
             Expected::Enumerated => {
                 write!(f, "a number, 0 to 4294967295, {}", Choice(self.words()))
@@ -136,4 +181,12 @@ impl fmt::Display for Expected {
             Expected::Phrase(words) => f.write_str(words),
         }
     }
+}
+
+/// Prints how a value may begin.
+fn fmt_values<W: fmt::Write>(f: &mut fmt::Formatter<W>) -> fmt::Result {
+    for word in VALUES {
+        write!(f, "{word}, ")?;
+    }
+    f.write_str("or a text in quotes")
 }

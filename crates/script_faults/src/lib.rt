@@ -9,12 +9,14 @@
 //! - `expected`: what may stand at a place.
 //! - `fault`: what is wrong with a line.
 //! - `layout`: spaces, tabs and comments that stand where none may.
-//! - `step`, `disturbance`, `request`, `value`: the first place where a line stops being what their names say.
+//! - `step`, `disturbance`, `expectation`, `request`, `value`: the first place where a line stops being what their
+//!   names say.
 //! - `telling`: the faults of a script.
 //! - `mending`: a script with its spaces and line ends mended.
 #![tactic(auto)]
 
 mod disturbance;
+mod expectation;
 mod expected;
 mod fault;
 mod layout;

@@ -72,7 +72,7 @@ pub(crate) fn object<'a>(word: Word<'a>) -> Result<(), Fault<'a>> {
 }
 
 /// The first fault of a property or an element of one, as `87/16`, `present-value` or `priority-array[16]`.
-fn property<'a>(word: Word<'a>) -> Result<(), Fault<'a>> {
+pub(crate) fn property<'a>(word: Word<'a>) -> Result<(), Fault<'a>> {
     if let Some((front, index)) = word.cut(b'/') {
         property_number(front)?;
         return number(index, INDEX);

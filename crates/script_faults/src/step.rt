@@ -1,6 +1,7 @@
 //! The first place where a line stops being a step.
 
 use crate::disturbance::{delay, loss, message};
+use crate::expectation::expectation;
 use crate::expected::Expected;
 use crate::fault::Fault;
 use crate::request::request;
@@ -65,10 +66,20 @@ pub(crate) fn step_fault<'a>(line: &'a [u8], unread: Unread) -> Fault<'a> {
     }
 }
 
-/// The fault of a step that a live run doesn't take: its first word.
+/// The fault of a step that a live run doesn't take: its first word, or the one behind `expect`.
 pub(crate) fn offline_fault(line: &[u8]) -> Fault<'_> {
-    match Words::new(line).next(Expected::LiveOrder) {
+    let mut words = Words::new(line);
+    match words.next(Expected::LiveOrder) {
+        Ok(order) if order.text() == "expect" => word_fault(&mut words, Expected::LiveExpectation),
         Ok(order) => order.fault(Expected::LiveOrder),
+        Err(fault) => fault,
+    }
+}
+
+/// The fault of the next word, in whose place this is expected.
+fn word_fault<'a>(words: &mut Words<'a>, expected: Expected) -> Fault<'a> {
+    match words.next(expected) {
+        Ok(word) => word.fault(expected),
         Err(fault) => fault,
     }
 }
@@ -86,6 +97,7 @@ fn step<'a>(words: &mut Words<'a>) -> Result<(), Fault<'a>> {
         "lose" => loss(words)?,
         "repeat" | "damage" => message(words)?,
         "delay" => delay(words)?,
+        "expect" => expectation(words)?,
         _ => return Err(order.fault(Expected::Order)),
     }
     words.finish()

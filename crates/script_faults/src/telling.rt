@@ -9,7 +9,7 @@ use crate::layout::layout_fault;
 use crate::step::{offline_fault, step_fault};
 use messages::{Excerpt, Nearest, Report, nearest_in};
 use names::{object_types, properties};
-use script::{BadScript, Event, Step, script_of, step_of};
+use script::{BadScript, Event, Expectation, Step, script_of, step_of};
 use std::alloc::{AllocError, Allocator};
 use std::io;
 use std::io::{ErrorKind, Write};
@@ -94,7 +94,10 @@ fn are_live<A: Allocator>(steps: &[Step<A>]) -> bool {
 fn is_live<A: Allocator>(step: &Step<A>) -> bool {
     match step {
         Step::Happens(Event::Wake(_) | Event::Deliver(_) | Event::Hear { .. }) => false,
-        Step::Disturbs(_) => false,
+        Step::Disturbs(_) | Step::Expects(Expectation::Reads { .. }) => false,
+        Step::Expects(
+            Expectation::Closed { .. } | Expectation::Executed { .. } | Expectation::NoneRefused,
+        ) => true,
         Step::Happens(
             Event::Issue { .. }
             | Event::WhoIs { .. }

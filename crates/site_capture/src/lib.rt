@@ -19,4 +19,7 @@ mod putting;
 pub use capturing::capture;
 pub use living::LiveCapture;
 pub use site_live::{Ending, Settings, Stop, run_over_udp, run_over_udp_observed, say_stop};
-pub use site_steps::{Spelling, Telling, plain_steps, simulate, simulate_told, simulate_traced};
+pub use site_steps::{
+    Simulated, Spelling, Telling, Verdicts, plain_steps, simulate, simulate_judged, simulate_told,
+    simulate_traced,
+};

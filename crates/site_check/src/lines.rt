@@ -4,7 +4,7 @@ ghost use Rattle.std.specs.Prelude.{IfOk};
 ghost use Rattle.site_check.specs.Judged.{AreStepsIfAny};
 
 use crate::told::{Told, tell};
-use script::{BadScript, Event, NetworkFault, Step, script_of};
+use script::{BadScript, Event, Expectation, NetworkFault, Step, script_of};
 use site_parts::Parts;
 use std::alloc::Allocator;
 use std::io;
@@ -73,6 +73,22 @@ fn tell_step<A: Allocator, W: Write>(
         Step::Happens(event) => tell_event(number, event, parts, out),
         Step::Flow(_) => Ok(()),
         Step::Disturbs(fault) => tell_fault(number, fault, parts, out),
+        Step::Expects(expected) => tell_expected(number, expected, parts, out),
+    }
+}
+
+/// Tells what an expectation names that parts lack.
+fn tell_expected<A: Allocator, W: Write>(
+    number: usize,
+    expected: &Expectation<A>,
+    parts: &Parts<A>,
+    out: &mut W,
+) -> io::Result<()> {
+    match expected {
+        Expectation::Reads { station, .. } => tell_name(number, station.as_slice(), parts, out),
+        Expectation::Closed { .. } | Expectation::Executed { .. } | Expectation::NoneRefused => {
+            Ok(())
+        }
     }
 }
 

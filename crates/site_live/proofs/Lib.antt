@@ -4,3 +4,4 @@ pub mod PrintLaws
 pub mod LiveLaws
 pub mod LapLaws
 pub mod HearLaws
+pub mod ExpectLaws

@@ -278,6 +278,10 @@ module _ {A : Type 0} {spelling : Spelling} where
   pub lives_none : (r : LiveState A) (k : Known) → Lives spelling [] r r k k
   lives_none r k = record { moves = []; printed = (refl, refl); just_these = refl }
 
+  -- the state stayed
+  pub lives_same : (old new : LiveState A) (k : Known) → new ≡ old → Lives spelling [] old new k k
+  lives_same old new k same = subst (λ (r : LiveState A). Lives spelling [] old r k k) (sym same) (lives_none old k)
+
   -- some turns, and others
   pub lives_both : (es fs : List (Step A)) (old mid new : LiveState A) (before at after : Known) →
       Lives spelling es old mid before at → Lives spelling fs mid new at after → Lives spelling (es ++ fs) old new before after
@@ -448,5 +452,8 @@ pub ruleset run_laws = (run_printed, led_begun)
 pub ruleset refusal_laws = (nothing_printed, no_time_printed)
 
 pub ruleset live_laws = (lives_none, lives_on, memory_refused, one_missed, passed_over, time_passes, time_refused)
+
+-- .. where a step may leave all as it is
+pub ruleset taken_laws = (lives_none, lives_same, lives_on, memory_refused, one_missed, passed_over, time_passes, time_refused)
 
 pub ruleset step_laws = (lives_none, step_before)

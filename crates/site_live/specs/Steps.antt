@@ -1,14 +1,17 @@
 -- What a line of a script asks of a live run.
 use Rattle.std.specs.Prelude.{◌≡◌, ◌⊎◌, ◌<◌, ℕ, List, [], ◌∷◌, ◌++◌, Option, None, Some, ◌||◌, nat_lt}
 use Rattle.std.specs.Prelude.{if◌then◌else◌}
+use Rattle.expectations.specs.declared.expectation.Expectation.TheVariants as expected
 use Rattle.profile.specs.Times.{MAX_TICK_MS}
 use Rattle.runner.specs.world.site_events.declared.event.Event.{Event}
 use Rattle.runner.specs.world.site_events.declared.event.Event.TheVariants as event
 use Rattle.script.specs.Lines.{SaysSteps}
 use Rattle.script.specs.declared.step.Step.{Step}
 use Rattle.script.specs.declared.step.Step.TheVariants as step
+use Rattle.site_history.specs.Printed.{or_else}
 
--- a step as a live run takes it: the events that it makes of itself, and faults of the network, a script can't ask for
+-- a step as a live run takes it: the events that it makes of itself, faults of the network, and what a property reads,
+-- a script can't ask for
 abbrev pub IsLive : {A : Type 0} → Step A → Step A → Type 0
 IsLive (step.Happens (event.Issue client instance request)) s = s ≡ step.Happens (event.Issue client instance request)
 IsLive (step.Happens (event.WhoIs client limits)) s = s ≡ step.Happens (event.WhoIs client limits)
@@ -20,6 +23,22 @@ IsLive (step.Happens (event.Wake station)) s = ⊥
 IsLive (step.Happens (event.Deliver number)) s = ⊥
 IsLive (step.Happens (event.Hear network station octets)) s = ⊥
 IsLive (step.Disturbs f) s = ⊥
+IsLive (step.Expects (expected.Closed i o within)) s = s ≡ step.Expects (expected.Closed i o within)
+IsLive (step.Expects (expected.Executed i times)) s = s ≡ step.Expects (expected.Executed i times)
+IsLive (step.Expects expected.NoneRefused) s = s ≡ step.Expects expected.NoneRefused
+IsLive (step.Expects (expected.Reads station object property v)) s = ⊥
+
+-- a mark of a step that expects something (for private functions alone)
+unfoldable pub mark_of : {A : Type 0} → Step A → Option ℕ
+mark_of (step.Expects e) = Some 0
+mark_of (step.Happens e) = None
+mark_of (step.Flow n) = None
+mark_of (step.Disturbs f) = None
+
+-- .. where one of the steps does
+abbrev pub mark_in : {A : Type 0} → List (Step A) → Option ℕ
+mark_in [] = None
+mark_in (s ∷ ss) = or_else (mark_in ss) (mark_of s)
 
 -- so is each of these steps, in their order
 abbrev pub AreLive : {A : Type 0} → List (Step A) → List (Step A) → Type 0
@@ -60,6 +79,7 @@ abbrev pub asked_at : {A : Type 0} → Step A → List (Step A)
 asked_at (step.Happens e) = asked_by e
 asked_at (step.Flow n) = refused_at n
 asked_at (step.Disturbs f) = []
+asked_at (step.Expects e) = []
 
 -- those among steps, in their order
 abbrev pub asked_of : {A : Type 0} → List (Step A) → List (Step A)

@@ -10,9 +10,10 @@ use crate::timer::Timer;
 use crate::turning::print_turn;
 use due_times::DueTimes;
 use profile::MAX_TICK_MS;
-use runner::{Event, Heard, Internetwork, Runner, World, WorldEntry, next_hear};
+use runner::{Event, Heard, Internetwork, Runner, Turned, World, WorldEntry, next_hear};
 use script::Step;
 use site_history::{AskedFor, Counts, print_refusal, print_refused_time};
+use site_verdicts::{Expectation, Refusals, Seen, Verdicts};
 use std::alloc::{AllocError, Allocator};
 use std::io;
 use std::io::{ErrorKind, Write};
@@ -46,6 +47,11 @@ pub struct Live<W: Wire + Drop, T: Timer + Drop, S: Observer<A> + Drop, A: Alloc
     /// The moment, in milliseconds, at which each station of the site registers next: never, where it is no foreign
     /// device.
     due: DueTimes<A>,
+    /// Whether its script expects anything, which may be of any entry: then none is handed out.
+    looks_back: bool,
+    /// What was refused, and what came of expectations.
+    refusals: Refusals,
+    verdicts: Verdicts<A>,
 }
 
 impl<W: Wire + Drop, T: Timer + Drop, S: Observer<A> + Drop, A: Allocator + Copy> Model
@@ -116,6 +122,35 @@ fn stray_of<'w, W: Wire, A: Allocator + Copy>(runner: &Runner<A>, wire: &'w W) -
     if runner.strayed() { wire.last() } else { None }
 }
 
+/// Counts the refusal of a turn, if it was refused, which a line of the script may ask for.
+fn count_refusal(
+    refusals: &mut Refusals,
+    answer: &Result<Turned, Fault>,
+    moment: u64,
+    script_line: Option<u64>,
+) {
+    if let Err(fault) = answer {
+        refusals.put(*fault, moment, script_line);
+    }
+}
+
+/// Judges what is expected of a run where so much was refused; what a property reads, no live run is asked.
+fn judge<A: Allocator + Copy>(
+    runner: &Runner<A>,
+    refusals: Refusals,
+    expected: &Expectation<A>,
+    script_line: Option<u64>,
+    verdicts: &mut Verdicts<A>,
+) -> Result<(), AllocError> {
+    let seen = Seen {
+        history: runner.history(),
+        stations: runner.world().site().stations(),
+        refusals,
+        read: None,
+    };
+    verdicts.judge(expected, script_line, seen)
+}
+
 impl<W: Wire + Drop, T: Timer + Drop, S: Observer<A> + Drop, A: Allocator + Copy> Live<W, T, S, A> {
     ghost use Rattle.std.specs.Prelude.{◌≡◌, ◌<◌, ◌≤◌, ◌+◌, ◌-◌, ◌^◌, [], true, false, Some, length};
     ghost use Rattle.std.specs.Prelude.{IfOk, IfSome, OnOk};
@@ -130,7 +165,8 @@ impl<W: Wire + Drop, T: Timer + Drop, S: Observer<A> + Drop, A: Allocator + Copy
     ghost use Rattle.script.specs.Steps.{IsSoundStep};
     ghost use Rattle.site_live.specs.Steps.{asked_at, asked_by, asked_in};
 
-    /// A world at a wire, which is open or not. The clock begins with it, and the observer sees each turn.
+    /// A world at a wire, which is open or not. The clock begins with it, and the observer sees each turn. Where it
+    /// looks back, what it is asked to expect may be of any entry, and none is handed out.
     ///
     /// # Errors
     /// Want of memory.
@@ -138,6 +174,7 @@ impl<W: Wire + Drop, T: Timer + Drop, S: Observer<A> + Drop, A: Allocator + Copy
         alloc: A,
         world: World<A>,
         is_open: bool,
+        looks_back: bool,
         wire: W,
         timer: T,
         observer: S,
@@ -157,6 +194,9 @@ impl<W: Wire + Drop, T: Timer + Drop, S: Observer<A> + Drop, A: Allocator + Copy
                 heard: Heard::new(),
                 lap: Lap::At(0),
                 due,
+                looks_back,
+                refusals: Refusals::none(),
+                verdicts: Verdicts::new(alloc),
             }),
             Err(error) => {
                 world.close();
@@ -165,8 +205,8 @@ impl<W: Wire + Drop, T: Timer + Drop, S: Observer<A> + Drop, A: Allocator + Copy
         }
     }
 
-    /// Lets go of it, and of its wire.
-    pub fn close(self) {
+    /// Lets go of it, and of its wire. Hands out what came of expectations.
+    pub fn close(self) -> Verdicts<A> {
         let Live {
             alloc: _alloc,
             runner,
@@ -178,8 +218,12 @@ impl<W: Wire + Drop, T: Timer + Drop, S: Observer<A> + Drop, A: Allocator + Copy
             heard: _heard,
             lap: _lap,
             due: _due,
+            looks_back: _looks_back,
+            refusals: _refusals,
+            verdicts,
         } = self;
-        runner.close()
+        runner.close();
+        verdicts
     }
 
     /// The site at the wire.
@@ -202,13 +246,15 @@ impl<W: Wire + Drop, T: Timer + Drop, S: Observer<A> + Drop, A: Allocator + Copy
         self.runner.world()
     }
 
-    /// Takes a turn, by which the run comes so far round the site, lets it be seen, and prints what comes of it, and
-    /// behind its refusal what is told of its event. What was printed is handed out then, and what can no longer matter
-    /// is forgotten. Where time passes, the lines of the millisecond before are flushed.
+    /// Takes a turn, which a line of the script may ask for, and by which the run comes so far round the site, lets it
+    /// be seen, and prints what comes of it, and behind its refusal what is told of its event. What was printed is
+    /// handed out then, and what can no longer matter is forgotten. Where time passes, the lines of the millisecond
+    /// before are flushed.
     fn take_turn<O: Write>(
         &mut self,
         next: Option<Event<A>>,
         lap: Lap,
+        script_line: Option<u64>,
         asked: Option<AskedFor<A>>,
         spelling: Spelling,
         out: &mut O,
@@ -226,6 +272,8 @@ impl<W: Wire + Drop, T: Timer + Drop, S: Observer<A> + Drop, A: Allocator + Copy
         self.lap = lap;
         let stray = stray_of(&self.runner, &self.wire);
         self.observer.see(self.runner.world(), stray)?;
+        let moment = self.runner.world().moment();
+        count_refusal(&mut self.refusals, &answer, moment, script_line);
         print_turn(
             spelling,
             &self.runner,
@@ -263,13 +311,17 @@ impl<W: Wire + Drop, T: Timer + Drop, S: Observer<A> + Drop, A: Allocator + Copy
         }
     }
 
-    /// Hands out what was printed, and counts it, or leaves it where memory is wanting.
+    /// Hands out what was printed, and counts it, or leaves it where memory is wanting, or where an expectation may look
+    /// at it.
     ///
     /// # Errors
     /// Where there are too many entries to be counted.
     fn hand_out_all(&mut self) -> io::Result<()>
         ensures { OnOk result (HandsOut Spelling.Numbers self.old self.new) }
     {
+        if self.looks_back {
+            return Ok(());
+        }
         let Some(counts) = self.counts.with(self.runner.history()) else {
             return Err(ErrorKind::OutOfMemory.into());
         };
@@ -303,7 +355,7 @@ impl<W: Wire + Drop, T: Timer + Drop, S: Observer<A> + Drop, A: Allocator + Copy
             Spelling::Names => AskedFor::of(self.alloc, script_line, &event).ok(),
         };
         let lap = self.lap;
-        self.take_turn(Some(event), lap, asked, spelling, out)
+        self.take_turn(Some(event), lap, script_line, asked, spelling, out)
     }
 
     /// Prints that something is refused that is no turn.
@@ -312,7 +364,9 @@ impl<W: Wire + Drop, T: Timer + Drop, S: Observer<A> + Drop, A: Allocator + Copy
         ensures { OnOk result (PrintsNothing (refused_text fault self.old.runner.world.moment) self.old self.new
             (O.contents out.old) (O.contents out.new)) }
     {
-        print_refusal(fault, self.world().moment(), out)
+        let moment = self.world().moment();
+        self.refusals.put(fault, moment, None);
+        print_refusal(fault, moment, out)
     }
 
     /// Prints that so many milliseconds don't pass for a step.
@@ -329,6 +383,7 @@ impl<W: Wire + Drop, T: Timer + Drop, S: Observer<A> + Drop, A: Allocator + Copy
             self.old self.new (O.contents out.old) (O.contents out.new)) }
     {
         let moment = self.world().moment();
+        self.refusals.put(Fault::NoSuch, moment, script_line);
         print_refused_time(spelling, script_line, n, Fault::NoSuch, moment, out)
     }
 
@@ -343,6 +398,7 @@ impl<W: Wire + Drop, T: Timer + Drop, S: Observer<A> + Drop, A: Allocator + Copy
             Lap::Over if passed > 0 => self.take_turn(
                 Some(Event::Tick(passed.min(MAX_TICK_MS))),
                 Lap::At(0),
+                None,
                 None,
                 spelling,
                 out,
@@ -362,6 +418,7 @@ impl<W: Wire + Drop, T: Timer + Drop, S: Observer<A> + Drop, A: Allocator + Copy
     {
         let moment = self.world().moment();
         self.lap = Lap::At(place + 1);
+        self.refusals.put(Fault::Memory, moment, None);
         print_refusal(Fault::Memory, moment, out)
     }
 
@@ -378,6 +435,7 @@ impl<W: Wire + Drop, T: Timer + Drop, S: Observer<A> + Drop, A: Allocator + Copy
             Ok(name) => self.take_turn(
                 Some(Event::Wake(name)),
                 Lap::At(place + 1),
+                None,
                 None,
                 spelling,
                 out,
@@ -443,7 +501,7 @@ impl<W: Wire + Drop, T: Timer + Drop, S: Observer<A> + Drop, A: Allocator + Copy
         let lap = self.lap;
         match station_name_at(self.alloc, self.world(), place) {
             Ok(Some(name)) => {
-                self.take_turn(Some(Event::Register(name)), lap, None, spelling, out)
+                self.take_turn(Some(Event::Register(name)), lap, None, None, spelling, out)
             }
             Ok(None) => Ok(()),
             Err(_) => self.refuse(Fault::Memory, out),
@@ -506,7 +564,7 @@ impl<W: Wire + Drop, T: Timer + Drop, S: Observer<A> + Drop, A: Allocator + Copy
         ensures { OnOk result (Lives spelling [] self.old self.new (O.contents out.old) (O.contents out.new)) }
     {
         let lap = self.lap;
-        self.take_turn(None, lap, None, spelling, out)?;
+        self.take_turn(None, lap, None, None, spelling, out)?;
         Ok(self.wire.last().is_some())
     }
 
@@ -547,7 +605,7 @@ impl<W: Wire + Drop, T: Timer + Drop, S: Observer<A> + Drop, A: Allocator + Copy
         match next_hear(self.world(), heard) {
             Ok(Some(event)) => {
                 let lap = self.lap;
-                self.take_turn(Some(event), lap, None, spelling, out)?;
+                self.take_turn(Some(event), lap, None, None, spelling, out)?;
                 Ok(true)
             }
             Ok(None) => Ok(false),
@@ -630,9 +688,10 @@ impl<W: Wire + Drop, T: Timer + Drop, S: Observer<A> + Drop, A: Allocator + Copy
         Ok(())
     }
 
-    /// Takes a step that a line of a script asks for: an event, or 1 to 60000 ms in which the run makes its own. Those
-    /// that it makes of itself, and faults of the network, it doesn't take from a script.
-    #[tactic(auto, using(crate::proofs::LiveLaws::live_laws))]
+    /// Takes a step that a line of a script asks for: an event, 1 to 60000 ms in which the run makes its own, or what is
+    /// expected, which is judged. Events that it makes of itself, and faults of the network, it doesn't take from a
+    /// script.
+    #[tactic(auto, using(crate::proofs::LiveLaws::taken_laws))]
     pub fn take_step<O: Write>(
         &mut self,
         step: Step<A>,
@@ -654,6 +713,27 @@ impl<W: Wire + Drop, T: Timer + Drop, S: Observer<A> + Drop, A: Allocator + Copy
                 }
                 self.let_pass(n, spelling, out)
             }
+            Step::Expects(expected) => {
+                self.expect(&expected, script_line)?;
+                Ok(())
+            }
+        }
+    }
+
+    /// Judges what is expected of the run so far.
+    fn expect(&mut self, expected: &Expectation<A>, script_line: Option<u64>) -> io::Result<()>
+        ensures same { self.new ≡ self.old }
+    {
+        let refusals = self.refusals;
+        match judge(
+            &self.runner,
+            refusals,
+            expected,
+            script_line,
+            &mut self.verdicts,
+        ) {
+            Ok(()) => Ok(()),
+            Err(AllocError) => Err(ErrorKind::OutOfMemory.into()),
         }
     }
 }

@@ -7,7 +7,7 @@ ghost use Rattle.script.specs.Steps.{IsSoundStep};
 ghost use Rattle.site_live.specs.Steps.{AreLive, SaysLive};
 
 use crate::step::live_step;
-use script::{BadScript, Event, Step, script_of};
+use script::{BadScript, Event, Expectation, Step, script_of};
 use std::alloc::{AllocError, Allocator};
 use tags::Items;
 use words::Unread;
@@ -88,7 +88,8 @@ fn fault_of<A: Allocator + Copy>(alloc: A, line: &[u8], number: usize) -> Option
         Ok(said) => match said.as_slice() {
             [
                 Step::Happens(Event::Wake(_) | Event::Deliver(_) | Event::Hear { .. })
-                | Step::Disturbs(_),
+                | Step::Disturbs(_)
+                | Step::Expects(Expectation::Reads { .. }),
             ] => Some(BadScript::Line {
                 number,
                 unread: Unread::Step,

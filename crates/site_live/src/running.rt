@@ -1,15 +1,17 @@
 //! A site and a script, from their texts to what is printed of a live run, and the exit status.
 
-ghost use Rattle.std.specs.Prelude.{◌≡◌, ◌≤◌, [], IfOk, OnOk};
+ghost use Rattle.std.specs.Prelude.{◌≡◌, ◌≤◌, ◌⊎◌, [], IfOk, OnOk, false};
 ghost use Rattle.std.specs.Io.KnownBytes.{Appends};
 ghost use Rattle.std.specs.List.{AllByRecursion};
 ghost use Rattle.runner.specs.simulator.Laws.{IsLed};
 ghost use Rattle.site_live.specs.Running.{Lives};
 ghost use Rattle.site_live.specs.Runs.{IsOpened, PrintsLiveRun, RunsLive, begun};
+ghost use Rattle.script.specs.Expecting.{ExpectNothing, HasNoExpectation};
 ghost use Rattle.script.specs.Steps.{IsSoundStep};
 ghost use Rattle.site_live.specs.Steps.{SaysLive, asked_of};
+ghost use Rattle.site_live.specs.Steps as spec;
 ghost use Rattle.site_history.specs.Counting.{counted_on};
-ghost use Rattle.site_history.specs.Printed.{end_text, line};
+ghost use Rattle.site_history.specs.Printed.{or_else, end_text, line};
 
 use crate::live::Live;
 use crate::observer::{Nobody, Observer};
@@ -23,6 +25,7 @@ use script::{LineNumbers, Step};
 use site_history::{Counts, EndLine, Stop, say_stop};
 use site_parts::Station;
 use site_text::site_of;
+use site_verdicts::Verdicts;
 use site_views::addresses;
 use std::alloc::{Allocator, Global};
 use std::io;
@@ -124,10 +127,11 @@ fn addresses_of<A: Allocator + Copy>(
 }
 
 /// Takes steps at a site live, over a wire, and prints on `out` each entry of its history, each stray that was heard,
-/// each refusal at its place, and at last what there was of all. The observer sees each turn.
+/// each refusal at its place, and at last what there was of all. The observer sees each turn. Hands out what came of
+/// all that is expected.
 ///
 /// # Errors
-/// Those of writing, of the observer and of the clock, and want of memory at the beginning.
+/// Those of writing, of the observer and of the clock, and want of memory at the beginning and for what is expected.
 #[tactic(auto, using(crate::proofs::LiveLaws::run_laws))]
 pub fn run<W: Wire + Drop, T: Timer + Drop, S: Observer<A> + Drop, A: Allocator + Copy, O: Write>(
     alloc: A,
@@ -137,7 +141,7 @@ pub fn run<W: Wire + Drop, T: Timer + Drop, S: Observer<A> + Drop, A: Allocator 
     timer: T,
     observer: S,
     out: &mut O,
-) -> io::Result<()>
+) -> io::Result<Verdicts<A>>
     requires sound { AllByRecursion IsSoundStep opened.steps }
     ensures { OnOk result (PrintsLiveRun settings.spelling settings.is_open opened.entry.steps opened.entry.world
         (O.contents out.old) (O.contents out.new)) }
@@ -148,10 +152,13 @@ pub fn run<W: Wire + Drop, T: Timer + Drop, S: Observer<A> + Drop, A: Allocator 
         lines,
         addresses: _addresses,
     } = opened;
-    let mut live = Live::new(alloc, world, settings.is_open, wire, timer, observer)?;
+    let looks_back = expect_something(&steps);
+    let is_open = settings.is_open;
+    let mut live = Live::new(alloc, world, is_open, looks_back, wire, timer, observer)?;
     let printed = print_all(&mut live, steps, lines, settings, out);
-    live.close();
-    printed
+    let verdicts = live.close();
+    printed?;
+    Ok(verdicts)
 }
 
 /// Takes steps at a site that has just begun to live, and prints at last what there was of all.
@@ -252,24 +259,38 @@ fn print_end<A: Allocator + Copy, W: Write>(
 }
 
 /// Runs a site live over UDP, with a script, as their texts describe them: a socket is opened for each address of the
-/// site (J.1.2). Answers the exit status: 0; or 1 for a text that is none and for an address that can't be opened,
-/// which is told on `err` and nothing runs then, for want of memory where it ends the program, and for a failed write.
-/// The document is read in memory of `reading`.
+/// site (J.1.2). Answers the exit status: 0; 4 where something that the script expects didn't hold, which is told on
+/// `err` with the name of the script, where it has one; or 1 for a text that is none and for an address that can't be
+/// opened, which is told on `err` and nothing runs then, for want of memory where it ends the program, and for a failed
+/// write. The document is read in memory of `reading`.
 pub fn run_over_udp<R: Net + Clock, A: Allocator + Copy, O: Write, E: Write>(
     rt: &R,
     reading: Global,
     alloc: A,
     site: &[u8],
     script: &[u8],
+    script_name: Option<&str>,
     settings: Settings,
     out: &mut O,
     err: &mut E,
 ) -> u8
-    ensures status { result ≤ 1 }
-    ensures runs { result ≡ 0
+    ensures status { (result ≤ 1) ⊎ (result ≡ 4) }
+    ensures plain { HasNoExpectation A script.now → result ≤ 1 }
+    ensures runs { (result ≡ 0) ⊎ (result ≡ 4)
         → RunsLive A settings.spelling settings.is_open site.now script.now (O.contents out.old) (O.contents out.new) }
 {
-    run_over_udp_observed(rt, reading, alloc, site, script, settings, Nobody, out, err)
+    run_over_udp_observed(
+        rt,
+        reading,
+        alloc,
+        site,
+        script,
+        script_name,
+        settings,
+        Nobody,
+        out,
+        err,
+    )
 }
 
 /// The same, where the observer sees each turn.
@@ -285,17 +306,19 @@ pub fn run_over_udp_observed<
     alloc: A,
     site: &[u8],
     script: &[u8],
+    script_name: Option<&str>,
     settings: Settings,
     observer: S,
     out: &mut O,
     err: &mut E,
 ) -> u8
-    ensures status { result ≤ 1 }
-    ensures runs { result ≡ 0
+    ensures status { (result ≤ 1) ⊎ (result ≡ 4) }
+    ensures plain { HasNoExpectation A script.now → result ≤ 1 }
+    ensures runs { (result ≡ 0) ⊎ (result ≡ 4)
         → RunsLive A settings.spelling settings.is_open site.now script.now (O.contents out.old) (O.contents out.new) }
 {
     match open(reading, alloc, site, script) {
-        Ok(opened) => run_opened(rt, alloc, opened, settings, observer, out, err),
+        Ok(opened) => run_opened(rt, alloc, opened, script_name, settings, observer, out, err),
         Err(stop) => say_stop(stop, err),
     }
 }
@@ -313,26 +336,76 @@ fn wire_of<'a, R: Net + Clock, A: Allocator + Copy>(
     }
 }
 
+/// Whether a script's steps expect something.
+fn expect_something<A: Allocator>(steps: &Items<Step<A>, A>) -> bool
+    ensures { ExpectNothing steps.now → result ≡ false }
+{
+    match mark_in(steps.as_slice()) {
+        Some(_) => true,
+        None => false,
+    }
+}
+
+/// A mark where one of these steps does.
+#[tactic(auto, using(crate::proofs::ExpectLaws::mark_laws))]
+fn mark_in<A: Allocator>(steps: &[Step<A>]) -> Option<u64>
+    ensures { result ≡ spec.mark_in steps.now }
+{
+    let mut mark = None;
+    let mut left = steps;
+    while let [first, rest @ ..] = left {
+        mark = mark_after(mark, first);
+        left = rest;
+    }
+    mark
+}
+
+/// The mark behind a step, where this is the one before it.
+#[tactic(auto, unfolding(crate::specs::Steps::mark_of))]
+fn mark_after<A: Allocator>(mark: Option<u64>, step: &Step<A>) -> Option<u64>
+    ensures { result ≡ or_else (spec.mark_of step.now) mark }
+{
+    match step {
+        Step::Expects(_) => Some(0),
+        Step::Happens(_) | Step::Flow(_) | Step::Disturbs(_) => mark,
+    }
+}
+
+/// The exit status of a run that came to its end, whose script expects something or nothing, and where that is unmet or
+/// not.
+fn status_of(expects: bool, is_unmet: bool) -> u8
+    ensures few { (result ≤ 1) ⊎ (result ≡ 4) }
+    ensures plain { expects ≡ false → result ≡ 0 }
+{
+    if expects && is_unmet { 4 } else { 0 }
+}
+
 /// Runs what was opened, and answers the exit status.
 fn run_opened<R: Net + Clock, S: Observer<A> + Drop, A: Allocator + Copy, O: Write, E: Write>(
     rt: &R,
     alloc: A,
     opened: Opened<'_, A>,
+    script_name: Option<&str>,
     settings: Settings,
     observer: S,
     out: &mut O,
     err: &mut E,
 ) -> u8
     requires sound { AllByRecursion IsSoundStep opened.steps }
-    ensures status { result ≤ 1 }
-    ensures runs { result ≡ 0
+    ensures status { (result ≤ 1) ⊎ (result ≡ 4) }
+    ensures plain { ExpectNothing opened.entry.steps → result ≤ 1 }
+    ensures runs { (result ≡ 0) ⊎ (result ≡ 4)
         → PrintsLiveRun settings.spelling settings.is_open opened.entry.steps opened.entry.world (O.contents out.old)
         (O.contents out.new) }
 {
     match wire_of(rt, alloc, opened.addresses.as_slice()) {
         Ok((wire, timer)) => {
+            let expects = expect_something(&opened.steps);
             match run(alloc, opened, settings, wire, timer, observer, out) {
-                Ok(()) => 0,
+                Ok(verdicts) => {
+                    let _ = verdicts.tell_unmet(script_name, err);
+                    status_of(expects, verdicts.is_unmet())
+                }
                 Err(error) => say_failed(&error, err),
             }
         }

@@ -48,6 +48,9 @@ pub(crate) enum LineNote<'a> {
     /// A station that isn't foreign registers.
     #[error("{0} is not foreign, and does not register")]
     NoRegister(&'a str),
+    /// A station that is no device is expected to have objects.
+    #[error("{0} is not a device, and has no properties")]
+    NoValue(&'a str),
     /// A request to a device that nobody has asked for.
     #[error("no whois has asked for device {0} yet: the client may not know where it is")]
     Unasked(u32),

@@ -3,7 +3,7 @@
 use crate::note::{LineNote, tell_line};
 use crate::ways::is_over_bus;
 use apdu::Limits;
-use script::{Event, FaultyMessage, IssueRef, NetworkFault, RequestOrAnswer, Step};
+use script::{Event, Expectation, FaultyMessage, IssueRef, NetworkFault, RequestOrAnswer, Step};
 use site_parts::{Link, Parts, Role, Station};
 use std::alloc::{AllocError, Allocator};
 use std::io;
@@ -69,6 +69,7 @@ impl<'p, A: Allocator + Copy> Reader<'p, A> {
             Step::Happens(event) => event,
             Step::Flow(n) => return self.tell_milliseconds(number, *n, out),
             Step::Disturbs(fault) => return self.tell_fault(number, fault, out),
+            Step::Expects(expected) => return self.tell_expected(number, expected, out),
         };
         match event {
             Event::Issue {
@@ -90,6 +91,26 @@ impl<'p, A: Allocator + Copy> Reader<'p, A> {
             Event::Wake(_) => self.tell_offline(number, "wake", out),
             Event::Deliver(_) => self.tell_offline(number, "deliver", out),
             Event::Hear { .. } => self.tell_offline(number, "hear", out),
+        }
+    }
+
+    /// Tells an expectation of a property, which a live run doesn't take, or of a station that is no device.
+    fn tell_expected<W: Write>(
+        &mut self,
+        number: usize,
+        expected: &Expectation<A>,
+        out: &mut W,
+    ) -> io::Result<()> {
+        let Expectation::Reads { station, .. } = expected else {
+            return Ok(());
+        };
+        self.tell_offline(number, "expect value", out)?;
+        let name = station.as_slice();
+        match station_named(self.parts, name) {
+            Some(station) if station.role.objects().is_none() => {
+                self.tell(number, LineNote::NoValue(text(name)), out)
+            }
+            _ => Ok(()),
         }
     }
 

@@ -1,5 +1,5 @@
 -- What is printed, one thing after another.
-use Rattle.std.proofs.Common.{◌≡◌, ◌∙◌, refl, sym, ap, subst, arith, ℕ, ◌+◌, ◌-◌, ◌≤◌, List, [], ◌∷◌, ◌++◌, Option, Some, None, Result, Ok, Err, IfOk, OnOk, OnErr, drop, length, inl, inr, slice_get}
+use Rattle.std.proofs.Common.{◌≡◌, ◌∙◌, refl, sym, ap, subst, arith, Bool, ℕ, ◌+◌, ◌-◌, ◌≤◌, List, [], ◌∷◌, ◌++◌, Option, Some, None, Result, Ok, Err, IfOk, OnOk, OnErr, drop, length, inl, inr, slice_get}
 use Rattle.std.specs.Io.KnownBytes.{Appends}
 use Rattle.std.specs.List.{AllByRecursion}
 use Rattle.bus_traffic.specs.Bus.{BusState}
@@ -12,13 +12,14 @@ use Rattle.script.specs.declared.step.Step.{Step}
 use Rattle.site_history.proofs.simulator.FlowLaws.{steps_pass}
 use Rattle.site_history.specs.faulty_flow.Flows.{FlowState, Gives}
 use Rattle.site_history.specs.simulator.Flows.{IsOfFlow, ticks_in, ticks_of}
+use Rattle.site_history.specs.simulator.world.Refusals.{IsRefused}
 use Rattle.site_history.specs.simulator.world.World.{WorldState}
 use Rattle.site_history.specs.simulator.world.site_events.declared.event.Event.{Event}
 use Rattle.site_history.specs.simulator.world.site_events.declared.event.Event.TheVariants as event
 use Rattle.site_parts.specs.declared.parts.Station.{Station}
-use Rattle.site_history.specs.Asked.{refused_time_text}
+use Rattle.site_history.specs.Asked.{refused_asked_text, refused_time_text, told_of}
 use Rattle.site_history.specs.Printed.{entries_text, line}
-use Rattle.site_run.specs.Running.{Known, PrintsAll, PrintsEvent, PrintsEvents, PrintsGrowth, PrintsRefused, PrintsStep, PrintsSteps, PrintsTicks, at_line, told, trace_text}
+use Rattle.site_run.specs.Running.{Known, PrintsAll, PrintsEvent, PrintsEvents, PrintsGrowth, PrintsRefused, PrintsTicks, TakesStep, TakesSteps, at_line, told, trace_text}
 use Rattle.site_run.specs.declared.running.Telling.{Telling}
 use Rattle.site_trace.specs.Lines.{frames_text, items_text}
 pub use Rattle.site_trace.proofs.TraceLaws.{appends_more, appends_nothing, texts_from}
@@ -33,10 +34,11 @@ none_left (x ∷ xs) e = absurd (omega (arith, e))
 
 module _ {A : Type 0} where
   -- a step before others
-  pub step_before : (t : Telling) (ls : List ℕ) (s : Step A) (ss : List (Step A)) (w u v : WorldState A)
-      (old mid new : Known) → PrintsStep (at_line (slice_get ls 0) t) s w u old mid →
-      PrintsSteps t (drop 1 ls) ss u v mid new → PrintsSteps t ls (s ∷ ss) w v old new
-  step_before t ls s ss w u v old mid new first rest = record { middle = u; at_middle = mid; first = first; rest = rest }
+  pub step_before : (t : Telling) (ls : List ℕ) (s : Step A) (ss : List (Step A)) (was so_far now : Bool)
+      (w u v : WorldState A) (old mid new : Known) → TakesStep (at_line (slice_get ls 0) t) s was so_far w u old mid →
+      TakesSteps t (drop 1 ls) ss so_far now u v mid new → TakesSteps t ls (s ∷ ss) was now w v old new
+  step_before t ls s ss was so_far now w u v old mid new first rest =
+      record { middle = u; so_far = so_far; at_middle = mid; first = first; rest = rest }
 
   -- an event before others
   pub event_before : (t : Telling) (e : Event A) (es : List (Event A)) (w u v : WorldState A) (old mid new : Known) →
@@ -77,6 +79,20 @@ module _ {A : Type 0} where
       ++ frames_text l frames bs moment)) s
       (appends_more old mid new (items_text stations items is moment) (frames_text stations frames bs moment) p q))))
   trace_printed (Err x) items frames v stations is bs moment old mid new s i b m p q = tt
+
+  -- an event was refused, and that is printed
+  pub refused_printed : {T E : Type 0} (r : Result T E) (t : Telling) (e : Event A) (w v : WorldState A) (fault : Fault)
+      (moment : ℕ) (old new : Known) → v ≡ w → moment ≡ v.moment → IsRefused e w fault →
+      OnOk r (Appends old new (line (refused_asked_text (told_of t.spelling t.line e) fault moment))) →
+      OnOk r (PrintsEvent t e w v old new)
+  refused_printed (Ok x) t e w v fault moment old new same at refused p = inr (record {
+    fault = fault;
+    refused = refused;
+    same = same;
+    printed = subst (λ (m : ℕ). Appends old new (line (refused_asked_text (told_of t.spelling t.line e) fault m)))
+        (at ∙ ap (λ (u : WorldState A). u.moment) same) p;
+  })
+  refused_printed (Err x) t e w v fault moment old new same at refused p = tt
 
   unmoved : (w v : WorldState A) → v ≡ w → v.moment ≡ w.moment + 0
   unmoved w v same = let at = ap (λ (u : WorldState A). u.moment) same in omega (arith, at)

@@ -1,5 +1,6 @@
 -- What is printed of the steps of a script, one after another.
-use Rattle.std.specs.Prelude.{◌≡◌, ◌⊎◌, ◌<◌, ◌≤◌, ◌+◌, ℕ, List, [], ◌∷◌, ◌++◌, Option, None, drop, length, slice_get}
+use Rattle.std.specs.Prelude.{◌≡◌, ◌⊎◌, ◌<◌, ◌≤◌, ◌+◌, Bool, ℕ, List, [], ◌∷◌, ◌++◌, Option, None}
+use Rattle.std.specs.Prelude.{drop, length, slice_get}
 use Rattle.std.specs.Io.KnownBytes.{Appends}
 use Rattle.std.specs.List.{AllByRecursion}
 use Rattle.profile.specs.Times.{MAX_MOMENT_MS, MAX_TICK_MS}
@@ -13,6 +14,7 @@ use Rattle.site_history.specs.simulator.world.site_events.declared.event.Event.{
 pub use Rattle.site_history.specs.Printed.{Known}
 use Rattle.site_history.specs.Asked.{refused_asked_text, refused_time_text, told_of}
 use Rattle.site_history.specs.Printed.{entries_text, line, refused_text}
+use Rattle.site_run.specs.Judged.{IsJudged}
 use Rattle.site_run.specs.declared.running.Telling.{Telling}
 use Rattle.site_run.specs.declared.running.Told.{Told}
 use Rattle.site_run.specs.declared.running.Told.TheVariants as telling
@@ -127,6 +129,7 @@ abbrev pub PrintsStep : {A : Type 0} → Telling → Step A → WorldState A →
 PrintsStep t (step.Happens e) w v old new = PrintsEvent t e w v old new
 PrintsStep t (step.Flow n) w v old new = PrintsFlow t n w v old new ⊎ PrintsNoFlow t n w v old new
 PrintsStep t (step.Disturbs f) w v old new = PrintsDisturbed w v old new
+PrintsStep t (step.Expects e) w v old new = (v ≡ w) × (new ≡ old)
 
 -- so were these steps, one after another, which lines of a script ask for that have these numbers
 abbrev pub PrintsSteps : {A : Type 0} → Telling → (lines : List ℕ) → List (Step A) → WorldState A → WorldState A →
@@ -135,3 +138,28 @@ PrintsSteps t ls [] w v old new = (v ≡ w) × (new ≡ old)
 PrintsSteps t ls (s ∷ ss) w v old new =
     Then (λ u at. PrintsStep (at_line (slice_get ls 0) t) s w u old at)
     (λ u at. PrintsSteps t (drop 1 ls) ss u v at new)
+
+-- a step was taken, and whether an expectation is unmet so far: an expectation is judged
+abbrev pub TakesStep : {A : Type 0} → Telling → Step A → (was now : Bool) → WorldState A → WorldState A → Known →
+    Known → Type 0
+TakesStep t (step.Happens e) was now w v old new = PrintsStep t (step.Happens e) w v old new × (now ≡ was)
+TakesStep t (step.Flow n) was now w v old new = PrintsStep t (step.Flow n) w v old new × (now ≡ was)
+TakesStep t (step.Disturbs f) was now w v old new = PrintsStep t (step.Disturbs f) w v old new × (now ≡ was)
+TakesStep t (step.Expects e) was now w v old new = PrintsStep t (step.Expects e) w v old new × IsJudged e w was now
+
+-- one step was taken and is printed, and then others
+pub record ThenTakes {A : Type 0} (First Rest : WorldState A → Bool → Known → Type 0) : Type 0 where
+  pub middle : WorldState A
+  pub so_far : Bool
+  pub at_middle : Known
+  pub first : First middle so_far at_middle
+  pub rest : Rest middle so_far at_middle
+
+-- steps were taken, one after another, which lines of a script ask for that have these numbers, and whether an
+-- expectation is unmet
+abbrev pub TakesSteps : {A : Type 0} → Telling → (lines : List ℕ) → List (Step A) → (was now : Bool) → WorldState A →
+    WorldState A → Known → Known → Type 0
+TakesSteps t ls [] was now w v old new = (v ≡ w) × (new ≡ old) × (now ≡ was)
+TakesSteps t ls (s ∷ ss) was now w v old new =
+    ThenTakes (λ u so_far at. TakesStep (at_line (slice_get ls 0) t) s was so_far w u old at)
+    (λ u so_far at. TakesSteps t (drop 1 ls) ss so_far now u v at new)

@@ -6,20 +6,26 @@ ghost use Rattle.std.specs.List.{AllByRecursion};
 ghost use Rattle.script.specs.Steps.{IsSoundStep};
 ghost use Rattle.script.specs.declared.step.Step.TheVariants as step;
 ghost use Rattle.site_history.specs.simulator.world.Step.{IsSoundEvent};
+ghost use Rattle.site_history.specs.Asked.{refused_time_text};
+ghost use Rattle.site_history.specs.Printed as printed;
+ghost use Rattle.site_run.specs.Judged.{IsJudged};
 ghost use Rattle.site_run.specs.Running.{PrintsAll, PrintsDisturbed, PrintsEvent, PrintsGrowth, PrintsStep};
-ghost use Rattle.site_run.specs.Running.{PrintsSteps, told};
+ghost use Rattle.site_run.specs.Running.{PrintsSteps, TakesStep, TakesSteps, told};
 ghost use Rattle.site_run.specs.Running.{trace_text};
 ghost use Rattle.site_run.specs.Running as spec;
 
+use crate::course::Course;
+use crate::judging::judge;
 use script::{LineNumbers, NetworkFault, Step};
 use site_history::{
     Event, FaultsInForce, FaultyFlow, World, print_entries, print_refusal, print_refused_event,
     print_refused_time,
 };
 use site_trace::{print_frames, print_items};
+use site_verdicts::{Expectation, Refusals};
 use std::alloc::{AllocError, Allocator};
 use std::io;
-use std::io::Write;
+use std::io::{ErrorKind, Write};
 use tags::{Fault, Items};
 use words::Spelling;
 
@@ -78,10 +84,10 @@ impl Telling {
 }
 
 /// Takes the steps in their order, which lines of a script ask for that have these numbers, and prints what comes of
-/// each.
+/// each. What is expected is judged, and isn't told.
 ///
 /// # Errors
-/// Those of writing.
+/// Those of writing, and want of memory for what is expected.
 pub fn take_steps<A: Allocator + Copy, W: Write>(
     world: &mut World<A>,
     steps: Items<Step<A>, A>,
@@ -94,57 +100,89 @@ pub fn take_steps<A: Allocator + Copy, W: Write>(
         (PrintsSteps telling lines.entry steps world.old world.new (W.contents out.old) (W.contents out.new)) }
 {
     let steps = steps.into_vec();
-    let mut faults = FaultsInForce::new(*steps.allocator());
+    let mut course = Course::new(*steps.allocator());
     take_all(
         world,
         Items::from_vec(steps),
         lines,
         telling,
-        &mut faults,
+        &mut course,
         out,
-    )
+    )?;
+    Ok(())
 }
 
-/// The same; the faults of the network that steps ask for stay in force.
+/// The same; what is expected is judged, and the faults of the network that steps ask for stay in force.
 ///
 /// # Errors
-/// Those of writing.
+/// Those of writing, and want of memory for what is expected.
 #[tactic(auto, using(crate::proofs::RunLaws::run_rules))]
 pub(crate) fn take_all<A: Allocator + Copy, W: Write>(
     world: &mut World<A>,
     steps: Items<Step<A>, A>,
     lines: LineNumbers<'_>,
     telling: Telling,
-    faults: &mut FaultsInForce<A>,
+    course: &mut Course<A>,
     out: &mut W,
 ) -> io::Result<()>
     requires sound { AllByRecursion IsSoundStep steps }
     ensures { OnOk result
-        (PrintsSteps telling lines.entry steps world.old world.new (W.contents out.old) (W.contents out.new)) }
+        (TakesSteps telling lines.entry steps course.old.verdicts course.new.verdicts
+        world.old world.new (W.contents out.old) (W.contents out.new)) }
 {
     let mut lines = lines;
     for step in steps.into_vec() {
         let line = lines.next();
-        take_step(world, step, telling.at(line), faults, out)?;
+        take_step(world, step, telling.at(line), course, out)?;
     }
     Ok(())
 }
 
-/// Takes a step: an event, a flow of them, or a fault of the network, which acts in flows.
+/// Takes a step: an event, a flow of them, a fault of the network, which acts in flows, or what is expected.
 fn take_step<A: Allocator + Copy, W: Write>(
     world: &mut World<A>,
     step: Step<A>,
     telling: Telling,
-    faults: &mut FaultsInForce<A>,
+    course: &mut Course<A>,
     out: &mut W,
 ) -> io::Result<()>
     requires sound { IsSoundStep step }
-    ensures { OnOk result (PrintsStep telling step world.old world.new (W.contents out.old) (W.contents out.new)) }
+    ensures { OnOk result (TakesStep telling step course.old.verdicts course.new.verdicts
+        world.old world.new (W.contents out.old) (W.contents out.new)) }
 {
     match step {
-        Step::Happens(event) => make(world, &event, telling, out),
-        Step::Flow(n) => flow(world, n, telling, faults, out),
-        Step::Disturbs(fault) => disturb(world, fault, telling.line, faults, out),
+        Step::Happens(event) => {
+            make_counted(world, &event, telling, &mut course.refusals, out)?;
+            Ok(())
+        }
+        Step::Flow(n) => {
+            flow(world, n, telling, course, out)?;
+            Ok(())
+        }
+        Step::Disturbs(fault) => {
+            disturb(world, fault, telling.line, course, out)?;
+            Ok(())
+        }
+        Step::Expects(expected) => {
+            expect(world, &expected, telling.line, course)?;
+            Ok(())
+        }
+    }
+}
+
+/// Judges what is expected of the run so far.
+fn expect<A: Allocator + Copy>(
+    world: &World<A>,
+    expected: &Expectation<A>,
+    line: Option<u64>,
+    course: &mut Course<A>,
+) -> io::Result<()>
+    ensures { OnOk result
+        (IsJudged expected.now world.now course.old.verdicts course.new.verdicts) }
+{
+    match judge(world, expected, line, course.refusals, &mut course.verdicts) {
+        Ok(()) => Ok(()),
+        Err(AllocError) => Err(ErrorKind::OutOfMemory.into()),
     }
 }
 
@@ -153,15 +191,19 @@ fn disturb<A: Allocator + Copy, W: Write>(
     world: &World<A>,
     fault: NetworkFault<A>,
     line: Option<u64>,
-    faults: &mut FaultsInForce<A>,
+    course: &mut Course<A>,
     out: &mut W,
 ) -> io::Result<()>
-    ensures { OnOk result (PrintsDisturbed world.now world.now (W.contents out.old) (W.contents out.new)) }
+    ensures printed { OnOk result (PrintsDisturbed world.now world.now (W.contents out.old) (W.contents out.new)) }
+    ensures verdicts { course.new.verdicts ≡ course.old.verdicts }
 {
     let moment = world.moment();
-    match faults.put(fault, line, world.history(), moment) {
+    match course.faults.put(fault, line, world.history(), moment) {
         Ok(()) => Ok(()),
-        Err(AllocError) => print_refusal(Fault::Memory, moment, out),
+        Err(AllocError) => {
+            course.refusals.put(Fault::Memory, moment, line);
+            print_refusal(Fault::Memory, moment, out)
+        }
     }
 }
 
@@ -170,22 +212,24 @@ fn flow<A: Allocator + Copy, W: Write>(
     world: &mut World<A>,
     n: u64,
     telling: Telling,
-    faults: &mut FaultsInForce<A>,
+    course: &mut Course<A>,
     out: &mut W,
 ) -> io::Result<()>
-    ensures { OnOk result
+    ensures printed { OnOk result
         (PrintsStep telling (step.Flow n) world.old world.new (W.contents out.old) (W.contents out.new)) }
+    ensures verdicts { course.new.verdicts ≡ course.old.verdicts }
 {
-    match FaultyFlow::new(n, world, faults) {
-        Ok(flow) => make_all(world, n, flow, telling, faults, out),
-        Err(fault) => print_refused_time(
-            telling.spelling,
-            telling.line,
+    match FaultyFlow::new(n, world, &mut course.faults) {
+        Ok(flow) => make_all(
+            world,
             n,
-            fault,
-            world.moment(),
+            flow,
+            telling,
+            &mut course.faults,
+            &mut course.refusals,
             out,
         ),
+        Err(fault) => refuse_time(world, n, fault, telling, &mut course.refusals, out),
     }
 }
 
@@ -198,6 +242,7 @@ fn make_all<A: Allocator + Copy, W: Write>(
     flow: FaultyFlow<A>,
     telling: Telling,
     faults: &mut FaultsInForce<A>,
+    refusals: &mut Refusals,
     out: &mut W,
 ) -> io::Result<()>
     requires whole { flow.left ≡ n }
@@ -207,20 +252,30 @@ fn make_all<A: Allocator + Copy, W: Write>(
     let mut flow = flow;
     let mut next = flow.next_of(world, faults);
     while let Ok(Some(event)) = next {
-        make(world, &event, telling, out)?;
+        make_counted(world, &event, telling, refusals, out)?;
         next = flow.next_of(world, faults);
     }
     match next {
         Ok(_) => Ok(()),
-        Err(fault) => print_refused_time(
-            telling.spelling,
-            telling.line,
-            n,
-            fault,
-            world.moment(),
-            out,
-        ),
+        Err(fault) => refuse_time(world, n, fault, telling, refusals, out),
     }
+}
+
+/// Prints that so many milliseconds are refused.
+fn refuse_time<A: Allocator + Copy, W: Write>(
+    world: &World<A>,
+    n: u64,
+    fault: Fault,
+    telling: Telling,
+    refusals: &mut Refusals,
+    out: &mut W,
+) -> io::Result<()>
+    ensures { OnOk result (Appends (W.contents out.old) (W.contents out.new)
+        (printed.line (refused_time_text telling.spelling telling.line n fault world.now.moment))) }
+{
+    let moment = world.moment();
+    refusals.put(fault, moment, telling.line);
+    print_refused_time(telling.spelling, telling.line, n, fault, moment, out)
 }
 
 /// Makes an event, and prints what comes of it.
@@ -237,19 +292,32 @@ pub fn make<A: Allocator + Copy, W: Write>(
     ensures { OnOk result
         (PrintsEvent telling event.now world.old world.new (W.contents out.old) (W.contents out.new)) }
 {
+    let mut refusals = Refusals::none();
+    make_counted(world, event, telling, &mut refusals, out)
+}
+
+/// The same; a refusal is counted.
+fn make_counted<A: Allocator + Copy, W: Write>(
+    world: &mut World<A>,
+    event: &Event<A>,
+    telling: Telling,
+    refusals: &mut Refusals,
+    out: &mut W,
+) -> io::Result<()>
+    requires sound { IsSoundEvent event.now }
+    ensures { OnOk result
+        (PrintsEvent telling event.now world.old world.new (W.contents out.old) (W.contents out.new)) }
+{
     let items = world.items().len();
     let frames = world.buses().frames;
     let entries = world.history().len();
     match world.step(event) {
         Ok(()) => print_growth(world, items, frames, entries, telling, out),
-        Err(fault) => print_refused_event(
-            telling.spelling,
-            telling.line,
-            event,
-            fault,
-            world.moment(),
-            out,
-        ),
+        Err(fault) => {
+            let moment = world.moment();
+            refusals.put(fault, moment, telling.line);
+            print_refused_event(telling.spelling, telling.line, event, fault, moment, out)
+        }
     }
 }
 

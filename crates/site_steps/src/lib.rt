@@ -11,7 +11,7 @@ mod watching;
 
 pub use plain::plain_steps;
 pub use site_run::{
-    EndLine, EntryLine, Event, Spelling, Stop, Telling, World, WorldEntry, counted, open, simulate,
-    simulate_told, simulate_traced,
+    EndLine, EntryLine, Event, Simulated, Spelling, Stop, Telling, Verdict, Verdicts, World,
+    WorldEntry, counted, open, simulate, simulate_judged, simulate_told, simulate_traced,
 };
 pub use watching::{Watcher, watch};

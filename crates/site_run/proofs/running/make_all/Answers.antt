@@ -1,4 +1,4 @@
-use Rattle.std.proofs.Common.{◌∙◌, rules}
+use Rattle.std.proofs.Common.{◌∙◌, refl, rules}
 use Rattle.site_run.proofs.RunLaws.{flow_begins, flow_failed, flow_goes_on, flow_over, next_of_flow, same_to_go, to_go}
 use Rattle.site_run.proofs.running.make_all.Goals as goal
 
@@ -21,11 +21,11 @@ loop-next-preserved g c =
       next_of_flow next.result c.loop-next.flow next.new.self next.ensures.gives,
       next.ensures.cause,
       flow_goes_on c.args.telling c.args.n c.loop-next.next next.result c.loop-next.flow next.new.self
-          c.in-Ok-Some.event c.args.world.now c.loop-next.world c.make.new.world (g.W.Write.contents c.args.out.now)
-          (g.W.Write.contents c.loop-next.out) (g.W.Write.contents c.make.new.out) (search rules)
+          c.in-Ok-Some.event c.args.world.now c.loop-next.world c.make_counted.new.world (g.W.Write.contents c.args.out.now)
+          (g.W.Write.contents c.loop-next.out) (g.W.Write.contents c.make_counted.new.out) (search rules)
           c.loop-next.invariant.1
           (same_to_go next.result c.loop-next.flow next.new.self next.ensures.gives next.ensures.unchanged)
-          c.in_ok-make.ensures c.loop-next.invariant.3,
+          c.in_ok-make_counted.ensures c.loop-next.invariant.3,
     )
 
 pub returns-in-Ok : goal.returns-in-Ok
@@ -36,7 +36,7 @@ returns-in-Ok g c =
 
 pub returns : goal.returns
 returns g c =
-    flow_failed c.print_refused_time.result c.args.telling c.args.n (to_go c.loop-next.next c.loop-next.flow)
+    flow_failed c.refuse_time.result c.args.telling c.args.n (to_go c.loop-next.next c.loop-next.flow)
     c.args.world.now c.loop-next.world (g.W.Write.contents c.args.out.now) (g.W.Write.contents c.loop-next.out)
-    (g.W.Write.contents c.print_refused_time.new.out) c.in-Err.fault c.moment.result c.loop-next.invariant.3
-    (search rules) c.moment.ensures c.print_refused_time.ensures
+    (g.W.Write.contents c.refuse_time.new.out) c.in-Err.fault c.loop-next.world.moment c.loop-next.invariant.3
+    (search rules) refl c.refuse_time.ensures
