@@ -17,6 +17,7 @@ use Rattle.command_order.specs.declared.simulating.Simulation.{Simulation}
 use Rattle.site_check.specs.Judged.{AreJudged}
 use Rattle.site_capture.specs.site_live.Runs.{RunsLive}
 use Rattle.site_capture.specs.site_run.Simulate.{Simulates}
+use Rattle.site_capture.specs.site_run.script.Expecting.{HasNoExpectation}
 use Rattle.site_capture.specs.site_run.declared.running.Telling.{Telling}
 use Rattle.site_capture.specs.site_run.Running.{all_in, entries_in}
 use Rattle.command_order.specs.Order.{program, IsOrderOf}
@@ -49,39 +50,59 @@ abbrev pub telling_of : Bool → Spelling → Telling
 telling_of true spelling = all_in spelling
 telling_of false spelling = entries_in spelling
 
--- the files of a simulation were read, by what reads them, and what they describe was printed
-pub record PrintsSimulation (reads : List ℕ → List ℕ → Type 0) (s : Simulation) (old new : Known) : Type 0 where
+-- the files of a simulation were read, by what reads them, and what they describe was printed; whether an expectation
+-- of the script is unmet
+pub record PrintsSimulation (reads : List ℕ → List ℕ → Type 0) (s : Simulation) (unmet : Bool) (old new : Known) :
+    Type 0 where
   pub site : List ℕ
   pub script : List ℕ
   pub site_read : reads (string_bytes s.site) site
   pub script_read : reads (string_bytes s.script) script
-  pub simulates : Simulates Global (telling_of s.is_traced (spelling_of s.is_named s.is_json)) site script old new
+  pub simulates :
+      Simulates Global (telling_of s.is_traced (spelling_of s.is_named s.is_json)) unmet site script old new
+
+-- so much was printed first, and messages may stand behind it
+pub record IsPrintedFirst (Printed : Known → Type 0) : Type 0 where
+  pub at_first : Known
+  pub printed : Printed at_first
+
+-- the file of a script expects nothing, whatever is read of it
+pub record FileExpectsNothing (reads : List ℕ → List ℕ → Type 0) (script : List ℕ) : Type 0 where
+  pub none : (text : List ℕ) → reads script text → HasNoExpectation Global text
 
 -- the files that a simulation writes, where they are named
 abbrev pub outputs_of : Simulation → List (Option Text)
 outputs_of s =
     option_map string_bytes s.outputs.capture ∷ option_map string_bytes s.outputs.ladder
-    ∷ option_map string_bytes s.outputs.report ∷ option_map string_bytes s.outputs.script ∷ []
+    ∷ option_map string_bytes s.outputs.report ∷ option_map string_bytes s.outputs.script
+    ∷ option_map string_bytes s.outputs.junit ∷ []
 
--- the status of a simulation: 2 for times and requests that are no numbers and for files that may not be written alone;
--- with 0 no file was written that is read or written besides, and it was printed
+-- the status of a simulation: 2 for times and requests that are no numbers and for files that may not be written alone,
+-- 4 where an expectation is unmet alone; with 0 and 4 no file was written that is read or written besides, and it was
+-- printed
 pub record IsSimulated (reads same apart : List ℕ → List ℕ → Type 0) (s : Simulation) (status : ℕ) (old new : Known) :
     Type 0 where
-  pub few : status ≤ 2
+  pub few : (status ≤ 2) ⊎ (status ≡ 4)
+  pub plain : FileExpectsNothing reads (string_bytes s.script) → status ≤ 2
   pub whole_run : s.outputs.from ≡ None → s.outputs.to ≡ None → s.outputs.request ≡ None →
-      (AreUnsafe same (string_bytes s.site) (string_bytes s.script) (outputs_of s) → ⊥) → status ≤ 1
-  pub safe : status ≡ 0 → AreSafe apart (string_bytes s.site) (string_bytes s.script) (outputs_of s)
-  pub printed : status ≡ 0 → PrintsSimulation reads s old new
+      (AreUnsafe same (string_bytes s.site) (string_bytes s.script) (outputs_of s) → ⊥) → (status ≤ 1) ⊎ (status ≡ 4)
+  pub safe : (status ≡ 0) ⊎ (status ≡ 4) → AreSafe apart (string_bytes s.site) (string_bytes s.script) (outputs_of s)
+  pub printed : status ≡ 0 → PrintsSimulation reads s false old new
+  pub unmet : status ≡ 4 → PrintsSimulation reads s true old new
 
 -- .. and it was printed on standard output, or on the standard error where a file goes to standard output
 pub record IsSimulatedBeside (reads same apart : List ℕ → List ℕ → Type 0) (s : Simulation) (status : ℕ)
     (old new err_old err_new : Known) : Type 0 where
-  pub few : status ≤ 2
+  pub few : (status ≤ 2) ⊎ (status ≡ 4)
+  pub plain : FileExpectsNothing reads (string_bytes s.script) → status ≤ 2
   pub whole_run : s.outputs.from ≡ None → s.outputs.to ≡ None → s.outputs.request ≡ None →
-      (AreUnsafe same (string_bytes s.site) (string_bytes s.script) (outputs_of s) → ⊥) → status ≤ 1
-  pub safe : status ≡ 0 → AreSafe apart (string_bytes s.site) (string_bytes s.script) (outputs_of s)
-  pub printed : status ≡ 0 → AreNotStandard (outputs_of s) → PrintsSimulation reads s old new
-  pub beside : status ≡ 0 → (AreNotStandard (outputs_of s) → ⊥) → PrintsSimulation reads s err_old err_new
+      (AreUnsafe same (string_bytes s.site) (string_bytes s.script) (outputs_of s) → ⊥) → (status ≤ 1) ⊎ (status ≡ 4)
+  pub safe : (status ≡ 0) ⊎ (status ≡ 4) → AreSafe apart (string_bytes s.site) (string_bytes s.script) (outputs_of s)
+  pub printed : status ≡ 0 → AreNotStandard (outputs_of s) → PrintsSimulation reads s false old new
+  pub beside : status ≡ 0 → (AreNotStandard (outputs_of s) → ⊥) → PrintsSimulation reads s false err_old err_new
+  pub unmet : status ≡ 4 → AreNotStandard (outputs_of s) → PrintsSimulation reads s true old new
+  pub unmet_beside : status ≡ 4 → (AreNotStandard (outputs_of s) → ⊥) →
+      IsPrintedFirst (λ at. PrintsSimulation reads s true err_old at)
 
 -- the files of a live run were read, by what reads them, and what came of the run was printed
 pub record PrintsLive (reads : List ℕ → List ℕ → Type 0) (r : LiveRun) (old new : Known) : Type 0 where
@@ -95,25 +116,29 @@ pub record PrintsLive (reads : List ℕ → List ℕ → Type 0) (r : LiveRun) (
 abbrev pub capture_of : LiveRun → List (Option Text)
 capture_of r = option_map string_bytes r.capture ∷ []
 
--- the status of a live run: 2 for a time that is none and for files that may not be written alone; with 0 no file was
--- written that is read besides, and it was printed
+-- the status of a live run: 2 for a time that is none and for files that may not be written alone, 4 where an
+-- expectation is unmet alone; with 0 and 4 no file was written that is read besides, and it was printed
 pub record IsLive (reads same apart : List ℕ → List ℕ → Type 0) (r : LiveRun) (status : ℕ) (old new : Known) :
     Type 0 where
-  pub few : status ≤ 2
+  pub few : (status ≤ 2) ⊎ (status ≡ 4)
+  pub plain : FileExpectsNothing reads (string_bytes r.script) → status ≤ 2
   pub with_script : r.seconds ≡ None →
-      (AreUnsafe same (string_bytes r.site) (string_bytes r.script) (capture_of r) → ⊥) → status ≤ 1
-  pub safe : status ≡ 0 → AreSafe apart (string_bytes r.site) (string_bytes r.script) (capture_of r)
-  pub printed : status ≡ 0 → PrintsLive reads r old new
+      (AreUnsafe same (string_bytes r.site) (string_bytes r.script) (capture_of r) → ⊥) → (status ≤ 1) ⊎ (status ≡ 4)
+  pub safe : (status ≡ 0) ⊎ (status ≡ 4) → AreSafe apart (string_bytes r.site) (string_bytes r.script) (capture_of r)
+  pub printed : (status ≡ 0) ⊎ (status ≡ 4) → PrintsLive reads r old new
 
 -- .. and it was printed on standard output, or on the standard error where its capture goes to standard output
 pub record IsLiveBeside (reads same apart : List ℕ → List ℕ → Type 0) (r : LiveRun) (status : ℕ)
     (old new err_old err_new : Known) : Type 0 where
-  pub few : status ≤ 2
+  pub few : (status ≤ 2) ⊎ (status ≡ 4)
+  pub plain : FileExpectsNothing reads (string_bytes r.script) → status ≤ 2
   pub with_script : r.seconds ≡ None →
-      (AreUnsafe same (string_bytes r.site) (string_bytes r.script) (capture_of r) → ⊥) → status ≤ 1
-  pub safe : status ≡ 0 → AreSafe apart (string_bytes r.site) (string_bytes r.script) (capture_of r)
-  pub printed : status ≡ 0 → AreNotStandard (capture_of r) → PrintsLive reads r old new
+      (AreUnsafe same (string_bytes r.site) (string_bytes r.script) (capture_of r) → ⊥) → (status ≤ 1) ⊎ (status ≡ 4)
+  pub safe : (status ≡ 0) ⊎ (status ≡ 4) → AreSafe apart (string_bytes r.site) (string_bytes r.script) (capture_of r)
+  pub printed : (status ≡ 0) ⊎ (status ≡ 4) → AreNotStandard (capture_of r) → PrintsLive reads r old new
   pub beside : status ≡ 0 → (AreNotStandard (capture_of r) → ⊥) → PrintsLive reads r err_old err_new
+  pub unmet_beside : status ≡ 4 → (AreNotStandard (capture_of r) → ⊥) →
+      IsPrintedFirst (λ at. PrintsLive reads r err_old at)
 
 -- a file was read, if one is named
 abbrev pub IsReadIfNamed : (List ℕ → List ℕ → Type 0) → Option (List ℕ) → Option (List ℕ) → Type 0

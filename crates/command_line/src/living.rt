@@ -1,16 +1,18 @@
 //! What is done for the command line of a live run.
 
-ghost use Rattle.std.specs.Prelude.{◌≡◌, ◌≤◌, None, IsSome};
+ghost use Rattle.std.specs.Prelude.{◌≡◌, ◌≤◌, ◌⊎◌, None, IsSome};
 ghost use Rattle.std.specs.Global.{Global};
 ghost use Rattle.command_line.specs.Program as spec;
 ghost use Rattle.command_tools.specs.Words.{shown};
 ghost use Rattle.site_capture.specs.site_live.Runs.{RunsLive};
+ghost use Rattle.site_capture.specs.site_run.script.Expecting.{HasNoExpectation};
 
 use crate::faults::{Texts, say_live_faults};
 use crate::program::texts_of;
 use crate::spelling::spelling_of;
 use command_files::{
-    Files, LateFile, Use, WHOLE_NUMBER, are_safe, is_any_standard, say_faulty_word, say_file_fault,
+    Files, LateFile, Use, WHOLE_NUMBER, are_safe, input_name, is_any_standard, say_faulty_word,
+    say_file_fault,
 };
 use command_order::LiveRun;
 use command_tools::ended;
@@ -73,6 +75,7 @@ fn run_shown<R: Net + Clock, F: Files, W: Write, E: Write>(
 }
 
 /// Reads the files of a live run, the site first, and runs the site.
+#[tactic(auto, using(crate::proofs::EndingLaws::done_laws))]
 fn run_files<R: Net + Clock, F: Files, W: Write, E: Write>(
     host: Option<&R>,
     alloc: Global,
@@ -148,8 +151,9 @@ fn run_texts<R: Net + Clock, F: Files, W: Write, E: Write>(
     out: &mut W,
     err: &mut E,
 ) -> u8
-    ensures status { result ≤ 1 }
-    ensures lives { result ≡ 0
+    ensures status { (result ≤ 1) ⊎ (result ≡ 4) }
+    ensures plain { HasNoExpectation Global texts.entry.script.now → result ≤ 1 }
+    ensures lives { (result ≡ 0) ⊎ (result ≡ 4)
         → RunsLive Global settings.spelling settings.is_open texts.entry.site.now texts.entry.script.now
         (W.contents out.old) (W.contents out.new) }
 {
@@ -166,12 +170,13 @@ fn run_texts<R: Net + Clock, F: Files, W: Write, E: Write>(
             alloc,
             texts.site,
             texts.script,
+            Some(input_name(texts.script_name)),
             settings,
             out,
             err,
         ),
     };
-    if status != 0 {
+    if status == 1 {
         say_live_faults(host, alloc, texts, in_colour, err);
     }
     status
@@ -189,8 +194,9 @@ fn run_captured<R: Net + Clock, F: Files, W: Write, E: Write>(
     out: &mut W,
     err: &mut E,
 ) -> u8
-    ensures status { result ≤ 1 }
-    ensures lives { result ≡ 0
+    ensures status { (result ≤ 1) ⊎ (result ≡ 4) }
+    ensures plain { HasNoExpectation Global texts.entry.script.now → result ≤ 1 }
+    ensures lives { (result ≡ 0) ⊎ (result ≡ 4)
         → RunsLive Global settings.spelling settings.is_open texts.entry.site.now texts.entry.script.now
         (W.contents out.old) (W.contents out.new) }
 {
@@ -202,13 +208,14 @@ fn run_captured<R: Net + Clock, F: Files, W: Write, E: Write>(
         alloc,
         texts.site,
         texts.script,
+        Some(input_name(texts.script_name)),
         settings,
         capture,
         out,
         err,
     );
     match failure.take() {
-        Some(error) if status != 0 => { say_file_fault(name, Use::Written, &error, in_colour, err) }
+        Some(error) if status == 1 => { say_file_fault(name, Use::Written, &error, in_colour, err) }
         Some(_) | None => status,
     }
 }

@@ -1,31 +1,37 @@
 //! What is done for the command line of a simulation.
 
-ghost use Rattle.std.specs.Prelude.{◌≡◌, ◌≤◌, [], ◌∷◌, None, IsOk, map, option_map, string_bytes};
+ghost use Rattle.std.specs.Prelude.{◌≡◌, ◌≤◌, ◌⊎◌, [], ◌∷◌, false, true, None, IsOk, map, option_map, string_bytes};
 ghost use Rattle.std.specs.Global.{Global};
 ghost use Rattle.command_line.specs.Program as spec;
 ghost use Rattle.command_tools.specs.Words.{shown};
 ghost use Rattle.command_line.specs.Words as words;
 ghost use Rattle.site_capture.specs.site_run.Simulate.{Simulates};
+ghost use Rattle.site_capture.specs.site_run.script.Expecting.{HasNoExpectation};
 
 use crate::faults::{Texts, say_text_faults};
 use crate::program::texts_of;
 use crate::spelling::spelling_of;
 use command_files::{
-    Files, Use, are_safe, is_any_standard, put_in_place, say_faulty_word, say_file_fault,
-    say_if_faulty,
+    Files, Use, are_safe, input_name, is_any_standard, put_in_place, say_faulty_word,
+    say_file_fault, say_if_faulty,
 };
 use command_order::{Outputs, Simulation};
 use command_tools::ended;
 use console::say_refused;
 use json_lines::{JsonOut, Kind};
-use site_capture::{Stop, Telling, capture, plain_steps, say_stop, simulate_told};
+use junit::junit;
+use site_capture::{Stop, Telling, Verdicts, capture, plain_steps, say_stop, simulate_judged};
 use site_ladder::{Part, ladder, report};
-use std::alloc::Global;
+use std::alloc::{AllocError, Global};
 use std::io::Write;
 use tags::Fault;
 use words::{Unread, parse_u64};
 
+/// The exit status where something that a script expects didn't hold.
+const UNMET: u8 = 4;
+
 /// Runs a script at a site, and prints what comes of it: on the standard error where a file goes to standard output.
+#[tactic(auto, using(crate::proofs::BesideLaws::beside_laws))]
 pub(crate) fn sim<F: Files, W: Write, E: Write>(
     alloc: Global,
     simulation: &Simulation,
@@ -104,6 +110,7 @@ fn sim_files<F: Files, W: Write, E: Write>(
 }
 
 /// Reads the files of a simulation of which files show some requests, and runs it.
+#[tactic(auto, using(crate::proofs::EndingLaws::done_laws))]
 fn sim_part<F: Files, W: Write, E: Write>(
     alloc: Global,
     simulation: &Simulation,
@@ -150,16 +157,17 @@ fn sim_part<F: Files, W: Write, E: Write>(
 }
 
 /// The names of the files that are written, where they are named.
-fn outputs_of(outputs: &Outputs) -> [Option<&str>; 4]
+fn outputs_of(outputs: &Outputs) -> [Option<&str>; 5]
     ensures { map (λ o. option_map (λ n. n.now) o) result ≡ option_map string_bytes outputs.entry.now.capture
         ∷ option_map string_bytes outputs.entry.now.ladder ∷ option_map string_bytes outputs.entry.now.report
-        ∷ option_map string_bytes outputs.entry.now.script ∷ [] }
+        ∷ option_map string_bytes outputs.entry.now.script ∷ option_map string_bytes outputs.entry.now.junit ∷ [] }
 {
     [
         outputs.capture.as_deref(),
         outputs.ladder.as_deref(),
         outputs.report.as_deref(),
         outputs.script.as_deref(),
+        outputs.junit.as_deref(),
     ]
 }
 
@@ -233,11 +241,14 @@ fn sim_texts<F: Files, W: Write, E: Write>(
     out: &mut W,
     err: &mut E,
 ) -> u8
-    ensures status { result ≤ 1 }
+    ensures status { (result ≤ 1) ⊎ (result ≡ 4) }
+    ensures plain { HasNoExpectation Global script.now → result ≤ 1 }
     ensures simulates { result ≡ 0 → Simulates Global
         (spec.telling_of simulation.now.is_traced (words.spelling_of simulation.now.is_named simulation.now.is_json))
-        site.now script.now
-        (W.contents out.old) (W.contents out.new) }
+        false site.now script.now (W.contents out.old) (W.contents out.new) }
+    ensures unmet { result ≡ 4 → Simulates Global
+        (spec.telling_of simulation.now.is_traced (words.spelling_of simulation.now.is_named simulation.now.is_json))
+        true site.now script.now (W.contents out.old) (W.contents out.new) }
 {
     let spelling = spelling_of(simulation.is_named, simulation.is_json);
     let telling = if simulation.is_traced {
@@ -245,8 +256,9 @@ fn sim_texts<F: Files, W: Write, E: Write>(
     } else {
         Telling::entries(spelling)
     };
-    let status = simulate_told(alloc, alloc, site, script, telling, out, err);
-    if status != 0 {
+    let judged = simulate_judged(alloc, alloc, site, script, telling, out, err);
+    let status = judged.status;
+    if status != 0 && status != UNMET {
         let texts = Texts {
             site_name: simulation.site.as_str(),
             site,
@@ -256,16 +268,49 @@ fn sim_texts<F: Files, W: Write, E: Write>(
         say_text_faults(alloc, texts, in_colour, err);
         return status;
     }
-    write_all(
+    let name = input_name(simulation.script.as_str());
+    let _ = judged.verdicts.tell_unmet(Some(name), err);
+    let outputs = &simulation.outputs;
+    let written = write_junit(
         alloc,
-        site,
-        script,
-        &simulation.outputs,
-        part,
+        name,
+        outputs,
+        &judged.verdicts,
         files,
         in_colour,
         err,
-    )
+    );
+    if written != 0 {
+        return written;
+    }
+    let written = write_all(alloc, site, script, outputs, part, files, in_colour, err);
+    if written != 0 {
+        return written;
+    }
+    status
+}
+
+/// Writes the report of what the script of this name expects, where a file is named for it, and answers the exit
+/// status.
+fn write_junit<F: Files, E: Write>(
+    alloc: Global,
+    script: &str,
+    outputs: &Outputs,
+    verdicts: &Verdicts<Global>,
+    files: &F,
+    in_colour: bool,
+    err: &mut E,
+) -> u8
+    ensures { result ≤ 1 }
+{
+    let Some(name) = &outputs.junit else {
+        return 0;
+    };
+    let made = match junit(alloc, script, verdicts) {
+        Ok(report) => Ok(report),
+        Err(AllocError) => Err(Stop::Refused(Fault::Memory)),
+    };
+    write_file(alloc, name, made, None, files, in_colour, err)
 }
 
 /// Writes the files that are named: a capture, a ladder, a report and a script, and answers the exit status.

@@ -16,6 +16,10 @@ with_files app =
     with_rule (with_rule (with_rule (with_rule app capture_rule) (option_rule (codes "ladder")))
     (option_rule (codes "report"))) script_file_rule
 
+-- .. with the report of what the script expects
+abbrev pub with_junit : App → App
+with_junit app = with_rule app (option_rule (codes "junit"))
+
 -- .. with the times between which ladder and report show it
 abbrev pub with_times : App → App
 with_times app = with_rule (with_rule app (option_rule (codes "from"))) (option_rule (codes "to"))
@@ -25,9 +29,10 @@ abbrev pub with_choice : App → App
 with_choice app = with_rule (with_rule app (option_rule (codes "only"))) (option_rule (codes "request"))
 
 -- the subcommand that runs a script at a site: sim SITE SCRIPT, with a trace, as JSON, by names, with files of a
--- capture, a ladder, a report and a script, and the part of the run that ladder and report show
+-- capture, a ladder, a report, a script and a report of what is expected, and the part of the run that ladder and
+-- report show
 abbrev pub sim : App
-sim = with_choice (with_times (with_files printed))
+sim = with_choice (with_times (with_junit (with_files printed)))
 
 -- the files are those that are named, and the part is the one that is given
 pub record AreOutputsOf (rows : List Row) (o : Outputs) : Type 0 where
@@ -35,6 +40,7 @@ pub record AreOutputsOf (rows : List Row) (o : Outputs) : Type 0 where
   pub ladder : option_map string_bytes o.ladder ≡ first_of (codes "ladder") rows
   pub report : option_map string_bytes o.report ≡ first_of (codes "report") rows
   pub script : option_map string_bytes o.script ≡ first_of (codes "file") rows
+  pub junit : option_map string_bytes o.junit ≡ first_of (codes "junit") rows
   pub from : option_map string_bytes o.from ≡ first_of (codes "from") rows
   pub to : option_map string_bytes o.to ≡ first_of (codes "to") rows
   pub only : option_map string_bytes o.only ≡ first_of (codes "only") rows

@@ -37,6 +37,8 @@ pub struct Outputs {
     pub report: Option<String>,
     /// The name of a file for a script of all that happened, event by event.
     pub script: Option<String>,
+    /// The name of a file for a report of what the script expects.
+    pub junit: Option<String>,
     /// The time at which picture and page begin, in milliseconds.
     pub from: Option<String>,
     /// The time at which they end, in milliseconds.
@@ -73,6 +75,7 @@ fn outputs_in(alloc: Global, matches: &ArgMatches<'_>) -> Result<Outputs, AllocE
         ladder: optional_word(alloc, matches, "ladder")?,
         report: optional_word(alloc, matches, "report")?,
         script: optional_word(alloc, matches, "file")?,
+        junit: optional_word(alloc, matches, "junit")?,
         from: optional_word(alloc, matches, "from")?,
         to: optional_word(alloc, matches, "to")?,
         only: optional_word(alloc, matches, "only")?,
@@ -86,7 +89,10 @@ pub(crate) fn sim<'a>(alloc: Global) -> Result<Command<'a>, AllocError>
 {
     with_choice(
         alloc,
-        with_times(alloc, with_files(alloc, printed(alloc)?)?)?,
+        with_times(
+            alloc,
+            with_junit(alloc, with_files(alloc, printed(alloc)?)?)?,
+        )?,
     )
 }
 
@@ -130,6 +136,18 @@ fn with_files<'a>(alloc: Global, command: Command<'a>) -> Result<Command<'a>, Al
             alloc,
             "Writes what happened, an event on each line, to a file that `sim` runs",
         ))
+}
+
+/// A command with the report of what the script expects.
+fn with_junit<'a>(alloc: Global, command: Command<'a>) -> Result<Command<'a>, AllocError>
+    ensures { IfOk result (λ c. app_of c ≡ spec.with_junit (app_of command.entry)) }
+{
+    command.arg(option(
+        alloc,
+        "junit",
+        "FILE",
+        "Writes a JUnit report: a test case for each `expect` of the script",
+    ))
 }
 
 /// A command with the times between which picture and page show a run.

@@ -65,4 +65,5 @@ marked {A} found seen ss n some is same none =
 -- .. and the status is no more than 1
 pub plain_status : {A : Type 0} (b : Bool) (status : ℕ) (ss : List (Step A)) → (ExpectNothing ss → b ≡ false) →
     (b ≡ false → status ≡ 0) → ExpectNothing ss → status ≤ 1
-plain_status b status ss nothing plain none = let zero = plain (nothing none) in omega (arith, zero)
+plain_status b status ss nothing plain none =
+    let is_zero : status ≡ 0 = plain (nothing none) in omega (arith, is_zero)

@@ -9,5 +9,5 @@ returns-then-not-is_any_standard g c =
 
 pub returns : goal.returns
 returns g c =
-    failed_beside _ _ _ _ _ _ _ _ _ _ (λ ended. omega (arith, ended, c.if-status-eq0.false))
-    c.sim_shown-status.ensures
+    failed_beside _ _ _ _ _ _ _ _ _ _ _ c.outputs_of.ensures (c.is_any_standard.ensures.any (search rules))
+    (λ ended. omega (arith, ended, c.if-status-eq0.false)) c.sim_shown-status.ensures
