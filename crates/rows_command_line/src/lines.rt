@@ -240,6 +240,17 @@ const RESTARTS: &str = "restart d\nrestart d\n";
 const SCRIPT_AND_RESTARTS: &str =
     "whois c\nflow 50\nissue c 10 write 5:1 85 enum 1\nflow 50\nrestart d\nrestart d\n";
 
+/// What it expects holds, but for the last line.
+const UNMET_SCRIPT: &str =
+    "whois c\nflow 50\nissue c 10 write 5:1 85 enum 1\nflow 50\nexpect answered 0 done\nexpect executed 0 never\n";
+
+/// The report of that.
+const REPORT: &str = "<?xml version=\"1.0\" encoding=\"UTF-8\"?>\n\
+    <testsuite name=\"unmet.script\" tests=\"2\" failures=\"1\" errors=\"0\">\n  \
+    <testcase classname=\"unmet.script\" name=\"line 5: expect answered 0 done\"/>\n  \
+    <testcase classname=\"unmet.script\" name=\"line 6: expect executed 0 never\">\
+    <failure message=\"found 52 answered 0 done\"/></testcase>\n</testsuite>\n";
+
 /// The third line asks for nothing.
 const NO_SCRIPT: &str = "whois c\nflow 50\ndeliver x\n";
 
@@ -254,11 +265,12 @@ const CAPTURE: &[u8] = &[
 ];
 
 /// Files, and what they hold.
-pub(crate) fn disk_texts() -> [(&'static str, &'static [u8]); 7] {
+pub(crate) fn disk_texts() -> [(&'static str, &'static [u8]); 8] {
     [
         ("p.toml", SITE.as_bytes()),
         ("none.toml", NO_SITE.as_bytes()),
         ("live.script", SCRIPT.as_bytes()),
+        ("unmet.script", UNMET_SCRIPT.as_bytes()),
         ("-", UNENDED_SCRIPT.as_bytes()),
         ("old.svg", b"as it was\n"),
         ("old.svg.part0", b"of another program\n"),
@@ -269,10 +281,11 @@ pub(crate) fn disk_texts() -> [(&'static str, &'static [u8]); 7] {
 /// What a file of pcapng begins with: the type of its first block.
 const SECTION: &[u8] = &[0x0A, 0x0D, 0x0D, 0x0A];
 
-/// Twelve files, `p.toml`, `none.toml`, `one.toml`, `live.script`, `unended.script`, `named.script`, `numbered.script`,
-/// `reading.script`, `refused.script`, `empty.script`, `bad.script` and `one.pcap`, which is also standard input where
-/// that is read piece by piece; and six that may be written: `storm.script`; `restarts.script` and `behind.script` if
-/// they hold just these texts; and `live.pcapng`, `live.svg` and `live.html` if they begin as such files do.
+/// Thirteen files, `p.toml`, `none.toml`, `one.toml`, `live.script`, `unmet.script`, `unended.script`, `named.script`,
+/// `numbered.script`, `reading.script`, `refused.script`, `empty.script`, `bad.script` and `one.pcap`, which is also
+/// standard input where that is read piece by piece; and seven that may be written: `storm.script`; `restarts.script`,
+/// `behind.script` and `live.xml` if they hold just these texts; and `live.pcapng`, `live.svg` and `live.html` if they
+/// begin as such files do.
 #[derive(Clone, Copy)]
 pub(crate) struct Texts;
 
@@ -304,6 +317,7 @@ impl Files for Texts {
             "none.toml" => Ok(NO_SITE.as_bytes()),
             "one.toml" => Ok(SITE_OF_CAPTURE.as_bytes()),
             "live.script" => Ok(SCRIPT.as_bytes()),
+            "unmet.script" => Ok(UNMET_SCRIPT.as_bytes()),
             "unended.script" => Ok(UNENDED_SCRIPT.as_bytes()),
             "named.script" => Ok(NAMED_SCRIPT.as_bytes()),
             "reading.script" => Ok(READING_SCRIPT.as_bytes()),
@@ -324,6 +338,7 @@ impl Files for Texts {
             "live.pcapng" if octets.starts_with(SECTION) => Ok(()),
             "live.svg" if octets.starts_with(b"<svg ") => Ok(()),
             "live.html" if octets.starts_with(b"<!DOCTYPE html>") => Ok(()),
+            "live.xml" if octets == REPORT.as_bytes() => Ok(()),
             _ => Err(io::ErrorKind::PermissionDenied.into()),
         }
     }

@@ -70,6 +70,7 @@ fn run_at(rt: &HostRuntime, row: &Row, base: u16) -> io::Result<(String, String)
         &memory,
         site.as_bytes(),
         row.happens.as_bytes(),
+        None,
         SETTINGS,
         &mut out,
         &mut err,
