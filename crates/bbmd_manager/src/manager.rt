@@ -61,6 +61,13 @@ impl<A: Allocator + Copy> Bbmd<A> {
         self.moment
     }
 
+    /// Its tables (J.4.3, J.5.2).
+    pub fn tables(&self) -> &ManagerTables<A>
+        ensures { result.now ≡ self.now.tables }
+    {
+        &self.tables
+    }
+
     /// An equal manager, in the same memory.
     ///
     /// # Errors

@@ -2,7 +2,7 @@
 
 use crate::plan::{ClientChange, ClientPlan, ClientTold};
 use bindings::{Binding, binding_of, mark_refused, put_binding};
-use client_tsm::{ClientTsm, ClientTsmPlan};
+use client_tsm::{ClientTsm, ClientTsmPlan, Transaction};
 use npdu::{Mac, Station};
 use profile::LinkKind;
 use std::alloc::{AllocError, Allocator};
@@ -90,6 +90,13 @@ impl<A: Allocator + Copy> Client<A> {
         ensures { result ≡ spec.binding_of instance self.now.bindings }
     {
         binding_of(self.bindings.as_slice(), instance)
+    }
+
+    /// Its requests that have neither an answer nor an end (5.4.4).
+    pub fn open_requests(&self) -> &[Transaction<A>]
+        ensures { result.now ≡ self.now.machine.open_ones }
+    {
+        self.machine.open_ones()
     }
 
     /// An equal client, in the same memory.

@@ -24,6 +24,6 @@ mod saying;
 
 pub use bindings::Binding;
 pub use client::Client;
-pub use client_tsm::{Outcome, TransactionOutcome};
+pub use client_tsm::{Outcome, Transaction, TransactionOutcome};
 pub use laws::{heard_once, marked_alone, once, put_is_held};
 pub use plan::{ClientIssuePlan, ClientIssued, ClientPlan, ClientTold};

@@ -141,6 +141,13 @@ impl<A: Allocator + Copy> ClientTsm<A> {
         self.next
     }
 
+    /// The requests that have neither an answer nor an end (5.4.4).
+    pub fn open_ones(&self) -> &[Transaction<A>]
+        ensures { result.now ≡ self.now.open_ones }
+    {
+        self.open_ones.as_slice()
+    }
+
     /// An equal client, in the same memory.
     ///
     /// # Errors

@@ -65,6 +65,41 @@ impl<A: Allocator> Transaction<A> {
     ghost use Rattle.client_tsm.specs.Open.{gathers_still, goes_on, sends_still, takes};
     ghost use Rattle.client_tsm.specs.Waking.{again, is_overdue, turn_by, turn_of};
 
+    /// Its invoke ID (20.1.2.6).
+    pub fn invoke_id(&self) -> u8
+        ensures { result ≡ self.now.invoke_id }
+    {
+        self.invoke_id
+    }
+
+    /// The station that it asks.
+    pub fn station(&self) -> Station
+        ensures { result ≡ self.now.station }
+    {
+        self.station
+    }
+
+    /// What it asks.
+    pub fn request(&self) -> &Request<A>
+        ensures { result.now ≡ self.now.request }
+    {
+        &self.request
+    }
+
+    /// When it was issued, in milliseconds.
+    pub fn issued_at(&self) -> u64
+        ensures { result ≡ self.now.at }
+    {
+        self.at
+    }
+
+    /// How often it was said again from its beginning.
+    pub fn repeats(&self) -> u8
+        ensures { result ≡ self.now.repeats }
+    {
+        self.repeats
+    }
+
     /// Whether this is its invoke ID.
     pub(crate) fn has_id(&self, invoke_id: u8) -> bool
         ensures { result ≡ (self.now.invoke_id == invoke_id) }

@@ -8,7 +8,7 @@ use crate::saying::said_parcels;
 use apdu::{IAm, MaxApdu, Segmentation};
 use npdu::{Mac, Station};
 use objects::{SiteObjects, Table};
-use server_tsm::{ObjectExecutor, ServerTsm};
+use server_tsm::{ObjectExecutor, ServerTsm, SlabRecords};
 use std::alloc::{AllocError, Allocator};
 use std::marker::Model;
 use tags::Fault;
@@ -110,6 +110,13 @@ impl<A: Allocator + Copy> Device<A> {
         ensures { result.now ≡ self.now.server.table }
     {
         &self.server.executor().table
+    }
+
+    /// Returns what it remembers of the requests that it executed, in their order (5.4.5).
+    pub fn remembered(&self) -> &SlabRecords<A>
+        ensures { result.now ≡ self.now.server.records }
+    {
+        self.server.records()
     }
 
     /// An equal device, in the same memory.

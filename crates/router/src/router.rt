@@ -4,7 +4,7 @@ ghost use Rattle.std.specs.Prelude.{IsTrue, ◌↔◌};
 ghost use Rattle.router.specs.Router.{AreNumbered};
 
 use crate::plan::{PortParcel, RouterChange, RouterPlan};
-use crate::routes::Routes;
+use crate::routes::{Route, Routes};
 use npdu::Station;
 use std::alloc::{AllocError, Allocator};
 use std::marker::Model;
@@ -92,6 +92,13 @@ impl<A: Allocator + Copy> Router<A> {
         ensures few { result ≤ MAX_LEARNED_ROUTES }
     {
         self.routes.len()
+    }
+
+    /// The routes that it has learned, each with the number of its network, in the order of these (6.6.1).
+    pub fn routes(&self) -> &[(u16, Route)]
+        ensures { result.now ≡ self.now.routes }
+    {
+        self.routes.as_slice()
     }
 
     /// An equal router, in the same memory.

@@ -61,5 +61,5 @@ pub use laws::{
 pub use server::ServerTsm;
 pub use server_answers::{
     AnswerLimits, Asked, Executed, ObjectExecutor, Origin, QuietChange, RequestGathering, Saying,
-    ServerPlan, ServerPlanSaid, ServerSaid, ServerTold, WholeAnswer, write_whole,
+    ServerPlan, ServerPlanSaid, ServerSaid, ServerTold, SlabRecords, WholeAnswer, write_whole,
 };

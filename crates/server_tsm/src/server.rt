@@ -99,6 +99,13 @@ impl<E: Executor<A> + Drop, A: Allocator + Copy> ServerTsm<E, A> {
         &self.executor
     }
 
+    /// Returns what it remembers of the requests that it executed, in their order (5.4.5).
+    pub fn records(&self) -> &SlabRecords<A>
+        ensures { result.now ≡ self.now.records }
+    {
+        &self.records
+    }
+
     /// An equal server, in the same memory.
     ///
     /// # Errors

@@ -16,4 +16,4 @@ mod simulation;
 pub use flow::Flow;
 pub use laws::{events_lead, quiet_hears};
 pub use simulation::World;
-pub use world::{Event, Internetwork, LATEST_ITEMS, SaidMessage, WorldEntry};
+pub use world::{Event, Internetwork, LATEST_ITEMS, SaidMessage, SiteNode, WorldEntry};

@@ -15,9 +15,10 @@ ghost use Rattle.simulator.specs.Judged.{instances_of, judged_of};
 ghost use Rattle.simulator.specs.Runs.{Runs};
 ghost use Rattle.world.specs.Refusals.{IsRefused};
 ghost use Rattle.world.specs.Step.{IsSoundEvent, IsSoundIfAny, Steps};
-ghost use Rattle.world.specs.Tables.{HasNoTable, HasTable};
+ghost use Rattle.world.specs.Tables.{HasNoTable, HasNode, HasTable};
 ghost use Rattle.world.specs.World.{fresh_world, plain};
 ghost use Rattle.world.specs.world_log.Kept.{all_said};
+ghost use Rattle.world.specs.world_sites.Finding.{IsNobody};
 
 use crate::flow::{Flow, next_of};
 use buses::Buses;
@@ -26,7 +27,7 @@ use std::alloc::Allocator;
 use std::marker::Model;
 use tags::Fault;
 use traffic::Item;
-use world::{Event, Internetwork, SaidMessage, Site, WorldEntry};
+use world::{Event, Internetwork, SaidMessage, Site, SiteNode, WorldEntry};
 
 /// A site with its stations, all that is on its way between them, and what happened: it came about from the site's
 /// opening by events alone.
@@ -107,6 +108,14 @@ impl<A: Allocator + Copy> World<A> {
         ensures unclosed { OpenAreUnclosed (plain self.now) }
     {
         self.internetwork.history()
+    }
+
+    /// The station of a name with all that it is, or none where no station has it.
+    pub fn node(&self, name: &[u8]) -> Option<&SiteNode<A>>
+        ensures node { IfSome result (λ node. HasNode name.now self.now node.now) }
+        ensures none { IfNone result (IsNobody name.now self.now.nodes) }
+    {
+        self.internetwork.node_of(name)
     }
 
     /// The objects of the device of a name, or none where no device has it.

@@ -15,7 +15,7 @@ use Rattle.world.proofs.Standing.{all_at, some_same}
 use Rattle.world.specs.Laws.{AreSteady, IsSteady}
 use Rattle.world.specs.Refusals.{IsNowhere, RefusesItem}
 use Rattle.world.specs.Step.{addressee_of}
-use Rattle.world.specs.Tables.{HasNoTable, HasTable, tables_of}
+use Rattle.world.specs.Tables.{HasNoTable, HasNode, HasTable, tables_of}
 use Rattle.world.specs.World.{WorldState}
 use Rattle.world_sites.specs.Finding.{IsNamed, IsNobody, IsNobodyAt, IsNodeAt}
 
@@ -58,6 +58,12 @@ too_old number w item place port n fault e there at old = inr (inl (
 ))
 
 pub ruleset finding_rules = (steady_there, steady_at, nowhere_missing, nowhere_at, too_old)
+
+pub has_node : {A : Type 0} (name : List ℕ) (w : WorldState A) (place : ℕ) (n : NodeState A) →
+    IsNamed name w.nodes place n → HasNode name w n
+has_node name w place n named = record { place = place; named = named }
+
+pub ruleset node_rules = (has_node)
 
 -- the node of a name is one alone
 one_named : {A : Type 0} (name : List ℕ) (ns : List (NodeState A)) (p q : ℕ) (n m : NodeState A) →

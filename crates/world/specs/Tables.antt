@@ -19,6 +19,11 @@ pub record HasTable {A : Type 0} (name : List ℕ) (w : WorldState A) (table : P
   pub named : IsNamed name w.nodes place n
   pub table_is : tables_of n.part ≡ table ∷ []
 
+-- the node of this name
+pub record HasNode {A : Type 0} (name : List ℕ) (w : WorldState A) (n : NodeState A) : Type 0 where
+  pub place : ℕ
+  pub named : IsNamed name w.nodes place n
+
 -- no device has this name
 pub record HasNoTable {A : Type 0} (name : List ℕ) (w : WorldState A) : Type 0 where
   pub none : (table : PlainTable A) → HasTable name w table → ⊥

@@ -6,7 +6,7 @@ ghost use Rattle.traffic.specs.Seeking.{is_young};
 ghost use Rattle.world.specs.Laws.{IsSteady};
 ghost use Rattle.world.specs.Refusals.{RefusesItem};
 ghost use Rattle.world.specs.Step as spec;
-ghost use Rattle.world.specs.Tables.{HasNoTable, HasTable};
+ghost use Rattle.world.specs.Tables.{HasNoTable, HasNode, HasTable};
 ghost use Rattle.world_sites.specs.Finding.{IsNamed, IsNobody, IsNobodyAt, IsNodeAt};
 
 use crate::internetwork::Internetwork;
@@ -104,6 +104,18 @@ impl<A: Allocator + Copy> Internetwork<A> {
             port,
             node,
         })
+    }
+
+    /// Returns the node of a name, with all that it is.
+    #[tactic(auto, using(crate::proofs::FindingLaws::node_rules))]
+    pub fn node_of(&self, name: &[u8]) -> Option<&SiteNode<A>>
+        ensures node { IfSome result (λ node. HasNode name.now self.now node.now) }
+        ensures none { IfNone result (IsNobody name.now self.now.nodes) }
+    {
+        let Some(NamedNode { node, .. }) = self.named(name) else {
+            return None;
+        };
+        Some(node)
     }
 
     /// Returns the objects of the device of a name.

@@ -29,5 +29,5 @@ pub use happening::Happening;
 pub use internetwork::{Internetwork, LATEST_ITEMS};
 pub use listener::Listener;
 pub use site_events::Event;
-pub use world_log::{SaidMessage, WorldEntry};
+pub use world_log::{SaidMessage, SiteNode, WorldEntry};
 pub use world_sites::{NodeId, Site, at_address};
