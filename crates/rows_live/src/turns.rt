@@ -231,7 +231,8 @@ fn event_of<'m>(step: Step<Memory<'m>>) -> Option<Event<Memory<'m>>>
         Step::Happens(Event::Deliver(_) | Event::Hear { .. })
         | Step::Flow(_)
         | Step::Disturbs(_)
-        | Step::Expects(_) => None,
+        | Step::Expects(_)
+        | Step::Shows(_) => None,
         Step::Happens(event) => { if event.is_sound() { Some(event) } else { None } }
     }
 }

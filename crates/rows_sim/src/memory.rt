@@ -140,7 +140,7 @@ fn take_step<A: Allocator + Copy>(
     match step {
         Step::Happens(event) => make(given, memory, worlds, &event),
         Step::Flow(n) => flow(given, memory, worlds, n),
-        Step::Disturbs(_) | Step::Expects(_) => Err(Stop::Unread(Part::Asked)),
+        Step::Disturbs(_) | Step::Expects(_) | Step::Shows(_) => Err(Stop::Unread(Part::Asked)),
     }
 }
 

@@ -302,7 +302,9 @@ fn take_steps<A: Allocator + Copy>(
         match step {
             Step::Happens(event) => take(world, &event)?,
             Step::Flow(n) => flow(world, n)?,
-            Step::Disturbs(_) | Step::Expects(_) => return Err(Stop::Unread(Part::Asked)),
+            Step::Disturbs(_) | Step::Expects(_) | Step::Shows(_) => {
+                return Err(Stop::Unread(Part::Asked));
+            }
         }
     }
     Ok(())

@@ -52,6 +52,7 @@ fn push_step<A: Allocator>(step: &Step<A>, out: &mut String) -> Result<(), Stop>
         Step::Flow(milliseconds) => Ok(write!(out, "flow {milliseconds}")?),
         Step::Disturbs(fault) => Ok(write!(out, "{fault}")?),
         Step::Expects(expected) => Ok(write!(out, "{expected}")?),
+        Step::Shows(name) => push_named("state ", name.as_slice(), out),
     }
 }
 

@@ -111,7 +111,7 @@ fn take_step<A: Allocator + Copy>(world: &mut World<A>, step: Step<A>) -> Result
             }
         }
         Step::Flow(n) => flow(world, n),
-        Step::Disturbs(_) | Step::Expects(_) => Err(Fault::NoSuch),
+        Step::Disturbs(_) | Step::Expects(_) | Step::Shows(_) => Err(Fault::NoSuch),
     }
 }
 

@@ -78,6 +78,7 @@ sound_one (step.Happens (event.Restart name)) fit = tt
 sound_one (step.Flow n) fit = tt
 sound_one (step.Disturbs f) fit = tt
 sound_one (step.Expects e) fit = tt
+sound_one (step.Shows name) fit = tt
 
 pub sound_all : {A : Type 0} (steps : List (Step A)) → AllByRecursion IsFitStep steps → AllByRecursion IsSoundStep steps
 sound_all [] fit = tt

@@ -165,6 +165,7 @@ data Order : Type 0 where
   delay : Order
   damage : Order
   expect : Order
+  state : Order
 
 abbrev word_of : Order → List ℕ
 word_of issue = codes "issue"
@@ -181,6 +182,7 @@ word_of repeat = codes "repeat"
 word_of delay = codes "delay"
 word_of damage = codes "damage"
 word_of expect = codes "expect"
+word_of state = codes "state"
 
 abbrev order_of_fault : {A : Type 0} → NetworkFault A → Order
 order_of_fault (fault.Lose count m) = lose
@@ -202,13 +204,15 @@ order (step.Happens (event.Restart name)) = restart
 order (step.Flow n) = flow
 order (step.Disturbs f) = order_of_fault f
 order (step.Expects e) = expect
+order (step.Shows name) = state
 
 -- such a word is known by its first character and its length
 abbrev order_by : ℕ → Order
 order_by n = if n == 1385 then issue else if n == 1399 then whois else if n == 1140 then tick else if n == 1143 then wake
     else if n == 1892 then deliver else if n == 1128 then hear else if n == 2162 then register
     else if n == 1906 then restart else if n == 1132 then lose else if n == 1650 then repeat
-    else if n == 1380 then delay else if n == 1636 then damage else if n == 1637 then expect else flow
+    else if n == 1380 then delay else if n == 1636 then damage else if n == 1637 then expect else if n == 1395 then state
+    else flow
 
 abbrev known_by : List ℕ → Order
 known_by word = order_by (slice_index word 0 + 256 * length word)
@@ -228,6 +232,7 @@ known repeat = refl
 known delay = refl
 known damage = refl
 known expect = refl
+known state = refl
 
 fault_word_is : {A : Type 0} (f : NetworkFault A) → fault_word f ≡ word_of (order_of_fault f)
 fault_word_is (fault.Lose count m) = refl
@@ -249,6 +254,7 @@ word_is (step.Happens (event.Restart name)) = refl
 word_is (step.Flow n) = refl
 word_is (step.Disturbs f) = fault_word_is f
 word_is (step.Expects e) = refl
+word_is (step.Shows name) = refl
 
 -- words that say nothing which may stand behind this one
 abbrev NoRest : (A : Type 0) → List ℕ → Order → Type 0
@@ -266,6 +272,7 @@ NoRest A words repeat = NoMessage words
 NoRest A words delay = NoDelay words
 NoRest A words damage = NoMessage words
 NoRest A words expect = NoExpectation A words
+NoRest A words state = NoName words
 
 no_fault : {A : Type 0} (words : List ℕ) (f : NetworkFault A) → NoRest A words (order_of_fault f) → SaysFault words f → ⊥
 no_fault words (fault.Lose count m) none s = none.none (fault.Lose count m) s
@@ -287,6 +294,7 @@ unsaid words (step.Happens (event.Restart name)) none s = none.none name s
 unsaid words (step.Flow n) none s = none.none n s
 unsaid words (step.Disturbs f) none s = no_fault words f none s
 unsaid words (step.Expects e) none s = none.none e s
+unsaid words (step.Shows name) none s = none.none name s
 
 -- where nothing that may stand behind a word does, no step is said
 no_step : (A : Type 0) (o : Order) (words : List ℕ) → before space words ≡ word_of o →
@@ -354,6 +362,10 @@ pub no_expect : (A : Type 0) (words : List ℕ) → before space words ≡ codes
     NoExpectation A (behind space words) → NoStep A words
 no_expect A words e none = no_step A expect words e none
 
+pub no_state : (A : Type 0) (words : List ℕ) → before space words ≡ codes "state" → NoName (behind space words) →
+    NoStep A words
+no_state A words e none = no_step A state words e none
+
 loses_in : {A : Type 0} (words : List ℕ) (f : NetworkFault A) → SaysLose words f →
     (fault_word f ≡ codes "lose") × SaysFault words f
 loses_in words (fault.Lose count m) s = (refl, s)
@@ -395,6 +407,7 @@ pub record IsNoOrder (word : List ℕ) : Type 0 where
   pub not_delay : word ≢ codes "delay"
   pub not_damage : word ≢ codes "damage"
   pub not_expect : word ≢ codes "expect"
+  pub not_state : word ≢ codes "state"
 
 not_ordered : (word : List ℕ) (o : Order) → IsNoOrder word → word ≡ word_of o → ⊥
 not_ordered word issue other e = other.not_issue e
@@ -411,10 +424,11 @@ not_ordered word repeat other e = other.not_repeat e
 not_ordered word delay other e = other.not_delay e
 not_ordered word damage other e = other.not_damage e
 not_ordered word expect other e = other.not_expect e
+not_ordered word state other e = other.not_state e
 
 pub no_order : (A : Type 0) (words : List ℕ) → IsNoOrder (before space words) → NoStep A words
 no_order A words other = record {
   none = λ s said. not_ordered (before space words) (order s) other (said.0.kind_is ∙ word_is s);
 }
 
-pub ruleset step_laws = (step_whole, no_order, unfit_issue, no_issue, no_whois, no_tick, no_wake, no_deliver, no_hear, no_register, no_restart, no_flow, no_lose, no_repeat, no_delay, no_damage, no_expect, loses)
+pub ruleset step_laws = (step_whole, no_order, unfit_issue, no_issue, no_whois, no_tick, no_wake, no_deliver, no_hear, no_register, no_restart, no_flow, no_lose, no_repeat, no_delay, no_damage, no_expect, no_state, loses)

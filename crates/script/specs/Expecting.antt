@@ -10,6 +10,7 @@ ExpectsNothing (step.Expects e) = ⊥
 ExpectsNothing (step.Happens e) = Unit {0}
 ExpectsNothing (step.Flow n) = Unit {0}
 ExpectsNothing (step.Disturbs f) = Unit {0}
+ExpectsNothing (step.Shows name) = Unit {0}
 
 -- no step does
 abbrev pub ExpectNothing : {A : Type 0} → List (Step A) → Type 0

@@ -66,6 +66,7 @@ order_of (step.Happens (event.Restart name)) = codes "restart"
 order_of (step.Flow n) = codes "flow"
 order_of (step.Disturbs f) = fault_word f
 order_of (step.Expects e) = codes "expect"
+order_of (step.Shows name) = codes "state"
 
 -- what stands behind that word
 abbrev pub SaysRest : {A : Type 0} → List ℕ → Step A → Type 0
@@ -80,6 +81,7 @@ SaysRest words (step.Happens (event.Restart name)) = SaysName words name
 SaysRest words (step.Flow n) = SaysUnsigned 64 words n
 SaysRest words (step.Disturbs f) = SaysFault words f
 SaysRest words (step.Expects e) = SaysExpectation words e
+SaysRest words (step.Shows name) = SaysName words name
 
 -- the words say the step
 abbrev pub SaysStep : {A : Type 0} → List ℕ → Step A → Type 0
@@ -101,3 +103,4 @@ IsSoundStep (step.Happens e) = IsSoundEvent e
 IsSoundStep (step.Flow n) = Unit {0}
 IsSoundStep (step.Disturbs f) = Unit {0}
 IsSoundStep (step.Expects e) = Unit {0}
+IsSoundStep (step.Shows name) = Unit {0}

@@ -21,8 +21,8 @@ use words::{Unread, parse_hex, parse_quoted_request, parse_u16, parse_u32, parse
 /// The step that a line asks for, as `issue c 10 read 5:1 85`,
 /// `issue c 10 write binary-value,1 present-value active`, `whois c`, `whois c 5 20`, `tick 1000`, `wake c`,
 /// `deliver 2`, `hear 2 r 55 FF 00 10 05`, `hear 2 r -`, `register f`, `restart d`, `flow 50`, `lose answer 3`,
-/// `repeat answer 3`, `delay answer 3 700`, `damage answer 3`, `expect answered 3 done within 2000` or
-/// `expect value ahu1 integer-value,1 present-value = 21`.
+/// `repeat answer 3`, `delay answer 3 700`, `damage answer 3`, `expect answered 3 done within 2000`,
+/// `expect value ahu1 integer-value,1 present-value = 21` or `state ahu1`.
 ///
 /// # Errors
 /// `Memory`, `Value` for a write of no value or of several, `Sound` for a request without a spelling, or what is
@@ -71,6 +71,7 @@ pub fn step_of<A: Allocator + Copy>(alloc: A, line: &str) -> Result<Step<A>, Unr
         }
         "damage" => return Ok(Step::Disturbs(NetworkFault::Damage(parse_message(words)?))),
         "expect" => return Ok(Step::Expects(parse_expectation(alloc, words)?)),
+        "state" => return Ok(Step::Shows(name(alloc, words)?)),
         _ => return Err(Unread::Step),
     };
     Ok(Step::Happens(event))

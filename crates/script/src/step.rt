@@ -4,6 +4,7 @@ use expectations::Expectation;
 use network_faults::NetworkFault;
 use site_events::Event;
 use std::alloc::Allocator;
+use tags::Octets;
 
 /// A step of a run. A name need not be that of a station.
 #[derive(Drop)]
@@ -17,4 +18,6 @@ pub enum Step<A: Allocator> {
     Disturbs(NetworkFault<A>),
     /// This is expected of the run so far.
     Expects(Expectation<A>),
+    /// What the station of this name is at is printed.
+    Shows(Octets<A>),
 }

@@ -59,9 +59,9 @@ pub(crate) enum Expected {
 }
 
 /// The first words of steps.
-const ORDERS: [&str; 14] = [
+const ORDERS: [&str; 15] = [
     "issue", "whois", "tick", "flow", "wake", "deliver", "hear", "register", "restart", "lose",
-    "repeat", "delay", "damage", "expect",
+    "repeat", "delay", "damage", "expect", "state",
 ];
 
 /// The first words of steps that a live run takes.

@@ -93,7 +93,7 @@ fn step<'a>(words: &mut Words<'a>) -> Result<(), Fault<'a>> {
         "hear" => hear(words)?,
         "tick" | "flow" => number(words.next(MILLISECONDS)?, MILLISECONDS)?,
         "deliver" => number(words.next(ITEM)?, ITEM)?,
-        "wake" | "register" | "restart" => name(words, STATION)?,
+        "wake" | "register" | "restart" | "state" => name(words, STATION)?,
         "lose" => loss(words)?,
         "repeat" | "damage" => message(words)?,
         "delay" => delay(words)?,

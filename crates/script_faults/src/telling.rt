@@ -94,7 +94,7 @@ fn are_live<A: Allocator>(steps: &[Step<A>]) -> bool {
 fn is_live<A: Allocator>(step: &Step<A>) -> bool {
     match step {
         Step::Happens(Event::Wake(_) | Event::Deliver(_) | Event::Hear { .. }) => false,
-        Step::Disturbs(_) | Step::Expects(Expectation::Reads { .. }) => false,
+        Step::Disturbs(_) | Step::Shows(_) | Step::Expects(Expectation::Reads { .. }) => false,
         Step::Expects(
             Expectation::Closed { .. } | Expectation::Executed { .. } | Expectation::NoneRefused,
         ) => true,

@@ -74,6 +74,7 @@ fn tell_step<A: Allocator, W: Write>(
         Step::Flow(_) => Ok(()),
         Step::Disturbs(fault) => tell_fault(number, fault, parts, out),
         Step::Expects(expected) => tell_expected(number, expected, parts, out),
+        Step::Shows(name) => tell_name(number, name.as_slice(), parts, out),
     }
 }
 

@@ -47,6 +47,7 @@ no_one (step.Expects e) none = absurd none
 no_one (step.Happens e) none = refl
 no_one (step.Flow n) none = refl
 no_one (step.Disturbs f) none = refl
+no_one (step.Shows name) none = refl
 
 -- where nothing is expected, no step has a mark
 none_marked : {A : Type 0} (ss : List (Step A)) → ExpectNothing ss → mark_in ss ≡ None

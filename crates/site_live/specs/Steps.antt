@@ -10,8 +10,8 @@ use Rattle.script.specs.declared.step.Step.{Step}
 use Rattle.script.specs.declared.step.Step.TheVariants as step
 use Rattle.site_history.specs.Printed.{or_else}
 
--- a step as a live run takes it: the events that it makes of itself, faults of the network, and what a property reads,
--- a script can't ask for
+-- a step as a live run takes it: the events that it makes of itself, faults of the network, what a property reads, and
+-- what a station is at, a script can't ask for
 abbrev pub IsLive : {A : Type 0} → Step A → Step A → Type 0
 IsLive (step.Happens (event.Issue client instance request)) s = s ≡ step.Happens (event.Issue client instance request)
 IsLive (step.Happens (event.WhoIs client limits)) s = s ≡ step.Happens (event.WhoIs client limits)
@@ -23,6 +23,7 @@ IsLive (step.Happens (event.Wake station)) s = ⊥
 IsLive (step.Happens (event.Deliver number)) s = ⊥
 IsLive (step.Happens (event.Hear network station octets)) s = ⊥
 IsLive (step.Disturbs f) s = ⊥
+IsLive (step.Shows name) s = ⊥
 IsLive (step.Expects (expected.Closed i o within)) s = s ≡ step.Expects (expected.Closed i o within)
 IsLive (step.Expects (expected.Executed i times)) s = s ≡ step.Expects (expected.Executed i times)
 IsLive (step.Expects expected.NoneRefused) s = s ≡ step.Expects expected.NoneRefused
@@ -34,6 +35,7 @@ mark_of (step.Expects e) = Some 0
 mark_of (step.Happens e) = None
 mark_of (step.Flow n) = None
 mark_of (step.Disturbs f) = None
+mark_of (step.Shows name) = None
 
 -- .. where one of the steps does
 abbrev pub mark_in : {A : Type 0} → List (Step A) → Option ℕ
@@ -80,6 +82,7 @@ asked_at (step.Happens e) = asked_by e
 asked_at (step.Flow n) = refused_at n
 asked_at (step.Disturbs f) = []
 asked_at (step.Expects e) = []
+asked_at (step.Shows name) = []
 
 -- those among steps, in their order
 abbrev pub asked_of : {A : Type 0} → List (Step A) → List (Step A)

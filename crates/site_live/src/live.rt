@@ -688,9 +688,9 @@ impl<W: Wire + Drop, T: Timer + Drop, S: Observer<A> + Drop, A: Allocator + Copy
         Ok(())
     }
 
-    /// Takes a step that a line of a script asks for: an event, 1 to 60000 ms in which the run makes its own, or what is
-    /// expected, which is judged. Events that it makes of itself, and faults of the network, it doesn't take from a
-    /// script.
+    /// Takes a step that a line of a script asks for: an event, 1 to 60000 ms in which the run makes its own, or what
+    /// is expected, which is judged. Events that it makes of itself, faults of the network, and what a station is at,
+    /// it doesn't take from a script.
     #[tactic(auto, using(crate::proofs::LiveLaws::taken_laws))]
     pub fn take_step<O: Write>(
         &mut self,
@@ -705,7 +705,8 @@ impl<W: Wire + Drop, T: Timer + Drop, S: Observer<A> + Drop, A: Allocator + Copy
     {
         match step {
             Step::Happens(Event::Tick(_) | Event::Wake(_) | Event::Deliver(_) | Event::Hear { .. })
-            | Step::Disturbs(_) => Ok(()),
+            | Step::Disturbs(_)
+            | Step::Shows(_) => Ok(()),
             Step::Happens(event) => self.take_asked(event, script_line, spelling, out),
             Step::Flow(n) => {
                 if n == 0 || n > MAX_TICK_MS {

@@ -89,6 +89,7 @@ fn fault_of<A: Allocator + Copy>(alloc: A, line: &[u8], number: usize) -> Option
             [
                 Step::Happens(Event::Wake(_) | Event::Deliver(_) | Event::Hear { .. })
                 | Step::Disturbs(_)
+                | Step::Shows(_)
                 | Step::Expects(Expectation::Reads { .. }),
             ] => Some(BadScript::Line {
                 number,

@@ -367,7 +367,7 @@ fn mark_after<A: Allocator>(mark: Option<u64>, step: &Step<A>) -> Option<u64>
 {
     match step {
         Step::Expects(_) => Some(0),
-        Step::Happens(_) | Step::Flow(_) | Step::Disturbs(_) => mark,
+        Step::Happens(_) | Step::Flow(_) | Step::Disturbs(_) | Step::Shows(_) => mark,
     }
 }
 

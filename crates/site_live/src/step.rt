@@ -8,7 +8,8 @@ use script::{Event, Expectation, Step};
 use std::alloc::Allocator;
 
 /// Returns a step as a live run takes it: nothing where it is an event that the run makes of itself, a fault of the
-/// network, or what a property is expected to read. Time that passes at once passes there as a flow does.
+/// network, what a property is expected to read, or what a station is at. Time that passes at once passes there as a
+/// flow does.
 pub(crate) fn live_step<A: Allocator>(step: Step<A>) -> Option<Step<A>>
     requires sound { IsSoundStep step }
     ensures live { IfSome result (IsLive step) }
@@ -16,7 +17,7 @@ pub(crate) fn live_step<A: Allocator>(step: Step<A>) -> Option<Step<A>>
 {
     match step {
         Step::Happens(Event::Wake(_) | Event::Deliver(_) | Event::Hear { .. }) => None,
-        Step::Disturbs(_) | Step::Expects(Expectation::Reads { .. }) => None,
+        Step::Disturbs(_) | Step::Shows(_) | Step::Expects(Expectation::Reads { .. }) => None,
         Step::Expects(expected) => Some(Step::Expects(expected)),
         Step::Happens(Event::Tick(n)) | Step::Flow(n) => Some(Step::Flow(n)),
         Step::Happens(event) => Some(Step::Happens(event)),

@@ -70,6 +70,7 @@ impl<'p, A: Allocator + Copy> Reader<'p, A> {
             Step::Flow(n) => return self.tell_milliseconds(number, *n, out),
             Step::Disturbs(fault) => return self.tell_fault(number, fault, out),
             Step::Expects(expected) => return self.tell_expected(number, expected, out),
+            Step::Shows(_) => return self.tell_offline(number, "state", out),
         };
         match event {
             Event::Issue {

@@ -44,6 +44,7 @@ module _ {A : Type 0} where
   takes_one t (step.Flow n) was now w v old new taken = taken.0
   takes_one t (step.Disturbs f) was now w v old new taken = taken.0
   takes_one t (step.Expects e) was now w v old new taken = taken.0
+  takes_one t (step.Shows name) was now w v old new taken = taken.0
 
   pub takes_all : (t : Telling) (ls : List ℕ) (ss : List (Step A)) (was now : Bool) (w v : WorldState A) (old new : Known) →
       TakesSteps t ls ss was now w v old new → PrintsSteps t ls ss w v old new
@@ -60,6 +61,7 @@ module _ {A : Type 0} where
   nothing_one t (step.Happens e) was now w v old new taken none = taken.1
   nothing_one t (step.Flow n) was now w v old new taken none = taken.1
   nothing_one t (step.Disturbs f) was now w v old new taken none = taken.1
+  nothing_one t (step.Shows name) was now w v old new taken none = taken.1
   nothing_one t (step.Expects e) was now w v old new taken none = absurd (none.0)
 
   -- where nothing is expected, nothing is unmet

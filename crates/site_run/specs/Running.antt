@@ -18,6 +18,7 @@ use Rattle.site_run.specs.Judged.{IsJudged}
 use Rattle.site_run.specs.declared.running.Telling.{Telling}
 use Rattle.site_run.specs.declared.running.Told.{Told}
 use Rattle.site_run.specs.declared.running.Told.TheVariants as telling
+use Rattle.site_states.specs.Shown.{PrintsShown}
 use Rattle.site_trace.specs.Lines.{frames_text, items_text}
 use Rattle.tags.specs.declared.fault.Fault.{Fault}
 use Rattle.tags.specs.declared.fault.Fault.TheVariants.{Memory, NoSuch}
@@ -130,6 +131,7 @@ PrintsStep t (step.Happens e) w v old new = PrintsEvent t e w v old new
 PrintsStep t (step.Flow n) w v old new = PrintsFlow t n w v old new ⊎ PrintsNoFlow t n w v old new
 PrintsStep t (step.Disturbs f) w v old new = PrintsDisturbed w v old new
 PrintsStep t (step.Expects e) w v old new = (v ≡ w) × (new ≡ old)
+PrintsStep t (step.Shows name) w v old new = (v ≡ w) × PrintsShown name w old new
 
 -- so were these steps, one after another, which lines of a script ask for that have these numbers
 abbrev pub PrintsSteps : {A : Type 0} → Telling → (lines : List ℕ) → List (Step A) → WorldState A → WorldState A →
@@ -145,6 +147,7 @@ abbrev pub TakesStep : {A : Type 0} → Telling → Step A → (was now : Bool) 
 TakesStep t (step.Happens e) was now w v old new = PrintsStep t (step.Happens e) w v old new × (now ≡ was)
 TakesStep t (step.Flow n) was now w v old new = PrintsStep t (step.Flow n) w v old new × (now ≡ was)
 TakesStep t (step.Disturbs f) was now w v old new = PrintsStep t (step.Disturbs f) w v old new × (now ≡ was)
+TakesStep t (step.Shows name) was now w v old new = PrintsStep t (step.Shows name) w v old new × (now ≡ was)
 TakesStep t (step.Expects e) was now w v old new = PrintsStep t (step.Expects e) w v old new × IsJudged e w was now
 
 -- one step was taken and is printed, and then others

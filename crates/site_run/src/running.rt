@@ -13,6 +13,7 @@ ghost use Rattle.site_run.specs.Running.{PrintsAll, PrintsDisturbed, PrintsEvent
 ghost use Rattle.site_run.specs.Running.{PrintsSteps, TakesStep, TakesSteps, told};
 ghost use Rattle.site_run.specs.Running.{trace_text};
 ghost use Rattle.site_run.specs.Running as spec;
+ghost use Rattle.site_states.specs.Shown.{PrintsShown};
 
 use crate::course::Course;
 use crate::judging::judge;
@@ -21,12 +22,13 @@ use site_history::{
     Event, FaultsInForce, FaultyFlow, World, print_entries, print_refusal, print_refused_event,
     print_refused_time,
 };
+use site_states::print_state;
 use site_trace::{print_frames, print_items};
 use site_verdicts::{Expectation, Refusals};
 use std::alloc::{AllocError, Allocator};
 use std::io;
 use std::io::{ErrorKind, Write};
-use tags::{Fault, Items};
+use tags::{Fault, Items, Octets};
 use words::Spelling;
 
 /// What is told of an event.
@@ -138,7 +140,8 @@ pub(crate) fn take_all<A: Allocator + Copy, W: Write>(
     Ok(())
 }
 
-/// Takes a step: an event, a flow of them, a fault of the network, which acts in flows, or what is expected.
+/// Takes a step: an event, a flow of them, a fault of the network, which acts in flows, what is expected, or what is
+/// shown.
 fn take_step<A: Allocator + Copy, W: Write>(
     world: &mut World<A>,
     step: Step<A>,
@@ -167,6 +170,10 @@ fn take_step<A: Allocator + Copy, W: Write>(
             expect(world, &expected, telling.line, course)?;
             Ok(())
         }
+        Step::Shows(name) => {
+            show(world, name, telling, course, out)?;
+            Ok(())
+        }
     }
 }
 
@@ -184,6 +191,26 @@ fn expect<A: Allocator + Copy>(
         Ok(()) => Ok(()),
         Err(AllocError) => Err(ErrorKind::OutOfMemory.into()),
     }
+}
+
+/// Prints what the station of a name is at, or that it is refused.
+fn show<A: Allocator + Copy, W: Write>(
+    world: &World<A>,
+    name: Octets<A>,
+    telling: Telling,
+    course: &mut Course<A>,
+    out: &mut W,
+) -> io::Result<()>
+    ensures printed { OnOk result (PrintsShown name world.now (W.contents out.old) (W.contents out.new)) }
+    ensures verdicts { course.new.verdicts ≡ course.old.verdicts }
+{
+    let name = name.into_vec();
+    let alloc = *name.allocator();
+    let refused = print_state(alloc, world, name.as_slice(), telling.spelling, out)?;
+    if let Some(fault) = refused {
+        course.refusals.put(fault, world.moment(), telling.line);
+    }
+    Ok(())
 }
 
 /// A fault of the network is in force from here on, unless there is no memory for it, which is printed.

@@ -92,8 +92,8 @@ fn take_steps<A: Allocator + Copy, V: Watcher<A>>(
     Ok(())
 }
 
-/// Takes a step: an event, a flow of them, or a fault of the network, which acts in flows. What is expected changes
-/// nothing.
+/// Takes a step: an event, a flow of them, or a fault of the network, which acts in flows. What is expected
+/// or shown changes nothing.
 fn take_step<A: Allocator + Copy, V: Watcher<A>>(
     world: &mut World<A>,
     step: Step<A>,
@@ -109,7 +109,7 @@ fn take_step<A: Allocator + Copy, V: Watcher<A>>(
             faults.put(fault, None, world.history(), world.moment())?;
             Ok(())
         }
-        Step::Expects(_) => Ok(()),
+        Step::Expects(_) | Step::Shows(_) => Ok(()),
     }
 }
 
