@@ -57,8 +57,8 @@ with_all_handed l = record {
   lap = l.lap;
 }
 
--- what was printed is handed out, unless memory is wanting; with the standard's names none is, since the request of
--- each answer is looked up in the history
+-- what was printed is handed out, unless memory is wanting, or the script expects anything, which may be of any entry;
+-- with the standard's names none is, since the request of each answer is looked up in the history
 abbrev pub HandsOut : {A : Type 0} → Spelling → (old new : LiveState A) → Type 0
 HandsOut Numbers old new = (new ≡ old) ⊎ (new ≡ with_all_handed old)
 HandsOut Names old new = new ≡ old
