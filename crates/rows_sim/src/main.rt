@@ -69,7 +69,5 @@ fn main(rt: HostRuntime) -> io::Result<()> {
     strays::run_file(&rt)?;
     rows_search::run_file(&rt)?;
     sheets::run_folder::<rows_ladder::LadderRows>(&rt, "ladder")?;
-    rows_ladder::run_file(&rt)?;
-    rows_storm::run_sites(&rt)?;
-    rows_weeks::run_weeks(&rt)
+    rows_ladder::run_file(&rt)
 }

@@ -6,7 +6,7 @@
 //! - `site.site`: the site; `meeting.script`: the client learns where the device is; `round.script`: a request, 300 ms,
 //!   and the wakes of both.
 //!
-//! The program `rows_sim` runs them.
+//! The program `rows_storm` runs them.
 //!
 //! - `weeks`: the requests, and what is kept.
 #![tactic(auto)]

@@ -1,6 +1,5 @@
--- Until when a node has nothing to do where it wakes.
-use Rattle.std.proofs.Common.{arith, ◌≡◌, ◌∙◌, ap, subst, ℕ, ◌<◌, true, List}
-use Rattle.std.specs.Prelude.{min}
+-- Until when a part has nothing to do where it wakes.
+use Rattle.std.proofs.Common.{arith, ◌≡◌, ◌∙◌, ap, ℕ, ◌<◌, true}
 use Rattle.bbmd_manager.specs.State.{ManagerState}
 use Rattle.client.specs.Client.{ClientState}
 use Rattle.client.specs.client_tsm.Waking as client
@@ -8,13 +7,9 @@ use Rattle.device.specs.Device.{DeviceState}
 use Rattle.device.specs.server_tsm.Waking as server
 use Rattle.due_times.specs.Until.{Until}
 use Rattle.router.specs.Router.{RouterState}
-use Rattle.site_node.specs.Node.{NodeState}
 use Rattle.site_node.specs.Part.{is_quiet}
-use Rattle.site_node.specs.Steps.{IsQuiet}
 use Rattle.site_node.specs.declared.part.Part.{Part}
 use Rattle.site_node.specs.declared.part.Part.TheVariants.{Device, Client, Router, Manager}
-use Rattle.site_ports.specs.Ports.{NothingIsDue}
-use Rattle.site_ports.specs.link_site.declared.port.SitePort.{SitePort}
 
 module _ {A : Type 0} where
   -- a part, by its kind
@@ -42,17 +37,4 @@ module _ {A : Type 0} where
   pub due_now : (p : Part A) → Until 0 (λ now. is_quiet now p ≡ true)
   due_now p = record { holds = λ now lt. absurd (omega (arith, lt)) }
 
-  -- a node: its part, and its ports
-  pub due_node : (part ports : ℕ) (n : NodeState A) (p : Part A) (ls : List (SitePort A)) →
-      Until part (λ now. is_quiet now p ≡ true) → Until ports (λ now. NothingIsDue now ls) → p ≡ n.part → ls ≡ n.ports →
-      Until (min part ports) (λ now. IsQuiet now n)
-  due_node part ports n p ls u v of_part of_ports = record {
-    holds = λ now lt. record {
-      part = subst (λ (q : Part A). is_quiet now q ≡ true) of_part (u.holds now (omega (arith, lt)));
-      ports = subst (λ (ms : List (SitePort A)). NothingIsDue now ms) of_ports (v.holds now (omega (arith, lt)));
-    };
-  }
-
 pub ruleset part_rules = (due_device, due_client, due_router, due_manager, due_now)
-
-pub ruleset node_rules = (due_node)

@@ -64,7 +64,6 @@ impl<A: Allocator + Copy> SiteNode<A> {
     }
 
     /// Returns a moment, in milliseconds, before which nothing is due where it wakes.
-    #[tactic(auto, using(crate::proofs::Dues::node_rules))]
     pub fn next_due(&self) -> u64
         ensures { Until result (λ now. IsQuiet now self.now) }
     {
