@@ -28,8 +28,8 @@
 //!
 //! - `client`: the client, and what changes of it.
 //! - `issuing`, `hearing`, `waking`: an issue, an APDU that is heard, a wake: what is planned, and the whole step.
-//! - `transaction`, `gathering`: a request that has no end yet, and the segments of its answer; `opened`: one that a plan
-//!   opens.
+//! - `transaction`, `gathering`: a request that has no end yet, and the segments of its answer; `opened`: one that a
+//!   plan opens.
 //! - `asking`, `said`, `plan`: what is said of a request; what is said, told and changed.
 //! - `laws`: what holds of any client, for the proofs of the layers above.
 #![tactic(auto)]

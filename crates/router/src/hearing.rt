@@ -60,10 +60,10 @@ impl<A: Allocator + Copy> Router<A> {
         Ok(out)
     }
 
-    /// Returns what it does where it hears an NPDU on the port of this number, from a station of its network to one or all
-    /// there, said at the moment `stamp`, at the moment `now`, in milliseconds: `commit` does it. One that is dropped,
-    /// for its header or its destination, takes no memory and is never refused; only one that teaches a route that it
-    /// doesn't know has its routes copied.
+    /// Returns what it does where it hears an NPDU on the port of this number, from a station of its network to one or
+    /// all there, said at the moment `stamp`, at the moment `now`, in milliseconds: `commit` does it. One that is
+    /// dropped, for its header or its destination, takes no memory and is never refused; only one that teaches a route
+    /// that it doesn't know has its routes copied.
     ///
     /// # Errors
     /// `TableFull` for an announcement behind which it would know more than `MAX_LEARNED_ROUTES` routes, or `Memory`.

@@ -3,8 +3,8 @@
 //! - `put 5`, `put 5 x 100`: a datagram that was said at this moment is put out at it, or so many are.
 //! - `mark 3`: the datagram of this number was delivered.
 //! - `cut 3`: the first so many are left.
-//! - `items forget 1001`, `items forget 1001 but 2`: datagrams that are too old to be heard at this moment are forgotten,
-//!   or all but so many of the last.
+//! - `items forget 1001`, `items forget 1001 but 2`: datagrams that are too old to be heard at this moment are
+//!   forgotten, or all but so many of the last.
 //! - `item 3`: the datagram of this number.
 //! - `next 0 9 1001`: the next from a number on and before another that waits at a moment.
 //! - `issue 2.16 7`: the station at an address of a network issues a request under an invoke ID.

@@ -200,8 +200,8 @@ fn counts_behind<A: Allocator + Copy>(
     Ok(Some(line))
 }
 
-/// Whether the counts of a storm are those of a world that keeps all behind the script that it puts down, and of the last
-/// line that is printed of it, and it puts down the same lines.
+/// Whether the counts of a storm are those of a world that keeps all behind the script that it puts down, and of the
+/// last line that is printed of it, and it puts down the same lines.
 fn is_counted(
     alloc: Global,
     site: &[u8],

@@ -148,9 +148,9 @@ impl<A: Allocator + Copy> Runner<A> {
         Ok(())
     }
 
-    /// Forgets what can no longer matter: items that are too old to be heard, but for some of the last, what is known of
-    /// frames that are, issues that a later one of their client under their invoke ID replaced, and what was said. Each
-    /// list is looked through once about half of it can go, so it may be called behind each turn.
+    /// Forgets what can no longer matter: items that are too old to be heard, but for some of the last, what is known
+    /// of frames that are, issues that a later one of their client under their invoke ID replaced, and what was said.
+    /// Each list is looked through once about half of it can go, so it may be called behind each turn.
     pub fn forget(&mut self)
         ensures forgets { Forgets self.old.world self.new.world }
         ensures rest { self.new ≡ record self.old { world = self.new.world; is_whole = false } }

@@ -311,8 +311,8 @@ impl<W: Wire + Drop, T: Timer + Drop, S: Observer<A> + Drop, A: Allocator + Copy
         }
     }
 
-    /// Hands out what was printed, and counts it, or leaves it where memory is wanting, or where an expectation may look
-    /// at it.
+    /// Hands out what was printed, and counts it, or leaves it where memory is wanting, or where an expectation may
+    /// look at it.
     ///
     /// # Errors
     /// Where there are too many entries to be counted.

@@ -149,7 +149,8 @@ fn take_script<A: Allocator + Copy>(
     numbers: LineNumbers<'_>,
 ) -> io::Result<()>
     requires sound { AllByRecursion IsSoundStep steps }
-    ensures { OnOk result (PrintsSteps (entries_in Spelling.Numbers) numbers.entry steps world.old world.new None None) }
+    ensures { OnOk result
+        (PrintsSteps (entries_in Spelling.Numbers) numbers.entry steps world.old world.new None None) }
 {
     let mut unwritten = Unwritten;
     let telling = Telling::entries(Spelling::Numbers);

@@ -31,7 +31,8 @@ fn next_kept<A: Allocator + Copy>(
     None
 }
 
-/// Any of the last items that was delivered, or wasn't and isn't lost. Seldom it is too old: none of these is forgotten.
+/// Any of the last items that was delivered, or wasn't and isn't lost. Seldom it is too old: none of these is
+/// forgotten.
 fn any_item<A: Allocator + Copy>(
     storm: &mut Storm,
     world: &Internetwork<A>,

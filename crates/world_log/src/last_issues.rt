@@ -164,8 +164,8 @@ impl<A: Allocator + Copy> LastIssues<A> {
         self.ready = None;
     }
 
-    /// Forgets the issues that a later one of their key replaced, once there are as many more as were kept the last time.
-    /// Where memory is wanted it forgets none.
+    /// Forgets the issues that a later one of their key replaced, once there are as many more as were kept the last
+    /// time. Where memory is wanted it forgets none.
     #[tactic(auto, using(crate::proofs::IssueLaws::forgetting_rules))]
     pub fn forget(&mut self)
         ensures { KeepsKeys self.old.keys self.new.keys }
