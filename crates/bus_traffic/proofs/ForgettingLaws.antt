@@ -1,7 +1,6 @@
 -- What a bus has left where it forgets is kept of it, and each frame is known once.
 use Rattle.std.proofs.Common.{◌≡◌, ◌∙◌, inl, inr, refl, sym, ap, subst, arith, ℕ, ◌+◌, ◌*◌, ◌≤◌, ◌<◌, Bool, true, false, List, [], ◌∷◌, length}
-use Rattle.std.specs.Prelude.{◌&&◌, ◌⊎◌, Option, Some, None, bytes_eq, cond, if◌then◌else◌}
-use Rattle.std.specs.List.{filter}
+use Rattle.std.specs.Prelude.{◌&&◌, ◌⊎◌, Option, Some, None, bytes_eq, cond}
 use Rattle.std.proofs.lemmas.Bool.{leb-false, lt-leb}
 use Rattle.profile.specs.Ages.{is_heard_in_time}
 use Rattle.profile.specs.Times.{LIFE_MS}
@@ -9,9 +8,8 @@ use Rattle.bus_traffic.proofs.Places.{learned_first}
 use Rattle.bus_traffic.proofs.RememberLaws.{known_first, known_next, known_other, learned_next}
 use Rattle.bus_traffic.proofs.YoungestLaws.{other, same, same_is}
 use Rattle.bus_traffic.specs.Bus.{BusState}
-use Rattle.bus_traffic.specs.Forgetting.{ForgetsKnown, ForgetsOn, KeepsBus, KeepsKnown, KeepsStamp}
-use Rattle.bus_traffic.specs.Sendings.{AreKnownOnce, aged, are_known_once, is_unknown, is_young, known_of, learned, young, young_known}
-use Rattle.bus_traffic.specs.declared.ear.Ear.{Ear}
+use Rattle.bus_traffic.specs.Forgetting.{ForgetsKnown, ForgetsOn, KeepsKnown, KeepsStamp}
+use Rattle.bus_traffic.specs.Sendings.{AreKnownOnce, are_known_once, is_unknown, is_young, known_of, learned, young, young_known}
 use Rattle.bus_traffic.specs.declared.sending.Known.{Known}
 use Rattle.bus_traffic.specs.declared.sending.Recent.{Recent}
 

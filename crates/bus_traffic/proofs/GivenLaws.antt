@@ -11,7 +11,7 @@ use Rattle.bus_traffic.specs.declared.hearing.Ending.TheVariants.{Over, Refused}
 use Rattle.bus_traffic.specs.declared.hearing.HeardFrame.{HeardFrame}
 
 -- where none is refused
-abbrev GivesUnlessRefused : {A : Type 0} → (kept octets : List ℕ) → List (HeardFrame A) → Ending → Type 0
+abbrev GivesUnlessRefused : {A : Type 0} → (kept octets : List ℕ) → List (HeardFrame A) → Ending A → Type 0
 GivesUnlessRefused kept octets fs (Over rest after) = GivesThem kept octets fs rest after
 GivesUnlessRefused kept octets fs (Refused fault) = Unit {0}
 
@@ -23,7 +23,7 @@ counted_on : (used later rest : ℕ) (octets : List ℕ) → used ≤ length oct
 counted_on used later rest octets within e = let rest_of : later + rest ≡ length octets - used = e ∙ length-drop used octets in
     omega (arith, within, rest_of)
 
-one_more : {A : Type 0} (kept octets after : List ℕ) (f : HeardFrame A) (fs : List (HeardFrame A)) (end : Ending)
+one_more : {A : Type 0} (kept octets after : List ℕ) (f : HeardFrame A) (fs : List (HeardFrame A)) (end : Ending A)
     → EndsFrame kept octets f.octets f.used after → GivesUnlessRefused after (drop f.used octets) fs end
     → GivesUnlessRefused kept octets (f ∷ fs) end
 one_more kept octets after f fs (Over rest left) e g = record {
@@ -35,7 +35,7 @@ one_more kept octets after f fs (Over rest left) e g = record {
 }
 one_more kept octets after f fs (Refused fault) e g = tt
 
-given : {A : Type 0} (judge : List ℕ → Result ℕ Fault) (kept octets : List ℕ) (fs : List (HeardFrame A)) (end : Ending)
+given : {A : Type 0} (judge : List ℕ → Result ℕ Fault) (kept octets : List ℕ) (fs : List (HeardFrame A)) (end : Ending A)
     → Hears A judge kept octets fs end → GivesUnlessRefused kept octets fs end
 given judge _ _ _ _ (over kept octets after e) = record {
   frames = [];

@@ -11,7 +11,7 @@ use Rattle.bus_traffic.specs.Hearing.{EndsFrame, EndsNone, Hears, over, refuses,
 -- what is heard from here on stands behind these frames in what is heard of all
 pub record GoesOn (A : Type 0) (judge : List ℕ → Result ℕ Fault) (start octets : List ℕ) (fs : List (HeardFrame A))
     (kept left : List ℕ) : Type 0 where
-  pub on : (more : List (HeardFrame A)) (end : Ending) → Hears A judge kept left more end
+  pub on : (more : List (HeardFrame A)) (end : Ending A) → Hears A judge kept left more end
       → Hears A judge start octets (fs ++ more) end
 
 pub begins : {A : Type 0} {judge : List ℕ → Result ℕ Fault} (start octets : List ℕ) → GoesOn A judge start octets [] start octets

@@ -1,6 +1,6 @@
 -- What is known of frames, as what is on its way: where it comes from, and what is judged and heard by it.
-use Rattle.std.proofs.Common.{◌≡◌, ◌∙◌, ◌⊎◌, inl, inr, refl, sym, ap, subst, arith, ℕ, ◌+◌, ◌≤◌, max, Bool, true, false, List, [], ◌∷◌}
-use Rattle.std.specs.Prelude.{Option, Result, Some, None, Ok, Err, bytes_eq, if◌then◌else◌}
+use Rattle.std.proofs.Common.{◌≡◌, ◌∙◌, ◌⊎◌, inl, inr, refl, sym, ap, subst, arith, ℕ, ◌+◌, ◌≤◌, max, true, false, List, [], ◌∷◌}
+use Rattle.std.specs.Prelude.{Result, Some, Ok, Err, if◌then◌else◌}
 use Rattle.std.proofs.lemmas.Bool.{cases_lt, le-leb, lt-leb}
 use Rattle.history.proofs.Lists.{has, has_cons, has_next, none_has}
 use Rattle.history.specs.Lists.{Has}
@@ -120,7 +120,7 @@ judged_is_known now octets stamp (k ∷ ks) e = elim (same_is k.octets octets) [
 
 -- each frame that is heard was accepted by the judge
 pub heard_is_accepted : (A : Type 0) (judge : List ℕ → Result ℕ Fault) (kept octets : List ℕ) (fs : List (HeardFrame A))
-    (end : Ending) → Hears A judge kept octets fs end → (f : HeardFrame A) → Has fs f → judge f.octets ≡ Ok f.stamp
+    (end : Ending A) → Hears A judge kept octets fs end → (f : HeardFrame A) → Has fs f → judge f.octets ≡ Ok f.stamp
 heard_is_accepted A judge _ _ _ _ (over kept octets after ends) f there = absurd (none_has there)
 heard_is_accepted A judge _ _ _ _ (refuses kept octets whole after used fault ends not) f there = absurd (none_has there)
 heard_is_accepted A judge _ _ _ _ (accepts kept octets after g fs end ends ok more) f there =

@@ -8,4 +8,5 @@ pub mod TellingLaws
 pub mod KeepingLaws
 pub mod KnownLaws
 pub mod TurnLaws
+mod SettlingLaws
 pub mod ForgettingLaws

@@ -1,7 +1,5 @@
 -- The order of the places of frames, as these are put out and delivered.
-use Rattle.std.proofs.Common.{◌≡◌, ◌∙◌, refl, sym, ap, subst, ℕ, zero, suc, ◌<◌, Bool, true, false, List, [], ◌∷◌, ◌++◌, length, take, get_or, arith}
-use Rattle.std.proofs.Math.Seq.{take-length}
-use Rattle.std.proofs.lemmas.List.{take-append-le}
+use Rattle.std.proofs.Common.{◌≡◌, refl, sym, ap, subst, ℕ, zero, suc, ◌<◌, Bool, true, false, List, [], ◌∷◌, ◌++◌, length, get_or}
 use Rattle.std.proofs.lemmas.List.Kept.{IsNonDecreasingBy-filter}
 use Rattle.std.proofs.lemmas.List.Sorted.{IsNonDecreasingBy-push}
 use Rattle.bus_traffic.proofs.RememberLaws.{delivered_next}
@@ -26,7 +24,7 @@ next_turn x ys rs same zero d = refl
 next_turn x ys rs same (suc k) d = same k d
 
 -- each stands where it stood, in the same turn
-record KeepsTurns {A : Type 0} (ys rs : List (Recent A)) : Type 0 where
+pub record KeepsTurns {A : Type 0} (ys rs : List (Recent A)) : Type 0 where
   pub long : length ys ≡ length rs
   pub turns : (k : ℕ) (d : Recent A) → turn_of (get_or ys k d) ≡ turn_of (get_or rs k d)
 
@@ -39,28 +37,16 @@ keeps_by now address octets x rs false e rest = subst (λ ys. KeepsTurns ys (x �
     (sym (delivered_next now address octets x rs e))
     (record { long = ap suc rest.long; turns = next_turn x (delivered now address octets rs) rs rest.turns })
 
-keeps_turns : {A : Type 0} (now address : ℕ) (octets : List ℕ) (rs : List (Recent A))
+pub keeps_turns : {A : Type 0} (now address : ℕ) (octets : List ℕ) (rs : List (Recent A))
     → KeepsTurns (delivered now address octets rs) rs
 keeps_turns now address octets [] = record { long = refl; turns = λ k d. refl }
 keeps_turns now address octets (x ∷ rs) =
     keeps_by now address octets x rs (is_due_at now address octets x) refl (keeps_turns now address octets rs)
 
-turns_delivered : {A : Type 0} (now address : ℕ) (octets : List ℕ) (rs : List (Recent A)) → AreInTurn rs
+pub turns_delivered : {A : Type 0} (now address : ℕ) (octets : List ℕ) (rs : List (Recent A)) → AreInTurn rs
     → AreInTurn (delivered now address octets rs)
 turns_delivered now address octets rs turns =
     let kept = keeps_turns now address octets rs in
     λ i j d le lt. rw (kept.turns i d, kept.turns j d) (turns i j d le (subst (λ n. j < n) kept.long lt))
-
-written : {X : Type 0} (n : ℕ) (xs ys : List X) → n ≡ length xs → take n (xs ++ ys) ≡ xs
-written n xs ys long = take-append-le n xs ys (omega (arith, long)) ∙ ap (λ k. take k xs) long ∙ take-length xs
-
--- .. where these are written over those that were there
-pub turns_written : {A : Type 0} (now address : ℕ) (octets : List ℕ) (rs new rest : List (Recent A)) (n : ℕ)
-    → AreInTurn rs → new ≡ delivered now address octets rs → n ≡ length rs → AreInTurn (take n (new ++ rest))
-turns_written now address octets rs new rest n turns is long =
-    let here = keeps_turns now address octets rs in
-    subst (λ xs. AreInTurn xs)
-    (sym (written n new rest (long ∙ sym here.long ∙ ap (λ xs. length xs) (sym is)) ∙ is))
-    (turns_delivered now address octets rs turns)
 
 pub ruleset turn_laws = (turns_followed)

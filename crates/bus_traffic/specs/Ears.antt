@@ -1,5 +1,5 @@
 -- What an ear keeps of the octets that are heard (9.5.4).
-use Rattle.std.specs.Prelude.{ℕ, ◌+◌, List, [], ◌∷◌, nat_le, if◌then◌else◌}
+use Rattle.std.specs.Prelude.{ℕ, ◌+◌, List, [], ◌∷◌, Option, Some, None, nat_le, if◌then◌else◌}
 use Rattle.profile.specs.Times.{T_FRAME_ABORT_MS}
 use Rattle.bus_traffic.specs.declared.ear.Ear.{Ear}
 
@@ -12,6 +12,11 @@ ear_anew address now = record { address = address; deframer = []; last = now }
 abbrev pub kept_at : (now : ℕ) → List ℕ → Ear → List ℕ
 kept_at now [] e = []
 kept_at now (octet ∷ octets) e = if nat_le (e.last + T_FRAME_ABORT_MS) now then [] else e.deframer
+
+-- the octets of a cut frame, if one has begun
+abbrev pub if_begun : Option (List ℕ) → List ℕ
+if_begun None = []
+if_begun (Some octets) = octets
 
 -- when octets were heard last, once these come at a moment: a silence is no octets
 abbrev pub heard_last : (now : ℕ) → List ℕ → (last : ℕ) → ℕ

@@ -28,12 +28,12 @@ Ends kept octets (Some c) after = EndsFrame kept octets c.octets c.used after
 
 -- The frames that octets end which come to those that are kept, where a frame is judged so: in order, each with its
 -- stamp, up to the first that is refused.
-pub data Hears (A : Type 0) (judge : List ℕ → Result ℕ Fault) : (kept octets : List ℕ) → List (HeardFrame A) → Ending
+pub data Hears (A : Type 0) (judge : List ℕ → Result ℕ Fault) : (kept octets : List ℕ) → List (HeardFrame A) → Ending A
     → Type 0 where
   over : (kept octets after : List ℕ) → EndsNone kept octets after
       → Hears A judge kept octets [] (Over (length octets) after)
   refuses : (kept octets whole after : List ℕ) (used : ℕ) (fault : Fault) → EndsFrame kept octets whole used after
       → judge whole ≡ Err fault → Hears A judge kept octets [] (Refused fault)
-  accepts : (kept octets after : List ℕ) (f : HeardFrame A) (fs : List (HeardFrame A)) (end : Ending)
+  accepts : (kept octets after : List ℕ) (f : HeardFrame A) (fs : List (HeardFrame A)) (end : Ending A)
       → EndsFrame kept octets f.octets f.used after → judge f.octets ≡ Ok f.stamp
       → Hears A judge after (drop f.used octets) fs end → Hears A judge kept octets (f ∷ fs) end

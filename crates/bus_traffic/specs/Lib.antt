@@ -1,5 +1,6 @@
 pub mod Ears
 pub mod Sendings
+pub mod Settling
 pub mod Hearing
 pub mod Bus
 pub mod Forgetting

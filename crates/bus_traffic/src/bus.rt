@@ -4,12 +4,14 @@ ghost use Rattle.std.specs.Prelude.{◌≡◌, ◌≤◌, ◌<◌, ◌+◌, ◌+
 ghost use Rattle.std.specs.Vec.{vec_capacity, vec_len};
 ghost use Rattle.bus_traffic.specs.Sendings as spec;
 ghost use Rattle.bus_traffic.specs.Sendings.{AreInTurn, AreKnownOnce, IsBehindLast, delivered, learned};
+ghost use Rattle.bus_traffic.specs.Settling.{ArePassed, AreSettled};
 
+use crate::cut_frame::CutFrame;
 use crate::ear::Ear;
 use crate::hearing::{Hearing, hear};
 use crate::judging::is_frame;
 use crate::sending::{Known, Put, Recent, RecentBox};
-use mstp_frame::Deframer;
+use crate::settling::{count_done, still_settled};
 use profile::is_heard_in_time;
 use std::alloc::{AllocError, Allocator};
 
@@ -26,8 +28,11 @@ pub struct Bus<A: Allocator> {
     pub recent: Vec<RecentBox<A>, A>,
     /// Whether the places of these say the same order: one is then found by halves.
     pub(crate) is_in_turn: bool,
+    /// So many of these in front were delivered at each ear, or put out by its station: none is looked at again.
+    pub(crate) settled: usize,
     ghost turns: { is_in_turn ≡ true → AreInTurn recent.items },
     ghost once: { AreKnownOnce known.items },
+    ghost done: { AreSettled ears.items recent.items settled },
 }
 
 /// So many frames more than twice those that it keeps of what was put out must be known before any is forgotten.
@@ -149,12 +154,23 @@ fn is_due_at<A: Allocator>(recent: &Recent<A>, address: u8, octets: &[u8], now: 
     is_frame(&recent.sending.octets, octets)
 }
 
-/// Just these octets are delivered at an address at the moment `now`, in milliseconds.
+/// Just these octets are delivered at an address at the moment `now`, in milliseconds: they are none of so many frames
+/// in front, which aren't looked at.
 #[tactic(auto, using(crate::proofs::Places::place_rules))]
-fn deliver<A: Allocator>(recent: &mut [RecentBox<A>], address: u8, octets: &[u8], now: u64)
-    ensures { recent.new ≡ delivered now address octets.now recent.old }
+fn deliver<A: Allocator>(
+    recent: &mut Vec<RecentBox<A>, A>,
+    settled: usize,
+    address: u8,
+    octets: &[u8],
+    now: u64,
+)
+    requires within { settled ≤ length recent.old.items }
+    requires passed { ArePassed now address octets.now recent.old.items settled }
+    ensures recent { recent.new.items ≡ delivered now address octets.now recent.old.items }
+    ensures len { vec_len recent.new ≡ vec_len recent.old }
+    ensures room { vec_capacity recent.old ≤ vec_capacity recent.new }
 {
-    for place in 0..recent.len() {
+    for place in settled..recent.len() {
         if is_due_at(recent[place].recent(), address, octets, now) {
             recent[place].mark(address);
             return;
@@ -178,6 +194,7 @@ impl<A: Allocator + Copy> Bus<A> {
             known: Vec::new(alloc),
             recent: Vec::new(alloc),
             is_in_turn: true,
+            settled: 0,
         }
     }
 
@@ -190,6 +207,7 @@ impl<A: Allocator + Copy> Bus<A> {
         ensures unchanged { OnErr result (bus_of self.new ≡ bus_of self.old) }
     {
         self.ears.push(Ear::new(address, now))?;
+        self.settled = 0;
         Ok(())
     }
 
@@ -214,7 +232,10 @@ impl<A: Allocator + Copy> Bus<A> {
     {
         let Put { recent, known } = put;
         learn(&mut self.known, known);
+        let before = self.recent.as_slice().len();
         self.is_in_turn = follow(&mut self.recent, recent, self.is_in_turn, now);
+        let kept = self.recent.as_slice().len().saturating_sub(1);
+        self.settled = still_settled(self.settled, before, kept);
     }
 
     /// Forgets what is known of frames that are too old to be heard at the moment `now`, in milliseconds, once twice as
@@ -257,22 +278,23 @@ impl<A: Allocator + Copy> Bus<A> {
     ) -> Result<Hearing<A>, AllocError>
         ensures { IfOk result (λ hearing. IsHearing now octets.now ear.now (bus_of self.now) hearing) }
     {
-        let deframer = ear.listening(octets, now);
-        hear(alloc, self.known.as_slice(), deframer, octets, now)
+        let mut deframer = ear.listening(octets, now);
+        hear(alloc, self.known.as_slice(), &mut deframer, octets, now)
     }
 
-    /// The ear at a place has heard octets at the moment `now`, in milliseconds, and keeps what is left of its
-    /// deframer. Where the octets are just those of a frame of another station that may still be heard and wasn't yet
+    /// The ear at a place has heard octets at the moment `now`, in milliseconds, and keeps what is left of a
+    /// frame. Where the octets are just those of a frame of another station that may still be heard and wasn't yet
     /// delivered there, the first such is delivered. It takes no memory.
-    pub fn hear(&mut self, place: usize, octets: &[u8], deframer: Deframer, now: u64)
+    pub fn hear(&mut self, place: usize, octets: &[u8], cut: CutFrame<A>, now: u64)
         requires { place < length self.old.ears.items }
         ensures heard { (ear : Ear) → slice_get self.old.ears.items place ≡ Some ear →
-            bus_of self.new ≡ heard_on now place octets.now deframer ear (bus_of self.old) }
+            bus_of self.new ≡ heard_on now place octets.now cut ear (bus_of self.old) }
         ensures room { (n : ℕ) → HasRoom n self.old → HasRoom n self.new }
     {
-        let ear = ear_of(&self.ears, place).after(octets, deframer, now);
-        deliver(&mut self.recent, ear.address, octets, now);
-        self.ears[place] = ear;
+        let address = ear_of(&self.ears, place).address;
+        deliver(&mut self.recent, self.settled, address, octets, now);
+        self.ears[place].hear(octets, &cut, now);
+        self.settled = count_done(self.ears.as_slice(), self.recent.as_slice(), self.settled);
     }
 
     /// The station whose ear is at a place restarts at the moment `now`, in milliseconds: what it heard of a frame is
@@ -283,6 +305,6 @@ impl<A: Allocator + Copy> Bus<A> {
             bus_of self.new ≡ restarted now place ear (bus_of self.old) }
         ensures room { (n : ℕ) → HasRoom n self.old → HasRoom n self.new }
     {
-        self.ears[place] = Ear::new(self.ears[place].address, now);
+        self.ears[place] = Ear::new(ear_of(&self.ears, place).address, now);
     }
 }

@@ -90,6 +90,7 @@ impl<A: Allocator + Copy> Bus<A> {
             known: known_of(alloc, self.known.as_slice())?,
             recent: recent_of(alloc, self.recent.as_slice())?,
             is_in_turn: self.is_in_turn,
+            settled: self.settled,
         })
     }
 }

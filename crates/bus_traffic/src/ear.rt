@@ -3,8 +3,10 @@
 ghost use Rattle.std.specs.Prelude.{◌≡◌};
 ghost use Rattle.bus_traffic.specs.Ears.{ear_after, ear_anew, kept_at};
 
+use crate::cut_frame::CutFrame;
 use mstp_frame::Deframer;
 use profile::T_FRAME_ABORT_MS;
+use std::alloc::Allocator;
 
 /// The ear of a station on a bus: the octets of a frame that has begun, and when octets were heard there last (9.5.4).
 #[derive(Drop)]
@@ -43,15 +45,13 @@ impl Ear {
         self.deframer.copy()
     }
 
-    /// The ear once these octets were heard at the moment `now`, in milliseconds, where the deframer is left so.
-    pub(crate) fn after(&self, octets: &[u8], deframer: Deframer, now: u64) -> Ear
-        ensures { result ≡ ear_after now octets.now deframer self.now }
+    /// It has heard these octets at the moment `now`, in milliseconds, and keeps this of them.
+    pub(crate) fn hear<A: Allocator>(&mut self, octets: &[u8], cut: &CutFrame<A>, now: u64)
+        ensures { self.new ≡ ear_after now octets.now cut.now self.old }
     {
-        let last = if octets.is_empty() { self.last } else { now };
-        Ear {
-            address: self.address,
-            deframer,
-            last,
+        if !octets.is_empty() {
+            self.last = now;
         }
+        cut.put_in(&mut self.deframer);
     }
 }

@@ -4,6 +4,7 @@ ghost use Rattle.std.specs.Prelude.{◌≡◌, ◌<◌, ◌≤◌, ◌++◌, ◌
 ghost use Rattle.bus_traffic.specs.Hearing.{Ends, Hears};
 ghost use Rattle.bus_traffic.specs.Sendings.{judged_by, known_of};
 
+use crate::cut_frame::CutFrame;
 use crate::judging::judge;
 use crate::sending::Known;
 use mstp_frame::Deframer;
@@ -32,9 +33,9 @@ pub struct HeardFrame<A: Allocator> {
 
 /// How octets end that an ear hears.
 #[derive(Drop)]
-pub enum Ending {
-    /// So many are taken behind the last frame, none of which is refused.
-    Over { rest: usize, deframer: Deframer },
+pub enum Ending<A: Allocator> {
+    /// So many are taken behind the last frame, none of which is refused, and this is left of a frame.
+    Over { rest: usize, cut: CutFrame<A> },
     /// The next frame is refused.
     Refused(Fault),
 }
@@ -43,7 +44,7 @@ pub enum Ending {
 #[derive(Drop)]
 pub struct Hearing<A: Allocator> {
     pub frames: Items<HeardFrame<A>, A>,
-    pub ending: Ending,
+    pub ending: Ending<A>,
 }
 
 /// Takes octets up to the end of a frame.
@@ -78,16 +79,16 @@ fn next_completed<A: Allocator + Copy>(
 pub(crate) fn hear<A: Allocator + Copy>(
     alloc: A,
     known: &[Known<A>],
-    mut deframer: Deframer,
+    deframer: &mut Deframer,
     octets: &[u8],
     now: u64,
 ) -> Result<Hearing<A>, AllocError>
     ensures { IfOk result (λ h.
-        Hears A (λ whole. judged_by now (known_of whole known.now)) deframer octets.now h.frames h.ending) }
+        Hears A (λ whole. judged_by now (known_of whole known.now)) deframer.old octets.now h.frames h.ending) }
 {
     let mut frames = Items::new(alloc);
     let mut left = octets;
-    while let Some(frame) = next_completed(alloc, &mut deframer, left)? {
+    while let Some(frame) = next_completed(alloc, deframer, left)? {
         match judge(known, frame.octets.as_slice(), now) {
             Ok(stamp) => {
                 let (_, rest) = left.split_at(frame.used);
@@ -106,7 +107,7 @@ pub(crate) fn hear<A: Allocator + Copy>(
     }
     let ending = Ending::Over {
         rest: left.len(),
-        deframer,
+        cut: CutFrame::of(alloc, deframer)?,
     };
     Ok(Hearing { frames, ending })
 }

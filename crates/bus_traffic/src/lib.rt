@@ -8,10 +8,12 @@
 //! may be heard is judged as before. No station is known here.
 //!
 //! - `ear`: what a station on a bus has heard of a frame, and when.
+//! - `cut_frame`: what is left of a frame that has begun.
 //! - `sending`: a frame that was put out, where it was delivered, and what is known of equal ones.
 //! - `judging`: how a frame is judged.
 //! - `hearing`: the frames that octets end at an ear, each judged.
 //! - `bus`: a bus, its ears, and what is known of it; what is put out, delivered and forgotten.
+//! - `settling`: which frames need not be looked at again.
 //! - `copying`: copies of a bus.
 //! - `finding`: which ear is meant.
 //! - `telling`: which frame an ear is told next.
@@ -20,15 +22,18 @@
 
 mod bus;
 mod copying;
+mod cut_frame;
 mod ear;
 mod finding;
 mod hearing;
 mod judging;
 mod laws;
 mod sending;
+mod settling;
 mod telling;
 
 pub use bus::Bus;
+pub use cut_frame::CutFrame;
 pub use ear::Ear;
 pub use finding::{FoundEar, ear_at};
 pub use hearing::{Ending, HeardFrame, Hearing};

@@ -25,7 +25,7 @@ use Rattle.buses.specs.Laws.{all_known, known_as}
 
 -- each frame that is heard was judged so
 pub each_judged : {A : Type 0} (judge : List ℕ → Result ℕ Fault) (kept octets : List ℕ) (fs : List (HeardFrame A))
-    (end : Ending) (g : HeardFrame A) → Hears A judge kept octets fs end → Has fs g → judge g.octets ≡ Ok g.stamp
+    (end : Ending A) (g : HeardFrame A) → Hears A judge kept octets fs end → Has fs g → judge g.octets ≡ Ok g.stamp
 each_judged judge _ _ _ _ g (over kept octets after e) there = absurd (none_has there)
 each_judged judge _ _ _ _ g (refuses kept octets whole after used fault e j) there = absurd (none_has there)
 each_judged judge _ _ _ _ g (accepts kept octets after f fs end e j h) there = elim (has_cons f fs there) [

@@ -9,8 +9,7 @@ ghost use Rattle.buses.specs.Puts as spec;
 
 use crate::net_put::NetPut;
 use crate::puts::Puts;
-use bus_traffic::{Bus, Hearing, NextTold, Put, Telling, ear_at, next_hear};
-use mstp_frame::Deframer;
+use bus_traffic::{Bus, CutFrame, Hearing, NextTold, Put, Telling, ear_at, next_hear};
 use std::alloc::{AllocError, Allocator};
 use tags::Fault;
 use traffic::FramePut;
@@ -205,17 +204,17 @@ impl<A: Allocator + Copy> Buses<A> {
         })
     }
 
-    /// The ear at these places has heard octets at the moment `now`, in milliseconds, and keeps what is left of its
-    /// deframer. Where the octets are just those of a frame of another station that may still be heard and wasn't yet
+    /// The ear at these places has heard octets at the moment `now`, in milliseconds, and keeps what is left of a
+    /// frame. Where the octets are just those of a frame of another station that may still be heard and wasn't yet
     /// delivered there, the first such is delivered. It takes no memory.
-    pub fn hear(&mut self, bus: usize, ear: usize, octets: &[u8], deframer: Deframer, now: u64)
+    pub fn hear(&mut self, bus: usize, ear: usize, octets: &[u8], cut: CutFrame<A>, now: u64)
         requires there { HasEarAt bus ear (buses_of self.old).buses }
         ensures heard { (b : BusState A) (e : Ear) → slice_get (buses_of self.old).buses bus ≡ Some b →
             slice_get b.ears ear ≡ Some e →
-            buses_of self.new ≡ heard_at now bus ear octets.now deframer e b (buses_of self.old) }
+            buses_of self.new ≡ heard_at now bus ear octets.now cut e b (buses_of self.old) }
         ensures room { (n : ℕ) → HaveRoom n self.old → HaveRoom n self.new }
     {
-        self.buses[bus].hear(ear, octets, deframer, now);
+        self.buses[bus].hear(ear, octets, cut, now);
     }
 
     /// The station at an address of a network restarts at the moment `now`, in milliseconds: what its ear heard of a

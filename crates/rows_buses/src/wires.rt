@@ -2,8 +2,7 @@
 
 use crate::shown::{push_heard, push_told};
 use crate::steps::{At, Moments, Step};
-use bus_traffic::{Bus, Ending, Hearing, Place, Put, Sending, Telling, ear_at, next_hear};
-use mstp_frame::Deframer;
+use bus_traffic::{Bus, CutFrame, Ending, Hearing, Place, Put, Sending, Telling, ear_at, next_hear};
 use sheets::{Part, Stop, push_mark, refusal, small, two_words};
 use std::alloc::{Allocator, Global};
 use tags::{Fault, Octets};
@@ -92,14 +91,14 @@ impl<A: Allocator + Copy> Wires<A> {
     }
 
     /// An ear has heard octets, and keeps this.
-    fn keep(&mut self, at: At, octets: &[u8], deframer: Deframer, now: u64) {
+    fn keep(&mut self, at: At, octets: &[u8], cut: CutFrame<A>, now: u64) {
         let (bus, place) = match ear_at(self.buses.as_slice(), at.net, at.address) {
             Ok(found) => (found.bus_place, found.ear_place),
             Err(_) => return,
         };
         if let Some(bus) = self.buses.get_mut(bus) {
             if place < bus.ears.len() {
-                bus.hear(place, octets, deframer, now);
+                bus.hear(place, octets, cut, now);
             }
         }
     }
@@ -120,10 +119,10 @@ impl<A: Allocator + Copy> Wires<A> {
         let Hearing { frames, ending } = hearing;
         match ending {
             Ending::Refused(fault) => refusal(alloc, fault),
-            Ending::Over { rest, deframer } => {
+            Ending::Over { rest, cut } => {
                 let mut out = String::new(alloc);
                 push_heard(frames.as_slice(), rest, &mut out)?;
-                self.keep(at, octets, deframer, now);
+                self.keep(at, octets, cut, now);
                 Ok(out)
             }
         }

@@ -118,12 +118,12 @@ judging : (now : ℕ) (known : Option ℕ) → IsWireErr (judged_by now known) �
 judging now None x = x
 judging now (Some stamp) x = by_age _ stamp x
 
-abbrev IsWireEnd : Ending → Type 0
+abbrev IsWireEnd : {A : Type 0} → Ending A → Type 0
 IsWireEnd (Over rest kept) = ⊥
 IsWireEnd (Refused fault) = IsWire fault
 
 ending : (A : Type 0) (judge : List ℕ → Result ℕ Fault) → ((whole : List ℕ) → IsWireErr (judge whole) → ⊥) →
-    (kept octets : List ℕ) (fs : List (HeardFrame A)) (end : Ending) → Hears A judge kept octets fs end →
+    (kept octets : List ℕ) (fs : List (HeardFrame A)) (end : Ending A) → Hears A judge kept octets fs end →
     IsWireEnd end → ⊥
 ending A judge never _ _ _ _ (over kept octets after ends) x = x
 ending A judge never _ _ _ _ (refuses kept octets whole after used fault ends not) x =

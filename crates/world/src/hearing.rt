@@ -10,9 +10,8 @@ ghost use Rattle.world.specs.declared.happening.Happening.TheVariants as happeni
 
 use crate::internetwork::Internetwork;
 use crate::listener::Listener;
-use bus_traffic::{Ending, HeardFrame, Hearing};
+use bus_traffic::{CutFrame, Ending, HeardFrame, Hearing};
 use buses::EarHearing;
-use mstp_frame::Deframer;
 use npdu::Mac;
 use std::alloc::Allocator;
 use tags::Fault;
@@ -113,13 +112,13 @@ impl<A: Allocator + Copy> Internetwork<A> {
         Ok(())
     }
 
-    /// The ear at these places has heard octets, and keeps what is left of its deframer.
-    fn keep(&mut self, bus: usize, ear: usize, octets: &[u8], deframer: Deframer)
+    /// The ear at these places has heard octets, and keeps what is left of a frame.
+    fn keep(&mut self, bus: usize, ear: usize, octets: &[u8], cut: CutFrame<A>)
         requires { HasEarAt bus ear self.old.buses.buses }
-        ensures { Keeps bus ear octets.now deframer self.old self.new }
+        ensures { Keeps bus ear octets.now cut self.old self.new }
     {
         let now = self.moment;
-        self.buses.hear(bus, ear, octets, deframer, now);
+        self.buses.hear(bus, ear, octets, cut, now);
     }
 
     /// A node hears frames of its bus, one after another, and its port is told of so many octets behind them. Where
@@ -227,9 +226,9 @@ impl<A: Allocator + Copy> Internetwork<A> {
         let EarHearing { bus, ear, hearing } = at;
         let Hearing { frames, ending } = hearing;
         match ending {
-            Ending::Over { rest, deframer } => {
+            Ending::Over { rest, cut } => {
                 self.settle_over(listener, frames.as_slice(), rest, draft)?;
-                self.keep(bus, ear, octets, deframer);
+                self.keep(bus, ear, octets, cut);
                 Ok(())
             }
             Ending::Refused(fault) => Err(self.refusal(listener, frames.as_slice(), fault, draft)),

@@ -29,25 +29,26 @@ use Rattle.world.specs.Keeping.{Keeps}
 use Rattle.bus_traffic.specs.Forgetting.{KeepsBus, KeepsEach}
 
 -- octets end so in the whole where they end so in what is kept
-abbrev pub EndsAs : (kept whole : Ending) → Type 0
+abbrev pub EndsAs : {A : Type 0} → (kept whole : Ending A) → Type 0
 EndsAs kept whole = (whole ≡ kept) ⊎ ((kept ≡ Refused Forged) × (whole ≡ Refused Expired))
 
 -- the same frames are heard, up to such an end
 pub record HearsToo (A : Type 0) (judge : List ℕ → Result ℕ Fault) (kept octets : List ℕ) (fs : List (HeardFrame A))
-    (end : Ending) : Type 0 where
-  pub ending : Ending
+    (end : Ending A) : Type 0 where
+  pub ending : Ending A
   pub hears : Hears A judge kept octets fs ending
   pub ends : EndsAs end ending
 
-refused_as : (whole fault : Fault) → (whole ≡ fault) ⊎ ((fault ≡ Forged) × (whole ≡ Expired)) →
-    EndsAs (Refused fault) (Refused whole)
-refused_as whole fault (inl e) = inl (ap (λ (f : Fault). Refused f) e)
-refused_as whole fault (inr e) = inr (ap (λ (f : Fault). Refused f) e.0, ap (λ (f : Fault). Refused f) e.1)
+refused_as : {A : Type 0} (whole fault : Fault) → (whole ≡ fault) ⊎ ((fault ≡ Forged) × (whole ≡ Expired)) →
+    EndsAs {A} (Refused fault) (Refused whole)
+refused_as {A} whole fault (inl e) = inl (ap (λ (f : Fault). Refused {A} f) e)
+refused_as {A} whole fault (inr e) =
+    inr (ap (λ (f : Fault). Refused {A} f) e.0, ap (λ (f : Fault). Refused {A} f) e.1)
 
 module _ (A : Type 0) (some all : List ℕ → Result ℕ Fault)
     (on : (octets : List ℕ) (stamp : ℕ) → some octets ≡ Ok stamp → all octets ≡ Ok stamp)
     (not : (octets : List ℕ) (fault : Fault) → some octets ≡ Err fault → RefusesToo (all octets) fault) where
-  hears_too : (kept octets : List ℕ) (fs : List (HeardFrame A)) (end : Ending) → Hears A some kept octets fs end →
+  hears_too : (kept octets : List ℕ) (fs : List (HeardFrame A)) (end : Ending A) → Hears A some kept octets fs end →
       HearsToo A all kept octets fs end
   hears_too _ _ _ _ (over kept octets after ends) = record {
     ending = Over (length octets) after;
@@ -67,13 +68,13 @@ module _ (A : Type 0) (some all : List ℕ → Result ℕ Fault)
       }
 
 -- what an ear makes of octets, but for how they end
-abbrev pub ended : {A : Type 0} → Ending → EarHearing A → EarHearing A
+abbrev pub ended : {A : Type 0} → Ending A → EarHearing A → EarHearing A
 ended end h = record { bus = h.bus; ear = h.ear; hearing = record { frames = h.hearing.frames; ending = end } }
 
 -- the ear at an address hears the same frames, up to such an end
 pub record HearsThere {A : Type 0} (now net address : ℕ) (octets : List ℕ) (buses : List (BusState A))
     (h : EarHearing A) : Type 0 where
-  pub ending : Ending
+  pub ending : Ending A
   pub heard : HearsAt now net address octets buses (ended ending h)
   pub ends : EndsAs h.hearing.ending ending
 
@@ -198,11 +199,11 @@ module _ {A : Type 0} (past : WorldHistory A) where
   ear_keeps w k m p bus_place ear_place octets kept s = ear_over w k m p bus_place ear_place octets kept
       (subst (λ (x : WorldState A). hearing.Keeps bus_place ear_place octets kept x m) (over_is past w k p) s)
 
-  is_over : (end whole : Ending) (rest : ℕ) (kept : List ℕ) → end ≡ Over rest kept → EndsAs end whole →
+  is_over : (end whole : Ending A) (rest : ℕ) (kept : List ℕ) → end ≡ Over rest kept → EndsAs end whole →
       whole ≡ Over rest kept
   is_over end whole rest kept e (inl same) = same ∙ e
   is_over end whole rest kept e (inr other) =
-      absurd (let none : Refused Forged ≡ Over rest kept = sym other.0 ∙ e in cc none)
+      absurd (let none : Refused {A} Forged ≡ Over rest kept = sym other.0 ∙ e in cc none)
 
   -- octets are heard
   pub hear_over : (w k m : WorldState A) → Keeps past w k → (network place : ℕ) (octets : List ℕ) →

@@ -103,7 +103,7 @@ module _ {A : Type 0} (past : WorldHistory A) where
       (subst (λ (x : WorldState A). Takes l f x t.middle) (over_is past w k p) t.first) in
       inr (record { middle = a.middle; first = a.first; rest = one_refused a.middle t.middle a.rest l fault fs t.rest })
 
-refused_same : (f g : Fault) (end : Ending) → end ≡ Refused f → end ≡ Refused g → f ≡ g
+refused_same : {A : Type 0} (f g : Fault) (end : Ending A) → end ≡ Refused f → end ≡ Refused g → f ≡ g
 refused_same f g end e q = cc
 
 module _ {A : Type 0} (past : WorldHistory A) (w k : WorldState A) (p : Keeps past w k) (network place : ℕ)

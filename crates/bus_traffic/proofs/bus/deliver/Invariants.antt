@@ -6,5 +6,5 @@ use Rattle.bus_traffic.proofs.bus.deliver.Given as goal
 abbrev pub invariant-loop-place : goal.invariant-loop-place
 invariant-loop-place g l =
     (l.recent ≡ l.fn.recent)
-    × (take l.place l.recent ++ delivered l.now l.address l.octets (drop l.place l.recent)
-    ≡ delivered l.now l.address l.octets l.recent)
+    × (take l.place l.recent.items ++ delivered l.now l.address l.octets (drop l.place l.recent.items)
+    ≡ delivered l.now l.address l.octets l.recent.items)

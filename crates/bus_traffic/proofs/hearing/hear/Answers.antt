@@ -19,6 +19,6 @@ returns-in-Err g c = is_refused _ _ _ _ _ _ _ _ _ c.loop-frames.invariant
     ∙ c.in-Err.is)
 
 pub returns : goal.returns
-returns g c = is_over _ _ _ _ _ _ c.loop-frames.invariant
+returns g c = rw (c.in_ok-of.ensures) (is_over _ _ _ _ _ _ c.loop-frames.invariant
     (subst (λ x. Ends c.loop-frames.deframer c.loop-frames.left.now x c.next_completed.new.deframer) c.in_default.is
-    c.in_ok-frame.ensures.ends)
+    c.in_ok-frame.ensures.ends))

@@ -20,7 +20,7 @@ returns g c = record {
       (ap (λ (w : WorldState _). slice_get w.buses.buses c.args.bus) c.self.view_is ∙ c.requires.bus_there)
       c.requires.ear_there)
       ∙ ap (λ (w : WorldState _). record w {
-        buses = heard_at w.moment c.args.bus c.args.ear c.args.octets.now c.args.deframer c.requires.ear c.requires.bus
+        buses = heard_at w.moment c.args.bus c.args.ear c.args.octets.now c.args.cut c.requires.ear c.requires.bus
             w.buses;
       }) c.self.view_is;
 }
