@@ -40,10 +40,9 @@ pub record HearsToo (A : Type 0) (judge : List ℕ → Result ℕ Fault) (kept o
   pub ends : EndsAs end ending
 
 refused_as : {A : Type 0} (whole fault : Fault) → (whole ≡ fault) ⊎ ((fault ≡ Forged) × (whole ≡ Expired)) →
-    EndsAs {A} (Refused fault) (Refused whole)
-refused_as {A} whole fault (inl e) = inl (ap (λ (f : Fault). Refused {A} f) e)
-refused_as {A} whole fault (inr e) =
-    inr (ap (λ (f : Fault). Refused {A} f) e.0, ap (λ (f : Fault). Refused {A} f) e.1)
+    EndsAs {A = A} (Refused fault) (Refused whole)
+refused_as whole fault (inl e) = inl (ap (λ (f : Fault). Refused f) e)
+refused_as whole fault (inr e) = inr (ap (λ (f : Fault). Refused f) e.0, ap (λ (f : Fault). Refused f) e.1)
 
 module _ (A : Type 0) (some all : List ℕ → Result ℕ Fault)
     (on : (octets : List ℕ) (stamp : ℕ) → some octets ≡ Ok stamp → all octets ≡ Ok stamp)
@@ -203,7 +202,7 @@ module _ {A : Type 0} (past : WorldHistory A) where
       whole ≡ Over rest kept
   is_over end whole rest kept e (inl same) = same ∙ e
   is_over end whole rest kept e (inr other) =
-      absurd (let none : Refused {A} Forged ≡ Over rest kept = sym other.0 ∙ e in cc none)
+      absurd (let none = sym other.0 ∙ e in cc none)
 
   -- octets are heard
   pub hear_over : (w k m : WorldState A) → Keeps past w k → (network place : ℕ) (octets : List ℕ) →
