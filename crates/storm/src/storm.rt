@@ -71,7 +71,8 @@ impl Storm {
     ) -> Result<Event<A>, AllocError>
         ensures sound { IfOk result IsSoundEvent }
     {
-        self.next_event_of(alloc, world.internetwork(), &[])
+        let none: Vec<WorldEntry<A>, A> = Vec::new(alloc);
+        self.next_event_of(alloc, world.internetwork(), none.as_slice())
     }
 
     /// The same in a world that hands its history out and forgets: of the entries that were handed out, these are the
