@@ -1,4 +1,4 @@
-use Rattle.std.proofs.Common.{arith, ◌≡◌, sym, subst, List, [], ◌++◌}
+use Rattle.std.proofs.Common.{arith, ◌≡◌, ◌∙◌, sym, subst, List, [], ◌++◌}
 use Rattle.std.proofs.lemmas.List.{append-nil}
 use Rattle.std.specs.List.{AllByRecursion}
 use Rattle.script.specs.Steps.{IsSoundStep}
@@ -7,6 +7,16 @@ use Rattle.site_live.proofs.LiveLaws.{none_left}
 use Rattle.site_live.proofs.StepLaws.{all_and_one, live_before}
 use Rattle.site_live.proofs.reading.all_live.Goals as goal
 use Rattle.site_live.specs.Steps.{AreLive}
+
+-- nothing was put yet
+pub loop-step-init : goal.loop-step-init
+loop-step-init g c =
+    let all = c.into_iter-step-iterator.ensures.into_iter_gives.0 ∙ c.into_vec-step-items.ensures in (
+      subst (λ (ss : List (Step _)). AllByRecursion IsSoundStep ss) (sym all) c.requires.sound,
+      subst (λ (ss : List (Step _)). AllByRecursion IsSoundStep ss) (sym c.new-steps.ensures) tt,
+      λ more live. subst (λ (ss : List (Step _)). AreLive c.args.said (ss ++ more)) (sym c.new-steps.ensures)
+          (subst (λ (ss : List (Step _)). AreLive ss more) all live),
+    )
 
 -- the step that was put, and then what the rest asks for
 pub loop-step-preserved : goal.loop-step-preserved
