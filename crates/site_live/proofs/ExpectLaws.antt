@@ -1,12 +1,13 @@
 -- Whether steps expect something, one after another.
-use Rattle.std.proofs.Common.{◌≡◌, ◌∙◌, ap, refl, subst, sym, ℕ, ◌≤◌, ◌<◌, ◌-◌, Bool, true, false, List, [], ◌∷◌, Option}
+use Rattle.std.proofs.Common.{◌≡◌, ◌∙◌, ◌⊎◌, inl, inr, ap, refl, subst, sym, ℕ, ◌≤◌, ◌<◌, ◌-◌, Bool, true, false, List, [], ◌∷◌, Option}
 use Rattle.std.proofs.Common.{Some, None, arith, drop, get_or, length, take}
 use Rattle.std.proofs.lemmas.List.{take_all}
-use Rattle.script.specs.Expecting.{ExpectNothing, ExpectsNothing}
+use Rattle.runner.specs.world.site_events.declared.event.Event.TheVariants as event
+use Rattle.script.specs.Expecting.{ExpectNothing, ExpectsNothing, HasNoExpectation}
 use Rattle.script.specs.declared.step.Step.{Step}
 use Rattle.script.specs.declared.step.Step.TheVariants as step
 use Rattle.site_history.specs.Printed.{or_else}
-use Rattle.site_live.specs.Steps.{mark_in, mark_of}
+use Rattle.site_live.specs.Steps.{AreLive, IsLive, SaysLive, mark_in, mark_of}
 
 pub or_none : {X : Type 0} (a : Option X) → or_else a None ≡ a
 or_none None = refl
@@ -68,3 +69,37 @@ pub plain_status : {A : Type 0} (b : Bool) (status : ℕ) (ss : List (Step A)) �
     (b ≡ false → status ≡ 0) → ExpectNothing ss → status ≤ 1
 plain_status b status ss nothing plain none =
     let is_zero : status ≡ 0 = plain (nothing none) in omega (arith, is_zero)
+
+still_nothing : {A : Type 0} (said live : Step A) → ExpectsNothing said → IsLive said live → ExpectsNothing live
+still_nothing (step.Happens (event.Issue client instance request)) live none is =
+    subst (λ (s : Step _). ExpectsNothing s) (sym is) tt
+still_nothing (step.Happens (event.WhoIs client limits)) live none is =
+    subst (λ (s : Step _). ExpectsNothing s) (sym is) tt
+still_nothing (step.Happens (event.Register station)) live none is =
+    subst (λ (s : Step _). ExpectsNothing s) (sym is) tt
+still_nothing (step.Happens (event.Restart station)) live none is =
+    subst (λ (s : Step _). ExpectsNothing s) (sym is) tt
+still_nothing (step.Happens (event.Tick n)) live none is = subst (λ (s : Step _). ExpectsNothing s) (sym is) tt
+still_nothing (step.Flow n) live none is = subst (λ (s : Step _). ExpectsNothing s) (sym is) tt
+still_nothing (step.Happens (event.Wake station)) live none is = absurd is
+still_nothing (step.Happens (event.Deliver number)) live none is = absurd is
+still_nothing (step.Happens (event.Hear network station octets)) live none is = absurd is
+still_nothing (step.Disturbs f) live none is = absurd is
+still_nothing (step.Shows name) live none is = absurd is
+still_nothing (step.Expects e) live none is = absurd none
+
+-- steps that a live run takes expect nothing where those that are said don't
+nothing_live : {A : Type 0} (said live : List (Step A)) → ExpectNothing said → AreLive said live → ExpectNothing live
+nothing_live [] [] none are = tt
+nothing_live [] (s ∷ ss) none are = absurd are
+nothing_live (l ∷ ls) [] none are = absurd are
+nothing_live (l ∷ ls) (s ∷ ss) none are = (still_nothing l s none.0 are.0, nothing_live ls ss none.1 are.1)
+
+pub live_plain : {A : Type 0} (script : List ℕ) (steps : List (Step A)) → SaysLive script steps →
+    HasNoExpectation A script → ExpectNothing steps
+live_plain script steps s none = nothing_live s.said steps (none.none s.said s.says) s.live
+
+-- a status of 1 is that of no run
+pub not_run : {R : Type 0} (status : ℕ) → status ≡ 1 → (status ≡ 0) ⊎ (status ≡ 4) → R
+not_run status one (inl zero) = absurd (omega (arith, one, zero))
+not_run status one (inr four) = absurd (omega (arith, one, four))
