@@ -39,8 +39,8 @@ pub record AreEvents {A : Type 0} (w v : WorldState A) : Type 0 where
   pub sound : AllByRecursion IsSoundEvent events
   pub runs : Runs events w v
 
--- what any turns leave, whatever the wire brings, is what events leave, where no stray was heard, and nothing handed out
--- or forgotten
+-- what any turns leave, whatever the wire brings, is what events leave, where no stray was heard, and nothing handed
+-- out or forgotten
 abbrev pub TurnsAreSteps : Type 0 → Type 0
 TurnsAreSteps A = (ts : List (Turn A)) (old new : RunnerState A) → AllByRecursion (λ t. IsSoundIfAny t.next) ts →
     Turns ts old new → new.is_led ≡ true → new.is_whole ≡ true → AreEvents old.world new.world

@@ -23,8 +23,8 @@ pub record Keeps {A : Type 0} (past : WorldHistory A) (whole kept : WorldState A
   pub said : whole.said ≡ gone ++ kept.said
   pub first_said : kept.first_said ≡ whole.first_said + length gone
 
--- of a world this is left where it forgets: it is kept of it, with all its entries, and all items from the first on that
--- isn't forgotten; and each bus forgets too
+-- of a world this is left where it forgets: it is kept of it, with all its entries, and all items from the first on
+-- that isn't forgotten; and each bus forgets too
 pub record Forgets {A : Type 0} (old new : WorldState A) : Type 0 where
   pub keeps : Keeps [] old new
   pub first_item : old.first_item ≤ new.first_item
