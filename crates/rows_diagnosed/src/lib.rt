@@ -17,7 +17,17 @@ use std::io;
 /// Those of reading, and want of memory.
 pub fn found_in(alloc: Global, site: &[u8], script: &[u8]) -> io::Result<String> {
     let memory = Refusing::new(alloc);
-    let Ok(file) = capture(alloc, &memory, site, script) else {
+    found_by(alloc, &memory, site, script)
+}
+
+/// The same, where what is captured and diagnosed is kept in `memory`.
+fn found_by<A: Allocator + Copy>(
+    alloc: Global,
+    memory: A,
+    site: &[u8],
+    script: &[u8],
+) -> io::Result<String> {
+    let Ok(file) = capture(alloc, memory, site, script) else {
         return Ok(String::from_str(alloc, "no capture")?);
     };
     let request = Request {
@@ -28,7 +38,7 @@ pub fn found_in(alloc: Global, site: &[u8], script: &[u8]) -> io::Result<String>
     };
     let mut input = file.as_slice();
     let mut out = Vec::new(alloc);
-    match diagnose(&memory, request, &mut input, &mut out) {
+    match diagnose(memory, request, &mut input, &mut out) {
         Ok(Some(diagnosed)) => Ok(names_of(alloc, diagnosed.findings())?),
         Ok(None) => Ok(String::from_str(alloc, "no capture")?),
         Err(Failure::Reading(error) | Failure::Writing(error)) => Err(error),
