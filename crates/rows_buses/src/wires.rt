@@ -2,7 +2,9 @@
 
 use crate::shown::{push_heard, push_told};
 use crate::steps::{At, Moments, Step};
-use bus_traffic::{Bus, CutFrame, Ending, Hearing, Place, Put, Sending, Telling, ear_at, next_hear};
+use bus_traffic::{
+    Bus, CutFrame, Ending, Hearing, Place, Put, Sending, Telling, ear_at, next_hear,
+};
 use sheets::{Part, Stop, push_mark, refusal, small, two_words};
 use std::alloc::{Allocator, Global};
 use tags::{Fault, Octets};
