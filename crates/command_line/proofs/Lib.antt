@@ -1,2 +1,3 @@
 pub mod BesideLaws
 pub mod EndingLaws
+pub mod StormingLaws

@@ -33,6 +33,11 @@ pub record PrintsTexts (writes : List ℕ → List ℕ → Type 0) (s : Storming
       (Some (script ++ end_missing script)) (Some lines) old new
   pub written : IsWrittenIfNamed writes (option_map string_bytes s.file) lines
 
+-- nothing is wanted of a storm but its counts
+pub record IsCountedAlone (s : Storming) : Type 0 where
+  pub counted : s.is_counted ≡ true
+  pub unwritten : s.file ≡ None
+
 -- the files of a storm were read, by what reads them, and what came of as many events as its word says was printed and
 -- written
 pub record PrintsStorming (reads writes : List ℕ → List ℕ → Type 0) (s : Storming) (old new : Known) : Type 0 where

@@ -1,7 +1,8 @@
 //! What is done for the command line of a storm.
 
-ghost use Rattle.std.specs.Prelude.{◌≡◌, ◌≤◌, ◌++◌, Some, IfOk, IfSome, option_map, string_bytes};
+ghost use Rattle.std.specs.Prelude.{◌≡◌, ◌≤◌, ◌++◌, None, Some, true, IfOk, IfSome, option_map, string_bytes};
 ghost use Rattle.std.specs.Global.{Global};
+ghost use Rattle.site_search.specs.site_storm.Storming.{CountsStorm};
 ghost use Rattle.site_search.specs.site_storm.Lines as text;
 ghost use Rattle.words.specs.Says.{SaysUnsigned};
 ghost use Rattle.command_line.specs.Storming as spec;
@@ -17,6 +18,7 @@ use command_order::{Percents, Storming};
 use console::say_refused;
 use site_search::{Chances, Weather, end_missing, storm, storm_counted};
 use std::alloc::{AllocError, Global};
+use std::io;
 use std::io::Write;
 use storm::Percent;
 use tags::Fault;
@@ -174,7 +176,8 @@ fn say_if_no_percent<E: Write>(flag: &str, word: Option<&str>, in_colour: bool, 
     }
 }
 
-/// Lets a storm happen at a site, and writes its script, if a file is named for it.
+/// Lets a storm happen at a site, and writes its script, if a file is named for it; tells what is wrong with texts.
+#[tactic(auto, using(crate::proofs::StormingLaws::storm_laws))]
 fn storm_texts<F: Files, W: Write, E: Write>(
     alloc: Global,
     site: &[u8],
@@ -190,21 +193,65 @@ fn storm_texts<F: Files, W: Write, E: Write>(
     ensures storms { result ≡ 0 → spec.PrintsTexts (F.writes files.now) storming.now site.now script.now weather.steps
         (W.contents out.old) (W.contents out.new) }
 {
+    if is_counted_alone(storming) {
+        let status = count_texts(alloc, site, script, weather, out, err);
+        return told(alloc, site, script, storming, status, in_colour, err);
+    }
     let Ok(lines) = lines_of(alloc, script) else {
         return say_refused(Fault::Memory, err);
     };
     let mut lines = lines;
+    let spelling = spelling_of(storming.is_named, false);
+    let is_counted = storming.is_counted;
     let status = print_storm(
-        alloc,
-        site,
-        script,
-        weather,
-        storming.is_counted,
-        spelling_of(storming.is_named, false),
-        &mut lines,
-        out,
-        err,
+        alloc, site, script, weather, is_counted, spelling, &mut lines, out, err,
     );
+    if status != 0 {
+        return told(alloc, site, script, storming, status, in_colour, err);
+    }
+    let name = storming.file.as_deref();
+    write_script(alloc, name, lines.as_slice(), files, in_colour, err)
+}
+
+/// Whether nothing is wanted of a storm but its counts: then none of its lines is kept, however many there are.
+fn is_counted_alone(storming: &Storming) -> bool
+    ensures { result ≡ true → spec.IsCountedAlone storming.now }
+{
+    match storming.file.as_deref() {
+        None => storming.is_counted,
+        Some(_) => false,
+    }
+}
+
+/// Lets a storm happen at a site, prints its counts, and keeps no line of it.
+fn count_texts<W: Write, E: Write>(
+    alloc: Global,
+    site: &[u8],
+    script: &[u8],
+    weather: Weather,
+    out: &mut W,
+    err: &mut E,
+) -> u8
+    ensures status { result ≤ 1 }
+    ensures counts { result ≡ 0 → CountsStorm Global site.now script.now weather.steps None None
+        (W.contents out.old) (W.contents out.new) }
+{
+    let mut lines = io::sink();
+    storm_counted(alloc, alloc, site, script, weather, &mut lines, out, err)
+}
+
+/// Tells what is wrong with the texts of a storm, if it wasn't printed to its end. Returns its exit status.
+fn told<E: Write>(
+    alloc: Global,
+    site: &[u8],
+    script: &[u8],
+    storming: &Storming,
+    status: u8,
+    in_colour: bool,
+    err: &mut E,
+) -> u8
+    ensures { result ≡ status }
+{
     if status != 0 {
         let texts = Texts {
             site_name: storming.site.as_str(),
@@ -213,10 +260,8 @@ fn storm_texts<F: Files, W: Write, E: Write>(
             script,
         };
         say_text_faults(alloc, texts, in_colour, err);
-        return status;
     }
-    let name = storming.file.as_deref();
-    write_script(alloc, name, lines.as_slice(), files, in_colour, err)
+    status
 }
 
 /// Lets a storm happen at a site, prints it or its counts, and puts its lines behind others.
