@@ -4,6 +4,7 @@
 //! each). Each history must be legal, and the counts of all runs are told.
 
 use crate::live::{OverMemory, printed_of};
+use crate::timer::Pace;
 use refusing::Refusing;
 use rows_wire::{Checker, Course, Row, WireInMemory, row_of};
 use sheets::names;
@@ -115,7 +116,7 @@ fn run_of<A: Allocator + Copy>(
     wire.fail_at(call);
     let over = OverMemory {
         wire,
-        step: STEP_MS,
+        pace: Pace::Even { step: STEP_MS },
         is_open: false,
         spelling: Spelling::Numbers,
     };

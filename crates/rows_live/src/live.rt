@@ -2,7 +2,7 @@
 //! wire in rows of turns, and `names` where the standard's names are printed. The clock tells a millisecond more each
 //! round; in the first one no time passes yet. What is wanted is what is printed.
 
-use crate::timer::SteppingTimer;
+use crate::timer::{Pace, SteppingTimer};
 use refusing::Refusing;
 use rows_wire::{Course, Row, WireInMemory, row_of, said, take_word, text_of, wanted_of};
 use sheets::names;
@@ -61,7 +61,7 @@ pub(crate) fn over_memory(alloc: Global, row: &Row) -> io::Result<(String, OverM
     }
     let over = OverMemory {
         wire,
-        step: 1,
+        pace: Pace::Even { step: 1 },
         is_open: row.happens.starts_with("open\n"),
         spelling,
     };
@@ -72,8 +72,8 @@ pub(crate) fn over_memory(alloc: Global, row: &Row) -> io::Result<(String, OverM
 #[derive(Drop)]
 pub(crate) struct OverMemory {
     pub(crate) wire: WireInMemory,
-    /// How many milliseconds more the clock tells in each round.
-    pub(crate) step: u64,
+    /// What the clock tells from round to round.
+    pub(crate) pace: Pace,
     pub(crate) is_open: bool,
     pub(crate) spelling: Spelling,
 }
@@ -107,7 +107,7 @@ pub(crate) fn observed_of<A: Allocator + Copy, S: Observer<A> + Drop>(
     let mut out = Vec::new(alloc);
     let OverMemory {
         wire,
-        step,
+        pace,
         is_open,
         spelling,
     } = over;
@@ -116,7 +116,7 @@ pub(crate) fn observed_of<A: Allocator + Copy, S: Observer<A> + Drop>(
         ending: Ending::WithScript,
         spelling,
     };
-    let timer = SteppingTimer { elapsed: 0, step };
+    let timer = SteppingTimer { elapsed: 0, pace };
     match open(alloc, memory, site, script.as_bytes()) {
         Ok(opened) => {
             if run(memory, opened, settings, wire, timer, observer, &mut out).is_err() {

@@ -6,12 +6,14 @@
 //! - `turns`: turns over memory, one by one, also where allocations are refused.
 //! - `live`: live runs over memory.
 //! - `captured`: captures of live runs over memory.
+//! - `late`: live runs over memory whose rounds come late.
 //! - `failing`: live runs in which calls fail, datagrams are lost, and allocations are refused.
 //! - `timer`: a clock that goes by its own steps.
 #![tactic(auto)]
 
 mod captured;
 mod failing;
+mod late;
 mod live;
 mod timer;
 mod turns;
@@ -23,6 +25,7 @@ fn main(rt: HostRuntime) -> io::Result<()> {
     turns::run_all(&rt)?;
     live::run_all(&rt)?;
     captured::run_all(&rt)?;
+    late::run_all(&rt)?;
     failing::run_all(&rt)?;
     udp::run_all(&rt)
 }

@@ -44,17 +44,21 @@ fn way_of(number: u64) -> Way {
     }
 }
 
+/// The number that follows from another: each of 64 bits comes once, before any comes again.
+pub fn next_number(latest: u64) -> u64 {
+    latest
+        .wrapping_mul(6_364_136_223_846_793_005)
+        .wrapping_add(1_442_695_040_888_963_407)
+}
+
 impl Course {
     /// What becomes of the next datagram.
     pub fn next_way(&mut self) -> Way {
         match self {
             Course::InOrder => Way::Arrives,
             Course::Seeded(latest) => {
-                let next = latest
-                    .wrapping_mul(6_364_136_223_846_793_005)
-                    .wrapping_add(1_442_695_040_888_963_407);
-                *latest = next;
-                way_of(next)
+                *latest = next_number(*latest);
+                way_of(*latest)
             }
         }
     }

@@ -15,7 +15,7 @@ mod wire_in_memory;
 mod wire_words;
 
 pub use checker::Checker;
-pub use course::Course;
+pub use course::{Course, next_number};
 pub use files::{Row, row_of, said, text_of, wanted_of};
 pub use on_host::{moved, moved_back, without_moments};
 pub use wire_in_memory::{Carried, WireInMemory};

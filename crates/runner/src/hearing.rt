@@ -1,6 +1,6 @@
 //! Which station of a bus hears a frame next.
 
-ghost use Rattle.std.specs.Prelude.{◌≡◌, ◌<◌, ◌^◌, Some, IfOk, slice_get};
+ghost use Rattle.std.specs.Prelude.{◌≡◌, ◌<◌, ◌↔◌, ◌^◌, IsTrue, Some, IfOk, slice_get};
 ghost use Rattle.simulator.specs.world.Step.{IsSoundIfAny};
 ghost use Rattle.runner.specs.Hearing.{HearsThemIfAny, IsNextHear, begun, turn_after};
 
@@ -36,6 +36,13 @@ impl Heard {
         ensures { self.new ≡ record self.old { before = frames } }
     {
         self.before = frames;
+    }
+
+    /// Whether nothing was put out since all that was is to be heard, where so many frames were put out so far.
+    pub fn is_up_to(&self, frames: u64) -> bool
+        ensures { IsTrue result ↔ (self.now.before ≡ frames) }
+    {
+        self.before == frames
     }
 }
 

@@ -1,15 +1,16 @@
 -- How a live run goes round its site.
-use Rattle.std.proofs.Common.{arith, ◌≡◌, ◌≤◌, ◌<◌, ◌∙◌, ◌+◌, ◌-◌, ◌^◌, refl, sym, ap, subst, ℕ, List, [], Result, Ok, Err, Some, IfOk, OnOk, length}
+use Rattle.std.proofs.Common.{arith, ◌≡◌, ◌⊎◌, ◌≤◌, ◌<◌, ◌∙◌, ◌+◌, ◌-◌, ◌^◌, inl, inr, min, refl, sym, ap, subst, ℕ, List, [], Result, Ok, Err, Some, IfOk, OnOk, length}
 use Rattle.std.specs.Prelude.{slice_get}
 use Rattle.std.specs.Io.KnownBytes.{Appends}
 use Rattle.due_times.specs.Times.{IsFirstDue}
+use Rattle.due_times.specs.Until.{Until}
 use Rattle.runner.specs.world.Dues.{AreAtRest}
 use Rattle.runner.specs.world.World.{WorldState}
 use Rattle.runner.specs.world.site_events.declared.event.Event.{Event}
 use Rattle.runner.specs.world_log.site_node.Node.{NodeState}
 use Rattle.site_history.specs.Printed.{Known, line, refused_text}
 use Rattle.site_live.proofs.LiveLaws.{lets_go_lap, lives_none, one_missed, passed_over}
-use Rattle.site_live.specs.Laps.{GoesOn, HasNameAt, IsForth, WakesAt, end_of, places_left, start_of}
+use Rattle.site_live.specs.Laps.{GoesOn, HasNameAt, IsForth, IsInTime, WakesAt, end_of, places_left, start_of}
 use Rattle.site_live.specs.Running.{LetsGo, LiveState, MissesOne, PassesOver}
 use Rattle.site_live.specs.declared.lap.Lap.{Lap}
 use Rattle.site_live.specs.declared.lap.Lap.TheVariants.{At, Over}
@@ -97,6 +98,21 @@ module _ {A : Type 0} where
         next = next ∙ ap (λ (l : Lap). record old { lap = l }) (sym lap);
       }
 
+  -- time passes in time up to the moment before which nothing is due, or to an earlier one
+  pub in_time : (n moment next floor due : ℕ) (v w : WorldState A) → (n ≡ 1) ⊎ (moment + n ≤ next) →
+      next ≡ min floor due → Until floor (λ now. AreAtRest 0 (length v.nodes) (record v { moment = now })) →
+      moment ≡ v.moment → v ≡ w → IsInTime n w
+  in_time n moment next floor due v w (inl one) is until at same = inl one
+  in_time n moment next floor due v w (inr before) is until at same = subst (λ (u : WorldState A). IsInTime n u) same
+      (inr (record { holds = λ now lt. until.holds now (omega (arith, lt, before, is, at)) }))
+
+  -- .. and for fewer milliseconds too
+  pub in_time_less : (m passed n : ℕ) (w : WorldState A) → m ≡ min passed n → 0 < passed → 1 ≤ n → IsInTime n w →
+      IsInTime m w
+  in_time_less m passed n w is some least (inl one) = inl (omega (arith, is, some, one))
+  in_time_less m passed n w is some least (inr until) =
+      inr (record { holds = λ now lt. until.holds now (omega (arith, lt, is)) })
+
   -- there is a station
   pub is_within : (place : ℕ) (v w : WorldState A) → place < length v.nodes → v ≡ w → place < length w.nodes
   is_within place v w lt same = subst (λ (u : WorldState A). place < length u.nodes) same lt
@@ -118,3 +134,7 @@ pub ruleset wake_laws = (wakes_here, one_missed)
 pub ruleset next_laws = (passed_over, laps_less)
 
 pub ruleset register_laws = (from_behind)
+
+pub ruleset time_laws = (in_time)
+
+pub ruleset pass_laws = (lives_none, in_time_less)

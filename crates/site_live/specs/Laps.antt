@@ -1,5 +1,7 @@
 -- How a live run goes round its site: which stations wake, and when time passes (5.4.1, 6.6.2, 9.5.6).
-use Rattle.std.specs.Prelude.{◌≡◌, ◌≤◌, ℕ, ◌+◌, ◌-◌, ◌^◌, List, length, Option, Some, None, slice_get}
+use Rattle.std.specs.Prelude.{◌≡◌, ◌⊎◌, ◌≤◌, ℕ, ◌+◌, ◌-◌, ◌^◌, List, length, Option, Some, None, slice_get}
+use Rattle.due_times.specs.Until.{Until}
+use Rattle.runner.specs.world.Dues.{AreAtRest}
 use Rattle.runner.specs.world.World.{WorldState}
 use Rattle.runner.specs.world.site_events.declared.event.Event.{Event}
 use Rattle.runner.specs.world.site_events.declared.event.Event.TheVariants as event
@@ -39,9 +41,14 @@ pub record WakesAt {A : Type 0} (name : List ℕ) (old new : Lap) (w : WorldStat
   pub named : HasNameAt place name w
   pub next : new ≡ At (place + 1)
 
--- time passes only behind a whole lap, and a new one begins then; a station wakes where the run has come to it; at any
--- other turn it stays where it is
+-- so many milliseconds pass at once: one, or more where nothing is due of any station before the moment to which they
+-- lead
+abbrev pub IsInTime : {A : Type 0} → ℕ → WorldState A → Type 0
+IsInTime n w = (n ≡ 1) ⊎ Until (w.moment + n) (λ now. AreAtRest 0 (length w.nodes) (record w { moment = now }))
+
+-- time passes only behind a whole lap, and over nothing that is due, and a new one begins then; a station wakes where
+-- the run has come to it; at any other turn it stays where it is
 abbrev pub GoesOn : {A : Type 0} → Option (Event A) → (old new : Lap) → WorldState A → Type 0
-GoesOn (Some (event.Tick n)) old new w = (old ≡ Over) × (new ≡ At 0)
+GoesOn (Some (event.Tick n)) old new w = (old ≡ Over) × (new ≡ At 0) × IsInTime n w
 GoesOn (Some (event.Wake name)) old new w = WakesAt name old new w
 GoesOn next old new w = new ≡ old

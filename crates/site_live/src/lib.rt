@@ -3,9 +3,10 @@
 //!
 //! To the layer above it promises: with status 0 the one text is a TOML document of a sound site, and what was printed
 //! tells, line by line, what came of turns of a runner at that site, one after another, each refusal at its place. Time
-//! passes only once each station woke, in the order of the site, or was passed over, since nothing was due of it. As
-//! long as no stranger's datagram was heard, what these turns leave is what events leave, so the history that is told
-//! is legal. Which events come, and when, is the network's and the clock's to say.
+//! passes only once each station woke, in the order of the site, or was passed over, since nothing was due of it; and
+//! by a millisecond, or over moments at which nothing is due of any, however late a round comes. As long as no
+//! stranger's datagram was heard, what these turns leave is what events leave, so the history that is told is legal.
+//! Which events come, and when, is the network's and the clock's to say.
 //!
 //! - `timer`: what tells the time.
 //! - `step`: a step of a script as a live run takes it.

@@ -1,6 +1,7 @@
 //! A live run, round by round.
 
-ghost use Rattle.std.specs.Prelude.{◌≡◌, ◌<◌, IfOk, OnOk, length};
+ghost use Rattle.std.specs.Prelude.{◌≡◌, ◌<◌, ◌≤◌, ◌+◌, ◌⊎◌, IfOk, OnOk, length};
+ghost use Rattle.profile.specs.Times.{MAX_TICK_MS};
 ghost use Rattle.runner.specs.world.Step.{IsSoundIfAny};
 ghost use Rattle.site_live.specs.Laps.{HasNameAt};
 
@@ -25,6 +26,10 @@ use words::Spelling;
 /// For how many milliseconds a run rests at most behind a round in which nothing happened.
 const MAX_REST_MS: u64 = 1;
 
+/// For how many milliseconds time passes at once at most where a datagram may be on its way: a tenth of the time in which
+/// it is heard.
+const MAX_BUSY_MS: u64 = 100;
+
 /// How many datagrams are received in a round at most.
 const MAX_IN_ROUND: u32 = 16;
 
@@ -44,6 +49,8 @@ pub struct Live<W: Wire + Drop, T: Timer + Drop, S: Observer<A> + Drop, A: Alloc
     heard: Heard,
     /// How far it has come round the site, where stations wake.
     lap: Lap,
+    /// Whether a datagram came in the latest round or was put out, or an event of the script happened behind it.
+    is_busy: bool,
     /// The moment, in milliseconds, at which each station of the site registers next: never, where it is no foreign
     /// device.
     due: DueTimes<A>,
@@ -117,6 +124,17 @@ fn next_registration<A: Allocator + Copy>(
     }
 }
 
+/// Returns for how many milliseconds time passes at once at a moment, where the next at which anything is due is this
+/// one: one at least, and so many at most.
+fn time_until(next: u64, moment: u64, most: u64) -> u64
+    requires { 1 ≤ most }
+    ensures least { 1 ≤ result }
+    ensures most { result ≤ most }
+    ensures until { (result ≡ 1) ⊎ (moment + result ≤ next) }
+{
+    next.saturating_sub(moment).clamp(1, most)
+}
+
 /// The datagram of a stranger that the latest turn had, if it had one that was heard.
 fn stray_of<'w, W: Wire, A: Allocator + Copy>(runner: &Runner<A>, wire: &'w W) -> Option<Got<'w>> {
     if runner.strayed() { wire.last() } else { None }
@@ -159,7 +177,8 @@ impl<W: Wire + Drop, T: Timer + Drop, S: Observer<A> + Drop, A: Allocator + Copy
     ghost use Rattle.runner.specs.Hearing.{left_to_hear};
     ghost use Rattle.site_history.specs.Asked.{refused_time_text};
     ghost use Rattle.site_history.specs.Printed.{refused_text};
-    ghost use Rattle.site_live.specs.Laps.{GoesOn, places_left, start_of};
+    ghost use Rattle.site_live.specs.Laps.{GoesOn, IsInTime, places_left, start_of};
+    ghost use Rattle.profile.specs.Times.{MAX_TICK_MS};
     ghost use Rattle.site_live.specs.Running.{HandsOut, IsToldOf, LetsGo, Lives, MissesOne, PassesOver, PrintsNothing};
     ghost use Rattle.site_live.specs.Runs.{begun};
     ghost use Rattle.script.specs.Steps.{IsSoundStep};
@@ -193,6 +212,7 @@ impl<W: Wire + Drop, T: Timer + Drop, S: Observer<A> + Drop, A: Allocator + Copy
                 observer,
                 heard: Heard::new(),
                 lap: Lap::At(0),
+                is_busy: false,
                 due,
                 looks_back,
                 refusals: Refusals::none(),
@@ -217,6 +237,7 @@ impl<W: Wire + Drop, T: Timer + Drop, S: Observer<A> + Drop, A: Allocator + Copy
             observer: _observer,
             heard: _heard,
             lap: _lap,
+            is_busy: _is_busy,
             due: _due,
             looks_back: _looks_back,
             refusals: _refusals,
@@ -355,6 +376,7 @@ impl<W: Wire + Drop, T: Timer + Drop, S: Observer<A> + Drop, A: Allocator + Copy
             Spelling::Names => AskedFor::of(self.alloc, script_line, &event).ok(),
         };
         let lap = self.lap;
+        self.is_busy = true;
         self.take_turn(Some(event), lap, script_line, asked, spelling, out)
     }
 
@@ -387,16 +409,45 @@ impl<W: Wire + Drop, T: Timer + Drop, S: Observer<A> + Drop, A: Allocator + Copy
         print_refused_time(spelling, script_line, n, Fault::NoSuch, moment, out)
     }
 
-    /// Time passes, up to so many milliseconds from the beginning on, but at most a minute at once, and not before each
-    /// station had its turn to wake.
-    #[tactic(auto, using(crate::proofs::LiveLaws::live_laws))]
+    /// Returns for how many milliseconds time passes at once at most, by what may be on its way: for one, where frames of
+    /// buses weren't heard yet, since a bus has its own times (9.5.3).
+    fn longest_unheard(&self) -> u64
+        ensures least { 1 ≤ result }
+        ensures most { result ≤ MAX_TICK_MS }
+    {
+        if !self.heard.is_up_to(self.world().buses().frames) {
+            1
+        } else if self.is_busy {
+            MAX_BUSY_MS
+        } else {
+            MAX_TICK_MS
+        }
+    }
+
+    /// Returns for how many milliseconds time passes at once at most: not beyond the moment at which anything is due of
+    /// a station, or a foreign device registers. So a site goes on as if no round came late.
+    #[tactic(auto, using(crate::proofs::LapLaws::time_laws))]
+    fn longest_pass(&self) -> u64
+        ensures least { 1 ≤ result }
+        ensures most { result ≤ MAX_TICK_MS }
+        ensures in_time { IsInTime result self.now.runner.world }
+    {
+        let world = self.world();
+        let next = world.next_due().min(self.due.next());
+        time_until(next, world.moment(), self.longest_unheard())
+    }
+
+    /// Time passes, up to so many milliseconds from the beginning on, but not over anything that is on its way or due,
+    /// and not before each station had its turn to wake.
+    #[tactic(auto, using(crate::proofs::LapLaws::pass_laws))]
     fn pass<O: Write>(&mut self, elapsed: u64, spelling: Spelling, out: &mut O) -> io::Result<()>
         ensures { OnOk result (Lives spelling [] self.old self.new (O.contents out.old) (O.contents out.new)) }
     {
         let passed = elapsed.saturating_sub(self.world().moment());
+        let passes = passed.min(self.longest_pass());
         match self.lap {
             Lap::Over if passed > 0 => self.take_turn(
-                Some(Event::Tick(passed.min(MAX_TICK_MS))),
+                Some(Event::Tick(passes)),
                 Lap::At(0),
                 None,
                 None,
@@ -581,14 +632,20 @@ impl<W: Wire + Drop, T: Timer + Drop, S: Observer<A> + Drop, A: Allocator + Copy
         Ok(true)
     }
 
-    /// Time passes, and datagrams are received. Tells whether one came.
+    /// Time passes, as the clock tells, but not beyond the moment `until`, in milliseconds. Tells whether more is to
+    /// pass.
     #[tactic(auto, using(crate::proofs::LiveLaws::live_laws))]
-    fn pass_and_receive<O: Write>(&mut self, spelling: Spelling, out: &mut O) -> io::Result<bool>
+    fn pass_until<O: Write>(
+        &mut self,
+        until: u64,
+        spelling: Spelling,
+        out: &mut O,
+    ) -> io::Result<bool>
         ensures { OnOk result (Lives spelling [] self.old self.new (O.contents out.old) (O.contents out.new)) }
     {
-        let elapsed = self.timer.elapsed()?;
+        let elapsed = self.timer.elapsed()?.min(until);
         self.pass(elapsed, spelling, out)?;
-        self.receive(spelling, out)
+        Ok(self.world().moment() < elapsed)
     }
 
     /// A station hears the next frame, if one has its turn. Tells whether there may be another.
@@ -647,33 +704,48 @@ impl<W: Wire + Drop, T: Timer + Drop, S: Observer<A> + Drop, A: Allocator + Copy
         self.register_all(spelling, out)
     }
 
-    /// A round: time passes, datagrams are received, frames are heard, each station wakes of which anything is due, and
-    /// foreign devices register. Tells whether any datagram came or was put out: what goes over a bus takes its time
-    /// there.
+    /// Datagrams are received, and stations do what they do. Tells whether any datagram came or was put out: what goes
+    /// over a bus takes its time there.
     #[tactic(auto, using(crate::proofs::LiveLaws::live_laws))]
-    fn round<O: Write>(&mut self, spelling: Spelling, out: &mut O) -> io::Result<bool>
+    fn receive_and_act<O: Write>(&mut self, spelling: Spelling, out: &mut O) -> io::Result<bool>
         ensures { OnOk result (Lives spelling [] self.old self.new (O.contents out.old) (O.contents out.new)) }
     {
         let sent = self.world().item_count();
-        let came = self.pass_and_receive(spelling, out)?;
+        let came = self.receive(spelling, out)?;
         self.act(spelling, out)?;
         let puts_out = self.world().item_count() > sent;
         Ok(came || puts_out)
     }
 
-    /// A round, and a rest behind one in which nothing came and nothing was put out, until the next datagram comes.
+    /// A round: time passes, but not beyond the moment `until`, in milliseconds; datagrams are received, frames are
+    /// heard, each station wakes of which anything is due, and foreign devices register. Behind one that came in time,
+    /// and in which no datagram came or was put out, it rests until the next datagram comes.
     #[tactic(auto, using(crate::proofs::LiveLaws::live_laws))]
-    pub fn take_round<O: Write>(&mut self, spelling: Spelling, out: &mut O) -> io::Result<()>
-        ensures lives { OnOk result (Lives spelling [] self.old self.new (O.contents out.old) (O.contents out.new)) }
+    fn round_until<O: Write>(
+        &mut self,
+        until: u64,
+        spelling: Spelling,
+        out: &mut O,
+    ) -> io::Result<()>
+        ensures { OnOk result (Lives spelling [] self.old self.new (O.contents out.old) (O.contents out.new)) }
     {
-        let was_busy = self.round(spelling, out)?;
-        if !was_busy {
+        let is_late = self.pass_until(until, spelling, out)?;
+        self.is_busy = self.receive_and_act(spelling, out)?;
+        if !is_late && !self.is_busy {
             self.wire.wait(MAX_REST_MS);
         }
         Ok(())
     }
 
-    /// Rounds, until so many milliseconds have passed.
+    /// The first round: the site is as it opened, and no time passes yet.
+    #[tactic(auto, using(crate::proofs::LiveLaws::live_laws))]
+    pub fn take_round<O: Write>(&mut self, spelling: Spelling, out: &mut O) -> io::Result<()>
+        ensures lives { OnOk result (Lives spelling [] self.old self.new (O.contents out.old) (O.contents out.new)) }
+    {
+        self.round_until(0, spelling, out)
+    }
+
+    /// Rounds, until so many milliseconds have passed, and no more.
     #[tactic(auto, using(crate::proofs::LiveLaws::live_laws))]
     pub fn let_pass<O: Write>(&mut self, n: u64, spelling: Spelling, out: &mut O) -> io::Result<()>
         ensures lives { OnOk result (Lives spelling [] self.old self.new (O.contents out.old) (O.contents out.new)) }
@@ -683,7 +755,7 @@ impl<W: Wire + Drop, T: Timer + Drop, S: Observer<A> + Drop, A: Allocator + Copy
             if self.world().moment() >= end {
                 break;
             }
-            self.take_round(spelling, out)?;
+            self.round_until(end, spelling, out)?;
         }
         Ok(())
     }

@@ -1,9 +1,9 @@
 -- When anything is due of the nodes of a world, once one of them did something.
-use Rattle.std.proofs.Common.{◌≡◌, ◌≢◌, ◌⊎◌, ◌∙◌, inl, inr, refl, sym, ap, subst, arith, ℕ, zero, suc, ◌<◌, ◌≤◌, List, [], ◌∷◌, length, Some, None, Result, Ok, Err, OnOk, OnErr, get_or}
+use Rattle.std.proofs.Common.{◌≡◌, ◌≢◌, ◌⊎◌, ◌∙◌, inl, inr, refl, sym, ap, subst, arith, ℕ, zero, suc, ◌<◌, ◌≤◌, ◌+◌, List, [], ◌∷◌, length, Some, None, Result, Ok, Err, OnOk, OnErr, get_or}
 use Rattle.std.proofs.lemmas.List.{get_or-replicate, length-replicate}
 use Rattle.std.proofs.lemmas.Option.{slice_get-get_or, slice_get_within}
 use Rattle.std.specs.Prelude.{◌↔◌, Bool, IfNone, IfSome, Option, false, replicate, slice_get, slice_set, true}
-use Rattle.due_times.specs.Times.{IsFirstDue, NoneIsDue}
+use Rattle.due_times.specs.Times.{IsFirstDue, IsFloor, NoneIsDue}
 use Rattle.due_times.proofs.Floors.{set_length, set_other, tell_apart}
 use Rattle.due_times.specs.Until.{Until}
 use Rattle.world_log.specs.site_node.Node.{NodeState}
@@ -101,6 +101,18 @@ module _ {A : Type 0} where
     rest = λ p n le lt there.
         let known : slice_get ds p ≡ Some (get_or ds p 0) = slice_get-get_or ds p 0 (due_there ds w.nodes p n dues there) in
         (dues.each p (get_or ds p 0) n known there).holds w.moment (none.none p (get_or ds p 0) le lt known);
+  }
+
+  -- before a moment that none is earlier than, nothing is due
+  pub rest_until : (floor : ℕ) (ds : List ℕ) (w : WorldState A) → AreDues ds w.nodes → IsFloor floor 0 (length ds) ds →
+      Until floor (λ now. AreAtRest 0 (length w.nodes) (record w { moment = now }))
+  rest_until floor ds w dues f = record {
+    holds = λ now lt. at_rest ds 0 (length w.nodes) (record w { moment = now }) dues (record {
+      none = λ p m le within at.
+          let here : 0 + p ≡ p = omega (arith, le) in
+          let late : floor ≤ m = f.below p m (omega (arith, within, dues.as_many)) (ap (λ (q : ℕ). slice_get ds q) here ∙ at) in
+          omega (arith, lt, late);
+    });
   }
 
   -- the first place at which a moment has come is that of a node, and before it nothing is due

@@ -63,6 +63,7 @@ impl<A: Allocator + Copy> Internetwork<A> {
     ghost use Rattle.std.specs.Prelude.{option_map, slice_get};
     ghost use Rattle.buses.specs.Buses as on_buses;
     ghost use Rattle.buses.specs.Buses.{buses_of};
+    ghost use Rattle.due_times.specs.Until.{Until};
     ghost use Rattle.profile.specs.Times.{MAX_MOMENT_MS};
     ghost use Rattle.world_sites.specs.site.Sound.{IsSound};
     ghost use Rattle.traffic.specs.Seeking.{Waits};
@@ -179,6 +180,13 @@ impl<A: Allocator + Copy> Internetwork<A> {
         ensures none { IfNone result (AreAtRest from (length self.now.nodes) self.now) }
     {
         self.dues.first_due(from, self.moment)
+    }
+
+    /// Returns a moment, in milliseconds, before which nothing is due of any node where it wakes (5.4.1, 6.6.2, 9.5.6).
+    pub fn next_due(&self) -> u64
+        ensures { Until result (λ now. AreAtRest 0 (length self.now.nodes) (record self.now { moment = now })) }
+    {
+        self.dues.next()
     }
 
     /// Returns the nodes, in the order of the site.
