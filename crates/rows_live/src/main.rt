@@ -7,12 +7,14 @@
 //! - `live`: live runs over memory.
 //! - `captured`: captures of live runs over memory.
 //! - `late`: live runs over memory whose rounds come late.
+//! - `kept`: what long live runs keep of what is past.
 //! - `failing`: live runs in which calls fail, datagrams are lost, and allocations are refused.
 //! - `timer`: a clock that goes by its own steps.
 #![tactic(auto)]
 
 mod captured;
 mod failing;
+mod kept;
 mod late;
 mod live;
 mod timer;
@@ -26,6 +28,7 @@ fn main(rt: HostRuntime) -> io::Result<()> {
     live::run_all(&rt)?;
     captured::run_all(&rt)?;
     late::run_all(&rt)?;
+    kept::run_all(&rt)?;
     failing::run_all(&rt)?;
     udp::run_all(&rt)
 }
