@@ -23,11 +23,11 @@ use tags::{Fault, Items, Octets};
 use wire::{Got, Wire};
 use words::Spelling;
 
-/// For how many milliseconds a run rests at most behind a round in which nothing happened.
+/// For how many milliseconds a run rests at most where lines wait to be flushed.
 const MAX_REST_MS: u64 = 1;
 
-/// For how many milliseconds time passes at once at most where a datagram may be on its way: a tenth of the time in which
-/// it is heard.
+/// For how many milliseconds time passes at once at most where a datagram may be on its way: a tenth of the time in
+/// which it is heard.
 const MAX_BUSY_MS: u64 = 100;
 
 /// How many datagrams are received in a round at most.
@@ -51,6 +51,8 @@ pub struct Live<W: Wire + Drop, T: Timer + Drop, S: Observer<A> + Drop, A: Alloc
     lap: Lap,
     /// Whether a datagram came in the latest round or was put out, or an event of the script happened behind it.
     is_busy: bool,
+    /// Whether all lines are flushed.
+    is_flushed: bool,
     /// The moment, in milliseconds, at which each station of the site registers next: never, where it is no foreign
     /// device.
     due: DueTimes<A>,
@@ -75,6 +77,15 @@ fn is_tick<A: Allocator>(next: &Option<Event<A>>) -> bool {
     match next {
         Some(Event::Tick(_)) => true,
         Some(_) | None => false,
+    }
+}
+
+/// Returns whether all lines are flushed behind a turn: where time passes by it, or where they were before and it
+/// brought nothing, so that nothing is printed of it.
+fn is_flushed_behind(answer: &Result<Turned, Fault>, passes: bool, was_flushed: bool) -> bool {
+    match answer {
+        Ok(Turned::Nothing) => passes || was_flushed,
+        Ok(Turned::Stepped | Turned::Dropped | Turned::Stray) | Err(_) => passes,
     }
 }
 
@@ -132,7 +143,11 @@ fn time_until(next: u64, moment: u64, most: u64) -> u64
     ensures most { result ≤ most }
     ensures until { (result ≡ 1) ⊎ (moment + result ≤ next) }
 {
-    next.saturating_sub(moment).clamp(1, most)
+    if next > moment {
+        most.min(next - moment)
+    } else {
+        1
+    }
 }
 
 /// The datagram of a stranger that the latest turn had, if it had one that was heard.
@@ -213,6 +228,7 @@ impl<W: Wire + Drop, T: Timer + Drop, S: Observer<A> + Drop, A: Allocator + Copy
                 heard: Heard::new(),
                 lap: Lap::At(0),
                 is_busy: false,
+                is_flushed: true,
                 due,
                 looks_back,
                 refusals: Refusals::none(),
@@ -238,6 +254,7 @@ impl<W: Wire + Drop, T: Timer + Drop, S: Observer<A> + Drop, A: Allocator + Copy
             heard: _heard,
             lap: _lap,
             is_busy: _is_busy,
+            is_flushed: _is_flushed,
             due: _due,
             looks_back: _looks_back,
             refusals: _refusals,
@@ -291,6 +308,7 @@ impl<W: Wire + Drop, T: Timer + Drop, S: Observer<A> + Drop, A: Allocator + Copy
         let passes = is_tick(&next);
         let answer = self.runner.turn(&mut self.wire, next);
         self.lap = lap;
+        self.is_flushed = is_flushed_behind(&answer, passes, self.is_flushed);
         let stray = stray_of(&self.runner, &self.wire);
         self.observer.see(self.runner.world(), stray)?;
         let moment = self.runner.world().moment();
@@ -387,6 +405,7 @@ impl<W: Wire + Drop, T: Timer + Drop, S: Observer<A> + Drop, A: Allocator + Copy
             (O.contents out.old) (O.contents out.new)) }
     {
         let moment = self.world().moment();
+        self.is_flushed = false;
         self.refusals.put(fault, moment, None);
         print_refusal(fault, moment, out)
     }
@@ -405,12 +424,13 @@ impl<W: Wire + Drop, T: Timer + Drop, S: Observer<A> + Drop, A: Allocator + Copy
             self.old self.new (O.contents out.old) (O.contents out.new)) }
     {
         let moment = self.world().moment();
+        self.is_flushed = false;
         self.refusals.put(Fault::NoSuch, moment, script_line);
         print_refused_time(spelling, script_line, n, Fault::NoSuch, moment, out)
     }
 
-    /// Returns for how many milliseconds time passes at once at most, by what may be on its way: for one, where frames of
-    /// buses weren't heard yet, since a bus has its own times (9.5.3).
+    /// Returns for how many milliseconds time passes at once at most, by what may be on its way: for one, where frames
+    /// of buses weren't heard yet, since a bus has its own times (9.5.3).
     fn longest_unheard(&self) -> u64
         ensures least { 1 ≤ result }
         ensures most { result ≤ MAX_TICK_MS }
@@ -469,6 +489,7 @@ impl<W: Wire + Drop, T: Timer + Drop, S: Observer<A> + Drop, A: Allocator + Copy
     {
         let moment = self.world().moment();
         self.lap = Lap::At(place + 1);
+        self.is_flushed = false;
         self.refusals.put(Fault::Memory, moment, None);
         print_refusal(Fault::Memory, moment, out)
     }
@@ -717,9 +738,24 @@ impl<W: Wire + Drop, T: Timer + Drop, S: Observer<A> + Drop, A: Allocator + Copy
         Ok(came || puts_out)
     }
 
+    /// Rests until a datagram comes, or for as long as time may pass at once, but not beyond the moment `until`, in
+    /// milliseconds. Where lines wait to be flushed, it is a millisecond at most: they are as that passes.
+    #[tactic(auto, using(crate::proofs::LiveLaws::live_laws))]
+    fn rest(&mut self, until: u64)
+        ensures { self.new ≡ self.old }
+    {
+        let left = until.saturating_sub(self.world().moment());
+        let most = if self.is_flushed {
+            self.longest_pass()
+        } else {
+            MAX_REST_MS
+        };
+        self.wire.wait(most.min(left));
+    }
+
     /// A round: time passes, but not beyond the moment `until`, in milliseconds; datagrams are received, frames are
     /// heard, each station wakes of which anything is due, and foreign devices register. Behind one that came in time,
-    /// and in which no datagram came or was put out, it rests until the next datagram comes.
+    /// and in which no datagram came or was put out, it rests until a datagram comes or anything is due.
     #[tactic(auto, using(crate::proofs::LiveLaws::live_laws))]
     fn round_until<O: Write>(
         &mut self,
@@ -732,7 +768,7 @@ impl<W: Wire + Drop, T: Timer + Drop, S: Observer<A> + Drop, A: Allocator + Copy
         let is_late = self.pass_until(until, spelling, out)?;
         self.is_busy = self.receive_and_act(spelling, out)?;
         if !is_late && !self.is_busy {
-            self.wire.wait(MAX_REST_MS);
+            self.rest(until);
         }
         Ok(())
     }
